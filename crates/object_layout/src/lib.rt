@@ -41,3 +41,57 @@ pub const HEADER_BASE: u64 = 65536;
 pub const SPACE_UNIT: u64 = 256;
 /// The words of an object before its fields: header, name and work word.
 pub const OBJECT_WORDS: u16 = 3;
+
+#[cfg(test)]
+mod tests {
+    use super::*;
+    use std::test::Fail;
+
+    #[test]
+    fn words_are_those_of_the_layout(rt: HostRuntime) -> Result<(), Fail> {
+        assert_eq!(rt; encode_value(Value::Int(7)), 15);
+        assert_eq!(rt; encode_value(Value::Int(MAX_INT)), 18446744073709551615);
+        assert_eq!(rt; encode_value(Value::Ref(Addr(0))), 2);
+        assert_eq!(rt; encode_value(Value::Ref(Addr(19))), 40);
+        assert_eq!(rt;
+            encode_header(Header {
+                fields: 16,
+                space: 0
+            }),
+            65552
+        );
+        assert_eq!(rt;
+            encode_header(Header {
+                fields: 3,
+                space: 1
+            }),
+            65795
+        );
+        assert_eq!(rt;
+            encode_header(Header {
+                fields: MAX_FIELDS,
+                space: MAX_SPACE
+            }),
+            82173
+        );
+        assert_eq!(rt;
+            encode_name(Name {
+                thread: 0,
+                serial: 0
+            }),
+            0
+        );
+        assert_eq!(rt;
+            encode_name(Name {
+                thread: 1,
+                serial: 1
+            }),
+            281474976710657
+        );
+        assert_eq!(rt; decode_value(40), Some(Value::Ref(Addr(19))));
+        assert_eq!(rt; decode_value(33554434), None);
+        assert_eq!(rt; decode_header(65790), None);
+        assert_eq!(rt; decode_name(5), None);
+        Ok(())
+    }
+}
