@@ -18,6 +18,11 @@ use Rattle.script_text.specs.Words.{lines, words}
 abbrev pub IsSilent : List ℕ → Type 0
 IsSilent line = (words line ≡ []) ⊎ (slice_index line 0 ≡ 35)
 
+-- the second word of a line that is not silent
+pub record HasCommandWord (line word : List ℕ) : Type 0 where
+  pub loud : IsSilent line → ⊥
+  pub second : (first : List ℕ) × (rest : List (List ℕ)) × (words line ≡ first ∷ word ∷ rest)
+
 -- a command line of one of so many threads
 pub record IsCommand (threads : ℕ) (line : List ℕ) (thread : ℕ) (call : Call) : Type 0 where
   pub loud : IsSilent line → ⊥
@@ -33,12 +38,14 @@ pub record IsFault (threads : ℕ) (line : List ℕ) (reason : Reason) : Type 0 
 abbrev pub header_words : Heap → List (List ℕ)
 header_words heap = codes "heap" ∷ decimal heap.pages ∷ decimal heap.threads ∷ []
 
+-- a heap within the limits
 pub record IsPossible (heap : Heap) : Type 0 where
   pub some_pages : 1 ≤ heap.pages
   pub few_pages : heap.pages ≤ MAX_PAGES
   pub some_threads : 1 ≤ heap.threads
   pub few_threads : heap.threads ≤ MAX_THREADS
 
+-- a line that is the header of a heap
 pub record IsHeader (line : List ℕ) (heap : Heap) : Type 0 where
   pub spelled : words line ≡ header_words heap
   pub possible : IsPossible heap
@@ -58,10 +65,12 @@ FirstFault threads number (line ∷ lines) bad =
     (IsFault threads line bad.reason × (bad.line ≡ number))
     ⊎ ((IsSilent line ⊎ ((thread : ℕ) × (call : Call) × IsCommand threads line thread call)) × FirstFault threads (number + 1) lines bad)
 
+-- the lines are a header and, from line 2 on, the commands of this script
 abbrev pub IsScriptOf : List (List ℕ) → Contents → Type 0
 IsScriptOf [] script = ⊥
 IsScriptOf (line ∷ lines) script = IsHeader line script.heap × Holds script.heap.threads 2 lines script.lines
 
+-- the first bad line is line 1 where it is no header, and else the first fault from line 2 on
 abbrev pub IsBadOf : List (List ℕ) → Bad → Type 0
 IsBadOf [] bad = (bad.line ≡ 1) × (bad.reason ≡ BadHeader)
 IsBadOf (line ∷ lines) bad =

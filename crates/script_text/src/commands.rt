@@ -1,6 +1,7 @@
 //! The commands, read and printed by one table.
 ghost use Rattle.std.specs.Prelude.{◌≡◌, ◌≢◌, ◌≤◌, ◌∷◌, ◌++◌, ℕ, [], List, All, decimal, map, MatchOption, MatchResult, IfSome, IfOk, IfErr, OnOk, string_bytes};
 ghost use Rattle.object_layout.specs.declared.calls.Call.{Call};
+ghost use Rattle.object_layout.specs.Calls.{IsCall};
 ghost use Rattle.script_text.specs.Commands.{IsInteger, IsIndex, most, word_of, limits_of, numbers_of, number_words, command_words, IsWithin, IsSayable};
 ghost use Rattle.script_text.specs.Faults.{Takes, Misses, FaultyNumbers, Faulty};
 ghost use Rattle.script_text.specs.Printing.{spaced};
@@ -169,9 +170,11 @@ fn push_call(text: &mut String, call: Call) -> Result<(), AllocError>
     with_commands!(print_row!(call, text))
 }
 
-/// Appends the words of a command, parted by a space.
+/// Appends the words of a command, parted by a space. Its numbers are within their limits where its integer is.
 pub(crate) fn push_command(text: &mut String, thread: u8, call: Call) -> Result<(), AllocError>
-    ensures { OnOk result (string_bytes text.new ≡ string_bytes text.old ++ spaced (command_words thread call)) }
+    requires { IsCall call }
+    ensures within { All IsWithin (numbers_of call) }
+    ensures text { OnOk result (string_bytes text.new ≡ string_bytes text.old ++ spaced (command_words thread call)) }
 {
     write!(text, "{thread}")?;
     push_call(text, call)

@@ -3,6 +3,7 @@
 
 mod commands;
 mod faults;
+mod laws;
 mod numbers;
 mod printing;
 mod reading;
@@ -14,11 +15,11 @@ mod words;
 
 pub use commands::find_call;
 pub use faults::{Bad, ReadError, Reason};
+pub use laws::{law_one_refusal, law_one_script, law_script_or_refusal};
 pub use printing::print_script;
-pub use reading::read_script;
+pub use reading::{command_word, read_script, text_lines};
 pub use replies::print_reply;
 pub use scripts::{Line, Script};
-pub use words::second_word;
 
 /// The greatest number of bytes of a text that is read.
 pub const INPUT_LIMIT: usize = 16777216;

@@ -1,17 +1,17 @@
 //! Reading a script.
-ghost use Rattle.std.specs.Prelude.{◌≡◌, ◌≤◌, ◌⊎◌, ℕ, Ok, Err, MatchOption, MatchResult, MatchBool, IfOk, IfErr, OnOk, length};
+ghost use Rattle.std.specs.Prelude.{◌≡◌, ◌≤◌, ◌⊎◌, ℕ, List, Ok, Err, MatchOption, MatchResult, MatchBool, IfOk, IfErr, OnOk, length};
 ghost use Rattle.script_text.specs.declared.faults.Bad.{Bad};
 ghost use Rattle.script_text.specs.declared.faults.ReadError.TheVariants.{Refused, Memory};
 ghost use Rattle.script_text.specs.Contents.{Contents, Heap};
 ghost use Rattle.script_text.specs.Printing.{IsValid};
 ghost use Rattle.script_text.specs.Words.{lines};
-ghost use Rattle.script_text.specs.Scripts.{IsSilent, IsCommand, IsFault, IsHeader, IsScript, IsBad, Refuses, Adds, Stops};
+ghost use Rattle.script_text.specs.Scripts.{IsSilent, HasCommandWord, IsCommand, IsFault, IsHeader, IsScript, IsBad, Refuses, Adds, Stops};
 
 use crate::commands::read_command;
 use crate::faults::{Bad, ReadError, Reason};
 use crate::numbers::number_of;
 use crate::scripts::{Line, Script};
-use crate::words::Words;
+use crate::words::{Words, second_word};
 use crate::{INPUT_LIMIT, MAX_PAGES};
 use bstr::{ByteSlice, Lines};
 use object_layout::{Call, MAX_THREADS};
@@ -24,6 +24,7 @@ struct Header {
     threads: u8,
 }
 
+/// The numbers of a header's line.
 fn read_header(line: &[u8]) -> Option<Header>
     ensures { MatchOption result ((heap : Heap) → IsHeader line.now heap → ⊥) (λ header. IsHeader line.now (record { pages = header.pages; threads = header.threads })) }
 {
@@ -43,10 +44,22 @@ fn read_header(line: &[u8]) -> Option<Header>
     }
 }
 
+/// Whether a line is empty or a comment.
 fn is_silent(line: &[u8]) -> bool
     ensures { MatchBool result (IsSilent line.now) (IsSilent line.now → ⊥) }
 {
     Words::of(line).next().is_none() || line.first() == Some(&b'#')
+}
+
+/// The second word of a line that is neither empty nor a comment: where a command's word stands.
+pub fn command_word(line: &[u8]) -> Option<&[u8]>
+    ensures { MatchOption result ((word : List ℕ) → HasCommandWord line.now word → ⊥) (λ word. HasCommandWord line.now word.now) }
+{
+    if is_silent(line) {
+        None
+    } else {
+        second_word(line)
+    }
 }
 
 /// The thread and the call of a line, or none where the line is silent.
@@ -91,15 +104,16 @@ fn add_line(
     }
 }
 
-/// The lines of a text.
+/// The lines of a text: without the line feed that ends each, and without a carriage return before it.
 #[tactic(auto, using(crate::proofs::Lines::cut_lines))]
-fn cut<'a>(bytes: &'a [u8]) -> Lines<'a>
+pub fn text_lines<'a>(bytes: &'a [u8]) -> Lines<'a>
     ensures value { result ≡ lines bytes.now }
     ensures few { length result ≤ length bytes.now }
 {
     bytes.lines()
 }
 
+/// The script of a text.
 fn read_lines(alloc: Global, bytes: &[u8]) -> Result<Script, ReadError>
     requires { length bytes.now ≤ INPUT_LIMIT }
     ensures found { IfOk result (λ script. IsScript bytes.now script) }
@@ -109,7 +123,7 @@ fn read_lines(alloc: Global, bytes: &[u8]) -> Result<Script, ReadError>
         line: 1,
         reason: Reason::BadHeader,
     };
-    let mut lines = cut(bytes);
+    let mut lines = text_lines(bytes);
     let Some(first) = lines.next() else {
         return Err(ReadError::Refused(bad_header));
     };
@@ -131,7 +145,8 @@ fn read_lines(alloc: Global, bytes: &[u8]) -> Result<Script, ReadError>
     })
 }
 
-/// Reads a script.
+/// Reads a script. A text that is none is refused at its first bad line, for the first reason that applies to it.
+/// `docs/FORMAT.md` has the format.
 pub fn read_script(alloc: Global, bytes: &[u8]) -> Result<Script, ReadError>
     requires { length bytes.now ≤ INPUT_LIMIT }
     ensures found { IfOk result (λ script. IsScript bytes.now script × IsValid script) }

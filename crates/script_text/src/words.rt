@@ -4,6 +4,7 @@ ghost use Rattle.script_text.specs.Words.{words, pieces};
 
 use std::marker::Model;
 
+/// Whether a byte parts words: a space or a tab.
 fn is_blank(byte: u8) -> bool
     ensures { result ≡ Rattle.script_text.specs.Words.is_blank byte }
 {
@@ -36,6 +37,7 @@ impl<'a> Model for Words<'a> {
 }
 
 impl<'a> Words<'a> {
+    /// All the words of a line.
     pub(crate) fn of(line: &'a [u8]) -> Words<'a>
         ensures { result ≡ words line.now }
     {
@@ -61,8 +63,8 @@ impl<'a> Words<'a> {
     }
 }
 
-/// The second word of a line, which in a command line is the command's.
-pub fn second_word(line: &[u8]) -> Option<&[u8]>
+/// The second word of a line.
+pub(crate) fn second_word(line: &[u8]) -> Option<&[u8]>
     ensures { MatchOption result ((first second : List ℕ) (rest : List (List ℕ)) → words line.now ≢ first ∷ second ∷ rest) (λ word. (first : List ℕ) × (rest : List (List ℕ)) × (words line.now ≡ first ∷ word.now ∷ rest)) }
 {
     let mut words = Words::of(line);

@@ -27,6 +27,15 @@ pub lines-init : goal.lines-init
 lines-init c =
     begins c.args.script.now (string_bytes c.push.new.self) (spaced (header_words c.args.script.now.heap)) c.requires (rw (c.in_ok-push.ensures.bytes, c.in_ok-push.ensures.ascii (omega arith), c.in_ok-push_header.ensures, c.new-text.ensures.bytes) refl) refl
 
+pub push_command-requires : goal.push_command-requires
+unfolding lines_of
+push_command-requires c =
+    let whole = c.args.script.now in
+    let shown = c.as_slice-line-items.result.now in
+    let same : shown ≡ whole.lines = c.as_slice-line-items.ensures.value ∙ ap lines_of c.script.view_is in
+    let before = opened whole (string_bytes c.lines.text) (c.lines.printed + 1) shown c.lines.line-index same c.lines-test.true c.lines.invariant in
+    before.rise.3
+
 pub lines-preserved : goal.lines-preserved
 unfolding lines_of
 lines-preserved c =
@@ -36,8 +45,8 @@ lines-preserved c =
     let line = get_or shown c.lines.line-index blank in
     let before = opened whole (string_bytes c.lines.text) (c.lines.printed + 1) shown c.lines.line-index same c.lines-test.true c.lines.invariant in
     let count : line.number - (c.lines.printed + 1) ≡ line.number - c.lines.printed - 1 = omega arith in
-    goes_on whole (string_bytes c.lines.text) (string_bytes c.push-in-lines.new.self) (c.lines.printed + 1) line (drop (c.lines.line-index + 1) whole.lines) before
-    (rw (c.in_ok-push-2.ensures.bytes, c.in_ok-push-2.ensures.ascii (omega arith), c.in_ok-push_command.ensures, c.in_ok-push_feeds.ensures, count) refl)
+    goes_on whole (string_bytes c.lines.text) (string_bytes c.push-in-lines.new.self) (c.lines.printed + 1) line (drop (c.lines.line-index + 1) whole.lines) before c.in_ok-push_command.ensures.within
+    (rw (c.in_ok-push-2.ensures.bytes, c.in_ok-push-2.ensures.ascii (omega arith), c.in_ok-push_command.ensures.text, c.in_ok-push_feeds.ensures, count) refl)
 
 pub returns-clause-text : goal.returns-clause-text
 unfolding lines_of
