@@ -102,8 +102,8 @@ stands-store m c s l n o f v h here lt datum within =
       pool = h.pool;
       currents = h.currents;
       sets = h.sets;
-      dense = λ t d ht hm hd some.
-          let w = h.dense t d ht hm hd some in
+      dense = λ t d ht hm hd hg some.
+          let w = h.dense t d ht hm hd hg some in
           let x : Space = Region t d in
           let same : words_of l.pages (with_object s.objects n p) x ≡ words_of l.pages s.objects x = ap (λ (g : Name → ℕ). sum_by (λ (ns : List Name). sum_by g ns) l.pages) (fun_ext (unchanged (words_in x) s.objects n o p (words-same x o f v) here)) in
           (w.0, subst (λ k. page_words m * (pages_of c.table x - 1) + used_mark c.table (current c.currents t d - 1) ≤ 2 * k) (sym same) w.1);
