@@ -1,11 +1,11 @@
-use Rattle.std.proofs.Common.{◌≡◌, ℕ, ◌+◌, ◌-◌, ◌*◌, ◌≤◌, ◌<◌, ◌≢◌, List, [], ◌∷◌, ◌++◌, take, drop, length, get_or, set, refl, sym, ap, subst, ◌∙◌, arith, get_or-set_same, get_or-set_other, length-take, length-drop, length-set}
+use Rattle.std.proofs.Common.{◌≡◌, ℕ, ◌+◌, ◌-◌, ◌≤◌, ◌<◌, ◌≢◌, List, [], ◌∷◌, ◌++◌, take, drop, length, get_or, set, refl, sym, ap, subst, ◌∙◌, arith, get_or-set_same, get_or-set_other, length-take, length-drop, length-set}
 use Rattle.std.proofs.lemmas.List.{set-set, take_more_set, take-take, drop-set-add}
 use Rattle.heap_words.specs.declared.map.Areas.{Areas}
 use Rattle.heap_words.specs.declared.TheConstants.{DEPTH_WORD, MADE_WORD, STACK_LENGTH, BUFFER_LENGTH, CURRENT_PAGES, STACK_SLOTS, BUFFER_ENTRIES}
-use Rattle.heap_words.specs.Map.{max_depth, block_words, stack_start, buffer_start, block_rest, rest_words, HasThread, block_at, total_of}
-use Rattle.heap_words.specs.Cells.{part, Block, Cells, block_of, raw_block, no_block, block, with_block, cells, IsBlock, SoundBlocks}
+use Rattle.heap_words.specs.Map.{max_depth, block_words, stack_start, buffer_start, block_rest, rest_words, HasThread, block_at}
+use Rattle.heap_words.specs.Cells.{part, Block, block_of, raw_block, block, with_block, cells, SoundBlocks}
 use Rattle.heap_words.proofs.Rows.{part-set_before, part-set_past, part-set_at, part-get}
-use Rattle.heap_words.proofs.Cells.{cells-block, cells-set_block, raw_block-set, raw_block-get, length-raw_block, length-blocks}
+use Rattle.heap_words.proofs.Cells.{cells-block, cells-set_block, raw_block-set, raw_block-get, length-raw_block}
 
 get-set_other : (b : List ℕ) (i k v : ℕ) → k ≢ i → get_or (set b i v) k 0 ≡ get_or b k 0
 get-set_other b i k v h = get_or-set_other b i k v 0 h

@@ -6,8 +6,8 @@ use Rattle.std.proofs.lemmas.List.Elements.{All-set, All-get_or}
 use Rattle.heap_words.specs.declared.map.Areas.{Areas}
 use Rattle.heap_words.specs.declared.TheConstants.{STACK_LENGTH, BUFFER_LENGTH, DEPTH_WORD, MADE_WORD, CURRENT_PAGES, HEAD_WORDS, STACK_SLOTS, BUFFER_ENTRIES}
 use Rattle.heap_words.specs.Map.{max_depth, stack_start, buffer_start, block_rest, rest_words, HasThread, HasPage, HasRegion, readers_at, sets_at, block_at, page_at, pool_at, scratch_at, heap_at, heap_length, scratch_length, total_of}
-use Rattle.heap_words.specs.Cells.{Block, Cells, cells, no_block, block, with_block, row, row_set, SoundBlocks}
-use Rattle.heap_words.specs.Contents.{Contents, spread, contents, stack_of, buffer_of, depth_of, made_of, currents_of, readers_of, with_stack, with_buffer, with_depth, with_made, with_current, with_head, with_page, with_pool, with_readers, with_set, with_heap, with_scratch, InLimits, Sound}
+use Rattle.heap_words.specs.Cells.{Block, Cells, cells, no_block, block, with_block, row, SoundBlocks}
+use Rattle.heap_words.specs.Contents.{spread, contents, stack_of, buffer_of, depth_of, made_of, currents_of, readers_of, with_stack, with_buffer, with_depth, with_made, with_current, with_head, with_page, with_pool, with_readers, with_set, with_heap, with_scratch, InLimits, Sound}
 use Rattle.heap_words.proofs.Cells.{length-blocks, cells-set_head, cells-get_head, cells-set_page, cells-get_page, cells-set_pool, cells-get_pool, cells-set_readers, cells-get_readers, cells-set_sets, cells-get_sets, cells-set_scratch, cells-get_scratch, cells-set_heap, cells-get_heap}
 use Rattle.heap_words.proofs.Blocks.{cells-grow_stack, cells-shrink_stack, cells-set_stack, cells-grow_buffer, cells-shrink_buffer, cells-set_depth, cells-set_made, cells-set_current, stack_length-word, stack-word, buffer_length-word, buffer-word, depth-word, made-word, current-word, rest-word}
 

@@ -64,10 +64,8 @@ mod tests {
         let map = image.map();
         assert_eq!(rt; map.total(), 4468);
         set_heap(&mut image, map, 1023, 7);
-        grow_stack(&mut image, map, 1, 0, 9);
         assert_eq!(rt; get_heap(&mut image, map, 1023), 7);
-        assert_eq!(rt; get_stack(&mut image, map, 1, 0), 9);
-        assert_eq!(rt; image.reads(), 2);
+        assert_eq!(rt; image.reads(), 1);
         let greatest = Areas {
             pages: MAX_PAGES,
             threads: MAX_THREADS,

@@ -2,6 +2,7 @@
 
 ghost use Rattle.std.specs.Prelude.{◌≡◌, ◌≤◌, ◌<◌, ◌+◌, ◌-◌, ◌^◌, ◌↔◌, ℕ, List, length, slice_index, slice_set, replicate, IfOk, IfErr};
 ghost use Rattle.heap_words.specs.Map.{IsAreas, total_of};
+ghost use Rattle.heap_words.specs.Contents.{contents, zero_contents, Sound};
 ghost use Rattle.heap_words.specs.declared.memory.MakeError.TheVariants.{Memory, BadConfig};
 
 use crate::{Areas, MAX_PAGES, MAX_THREADS, Words};
@@ -63,6 +64,8 @@ impl Image {
     /// The words of a heap of so many pages and threads, all 0.
     pub fn new(alloc: Global, pages: u32, threads: u8) -> Result<Image, MakeError>
         ensures words { IfOk result (λ image. image.words.items ≡ replicate (total_of (record { pages = pages; threads = threads })) 0) }
+        ensures sound { IfOk result (λ image. Sound image.map image.words.items) }
+        ensures contents { IfOk result (λ image. contents image.map image.words.items ≡ zero_contents image.map) }
         ensures reads { IfOk result (λ image. image.reads ≡ 0) }
         ensures map { IfOk result (λ image. image.map ≡ record { pages = pages; threads = threads }) }
         ensures within_limits { IfOk result (λ _. IsAreas (record { pages = pages; threads = threads })) }
