@@ -16,6 +16,7 @@ use Rattle.epoch_lattice.specs.declared.Space.TheVariants.{Control, Region}
 use Rattle.epoch_lattice.specs.Lattice.{parent_of}
 use Rattle.yak_model.specs.declared.datum.Datum.{Datum}
 use Rattle.yak_model.specs.declared.datum.Datum.TheVariants as datum
+use Rattle.yak_model.specs.declared.TheConstants.{ROOT_FIELDS}
 use Rattle.yak_model.specs.Names.{name_cmp, root_name}
 use Rattle.yak_model.specs.Graph.{Content, Does, Fields, Graph, IsThread, Limits, Thread, answers, drop_top, fields_at, fields_or_none, first_refusal, idle, is_bad_slot, is_reference, is_stack_full, make, next_name, opening, push, put_field, refusal_of, shown, slot_of, stack_of, with_depth, with_object, with_thread}
 use Rattle.yak_model.specs.History.{Entry, Said, Collected, Leads, Moves}
@@ -38,6 +39,12 @@ record Fits (objects : FinMap name_cmp Content) (s : SpaceState) : Type 0 where
 record Follows (objects : FinMap name_cmp Content) (s : SpaceState) (entry : Entry) (after : SpaceState) : Type 0 where
   next : FinMap name_cmp Content
   moves : Moves (of_objects s.graph objects) entry (of_objects after.graph next)
+  fits : Fits next after
+
+-- the graph of these objects can answer a call as the spaces do
+record Goes (objects : FinMap name_cmp Content) (s : SpaceState) (t : ℕ) (asked : Call) (said : Reply) (after : SpaceState) : Type 0 where
+  next : FinMap name_cmp Content
+  answer : answers (of_objects s.graph objects) t asked said (of_objects after.graph next)
   fits : Fits next after
 
 pub no_null : (n : Name) → datum.Null ≡ datum.Object n → ⊥
@@ -280,17 +287,15 @@ module _ (objects : FinMap name_cmp Content) (s : SpaceState) (fits : Fits objec
 
   module _ (t : ℕ) (thread : IsThread s.graph t) where
     -- a call that is refused
-    refused : (asked : Call) (said : Reply) (after : SpaceState) (why : Refusal) → refusal_of s.graph t asked ≡ Some why → said ≡ reply.Refused why → after.graph ≡ s.graph → after.home ≡ homes_after s t asked said → Follows objects s (Said t asked said) after
+    refused : (asked : Call) (said : Reply) (after : SpaceState) (why : Refusal) → refusal_of s.graph t asked ≡ Some why → said ≡ reply.Refused why → after.graph ≡ s.graph → after.home ≡ homes_after s t asked said → Goes objects s t asked said after
     refused asked said after why e r g h =
         let homes : after.home ≡ s.home = h ∙ ap (homes_after s t asked) r ∙ homes_of_refused t asked why in
         let whole : s ≡ after = λ i. record { graph = sym g i; home = sym homes i } in
-        subst (λ z. Follows objects s (Said t asked said) z) whole (record {
+        subst (λ z. Goes objects s t asked said z) whole (record {
           next = objects;
-          moves = (
-            thread,
-            subst (λ o. MatchOption o (Does (of_objects s.graph objects) t asked said (of_objects s.graph objects)) (λ w. (said ≡ reply.Refused w) × (of_objects s.graph objects ≡ of_objects s.graph objects)))
-                (sym (same_refusal t thread asked ∙ e)) (r, refl),
-          );
+          answer =
+              subst (λ o. MatchOption o (Does (of_objects s.graph objects) t asked said (of_objects s.graph objects)) (λ w. (said ≡ reply.Refused w) × (of_objects s.graph objects ≡ of_objects s.graph objects)))
+              (sym (same_refusal t thread asked ∙ e)) (r, refl);
           fits = fits;
         })
 
@@ -298,23 +303,21 @@ module _ (objects : FinMap name_cmp Content) (s : SpaceState) (fits : Fits objec
     done : (asked : Call) (said : Reply) (after : SpaceState) → refusal_of s.graph t asked ≡ None
         → (next : FinMap name_cmp Content) (graph : Graph) (home : FinMap name_cmp Space) → after.graph ≡ graph → after.home ≡ home
         → Does (of_objects s.graph objects) t asked said (of_objects graph next) → Fits next (record { graph = graph; home = home })
-        → Follows objects s (Said t asked said) after
+        → Goes objects s t asked said after
     done asked said after e next graph home g h does fit =
         let whole : record { graph = graph; home = home } ≡ after = λ i. record { graph = sym g i; home = sym h i } in
-        subst (λ z. Follows objects s (Said t asked said) z) whole (record {
+        subst (λ z. Goes objects s t asked said z) whole (record {
           next = next;
-          moves = (
-            thread,
-            subst (λ o. MatchOption o (Does (of_objects s.graph objects) t asked said (of_objects graph next)) (λ w. (said ≡ reply.Refused w) × (of_objects graph next ≡ of_objects s.graph objects)))
-                (sym (same_refusal t thread asked ∙ e)) does,
-          );
+          answer =
+              subst (λ o. MatchOption o (Does (of_objects s.graph objects) t asked said (of_objects graph next)) (λ w. (said ≡ reply.Refused w) × (of_objects graph next ≡ of_objects s.graph objects)))
+              (sym (same_refusal t thread asked ∙ e)) does;
           fits = fit;
         })
 
     -- a store to a field
     stored : (i f x : ℕ) (said : Reply) (after : SpaceState) → refusal_of s.graph t (call.Store i f x) ≡ None → said ≡ reply.Ok
         → (v : Datum) → slot_of s.graph t i ≡ v → after.graph ≡ put_field s.graph v f (slot_of s.graph t x) → after.home ≡ s.home
-        → Follows objects s (Said t (call.Store i f x) said) after
+        → Goes objects s t (call.Store i f x) said after
     stored i f x said after e r datum.Null q g h =
         done (call.Store i f x) said after e objects s.graph s.home g h
         (r, ap (λ v. put_field (of_objects s.graph objects) v f (slot_of s.graph t x)) (sym q)) fits
@@ -335,7 +338,7 @@ module _ (objects : FinMap name_cmp Content) (s : SpaceState) (fits : Fits objec
         shown_by (datum.Int y) e = refl
         shown_by (datum.Object m) e = ap (λ fields. reply.Object (length fields)) e
 
-    not_refused : (asked : Call) (said : Reply) (after : SpaceState) → refusal_of s.graph t asked ≡ None → Does s.graph t asked said after.graph → after.home ≡ homes_after s t asked said → Follows objects s (Said t asked said) after
+    not_refused : (asked : Call) (said : Reply) (after : SpaceState) → refusal_of s.graph t asked ≡ None → Does s.graph t asked said after.graph → after.home ≡ homes_after s t asked said → Goes objects s t asked said after
     not_refused (call.Int i) said after e d h = done _ said after e objects _ s.home d.1 h (d.0, refl) (push_fits t thread (datum.Int i) (λ n q. cc))
     not_refused call.Null said after e d h = done _ said after e objects _ s.home d.1 h (d.0, refl) (push_fits t thread datum.Null (λ n q. cc))
     not_refused (call.Dup i) said after e d h =
@@ -359,9 +362,9 @@ module _ (objects : FinMap name_cmp Content) (s : SpaceState) (fits : Fits objec
     not_refused call.Collect said after e d h = done _ said after e objects _ s.home d.1 h (d.0, refl) fits
     not_refused call.Census said after e d h = done _ said after e objects _ s.home d.1 h (d.0, refl) fits
 
-    answered : (asked : Call) (said : Reply) (after : SpaceState) → answers s.graph t asked said after.graph → after.home ≡ homes_after s t asked said → Follows objects s (Said t asked said) after
+    answered : (asked : Call) (said : Reply) (after : SpaceState) → answers s.graph t asked said after.graph → after.home ≡ homes_after s t asked said → Goes objects s t asked said after
     answered asked said after =
-        elim (refusal_of s.graph t asked) as (λ o. refusal_of s.graph t asked ≡ o → MatchOption o (Does s.graph t asked said after.graph) (λ why. (said ≡ reply.Refused why) × (after.graph ≡ s.graph)) → after.home ≡ homes_after s t asked said → Follows objects s (Said t asked said) after) [
+        elim (refusal_of s.graph t asked) as (λ o. refusal_of s.graph t asked ≡ o → MatchOption o (Does s.graph t asked said after.graph) (λ why. (said ≡ reply.Refused why) × (after.graph ≡ s.graph)) → after.home ≡ homes_after s t asked said → Goes objects s t asked said after) [
           | None ↦ λ e d h. not_refused asked said after e d h
           | Some why ↦ λ e r h. refused asked said after why e r.0 r.1 h
         ] refl
@@ -379,6 +382,7 @@ module _ (objects : FinMap name_cmp Content) (s : SpaceState) (fits : Fits objec
       thread,
       subst (λ o. MatchOption o (Does (of_objects s.graph objects) t call.End (reply.Ended moved tight) (of_objects after.graph objects)) (λ w. (reply.Ended moved tight ≡ reply.Refused w) × (of_objects after.graph objects ≡ of_objects s.graph objects)))
           (sym (not_refused_end _ end.open_epoch)) ((moved, tight, refl), ap (λ g. of_objects g objects) end.rest),
+      tt,
     );
     fits = record {
       contents = λ n p. kept_content after end.contents n (present_before n p) p;
@@ -478,10 +482,12 @@ module _ (objects : FinMap name_cmp Content) (s : SpaceState) (fits : Fits objec
   follow (Said t call.End (reply.Ended moved tight)) after h = ended t h.0 moved tight after h.1
   follow (Said t call.Collect reply.Ok) after h = record {
     next = objects;
-    moves = (h.0, (refl, ap (λ g. of_objects g objects) h.1.rest));
+    moves = (h.0, (refl, ap (λ g. of_objects g objects) h.1.rest), tt);
     fits = collected_fits after h.1;
   }
-  follow (Said t asked said) after h = answered t h.0 asked said after h.1 h.2
+  follow (Said t asked said) after h =
+      let goes : Goes objects s t asked said after = answered t h.0 asked said after h.1 h.2 in
+      record { next = goes.next; moves = (h.0, goes.answer, h.3); fits = goes.fits }
   follow (Collected t) after h = record {
     next = objects;
     moves = (h.0, ap (λ g. of_objects g objects) h.1.rest);
@@ -528,7 +534,7 @@ opening_fits limits threads = record { contents = λ n p. refl; reached = λ n h
 
     keeps : (a b : Name) → a ≡ root_name → Refers (opening limits threads) a b → b ≡ root_name
     keeps a b q e =
-        absurd (no_null b (contains_replicate 16 datum.Null (datum.Object b) (subst (λ c. Contains (fields_or_none c) (datum.Object b)) (ap (get (opening limits threads).objects) q ∙ get-same empty root_name _) e)))
+        absurd (no_null b (contains_replicate ROOT_FIELDS datum.Null (datum.Object b) (subst (λ c. Contains (fields_or_none c) (datum.Object b)) (ap (get (opening limits threads).objects) q ∙ get-same empty root_name _) e)))
 
 pub machines_agree : MachinesAgree
 machines_agree limits threads history s h =

@@ -1,5 +1,5 @@
 -- The heap as a graph of objects, and what each call answers and does to it.
-use Rattle.std.specs.Prelude.{◌≡◌, ◌≢◌, ℕ, ◌+◌, ◌-◌, ◌^◌, ◌≤◌, ◌⊎◌, Bool, true, false, not, cond, ltb, leb, List, [], ◌∷◌, ◌++◌, length, replicate, take, slice_index_or, slice_set, Option, Some, None, MatchOption}
+use Rattle.std.specs.Prelude.{◌≡◌, ◌≢◌, ℕ, ◌+◌, ◌-◌, ◌≤◌, ◌⊎◌, Bool, true, false, not, cond, ltb, leb, List, [], ◌∷◌, ◌++◌, length, replicate, take, slice_index_or, slice_set, Option, Some, None, MatchOption}
 use Rattle.std.specs.FinMap as finite
 use Rattle.object_layout.specs.declared.names.Name.{Name}
 use Rattle.object_layout.specs.declared.calls.Call.{Call}
@@ -43,18 +43,23 @@ pub record Graph : Type 0 where
   pub objects : finite.FinMap name_cmp Content
   pub threads : List Thread
 
+-- what a thread has that made no call and holds nothing
 abbrev pub idle : Thread
 idle = record { stack = []; depth = 0; made = 0 }
 
+-- the threads are numbered from 1
 abbrev pub IsThread : Graph → ℕ → Type 0
 IsThread g t = (1 ≤ t) × (t ≤ length g.threads)
 
+-- what a thread has
 abbrev pub thread_of : Graph → ℕ → Thread
 thread_of g t = slice_index_or g.threads (t - 1) idle
 
+-- the graph in which a thread has this instead
 abbrev pub with_thread : Graph → ℕ → Thread → Graph
 with_thread g t state = record g { threads = slice_set g.threads (t - 1) state }
 
+-- the slots of a thread, the lowest first
 abbrev pub stack_of : Graph → ℕ → List Datum
 stack_of g t = (thread_of g t).stack
 
@@ -62,6 +67,7 @@ stack_of g t = (thread_of g t).stack
 abbrev pub slot_of : Graph → ℕ → ℕ → Datum
 slot_of g t s = slice_index_or (stack_of g t) s datum.Null
 
+-- the fields of what was looked up, none where there is nothing
 abbrev pub fields_or_none : Option Content → List Datum
 fields_or_none None = []
 fields_or_none (Some content) = fields_of content
@@ -72,6 +78,7 @@ fields_at g (datum.Object name) = fields_or_none (finite.get g.objects name)
 fields_at g datum.Null = []
 fields_at g (datum.Int i) = []
 
+-- whether a value refers to an object
 abbrev pub is_reference : Datum → Bool
 is_reference (datum.Object name) = true
 is_reference datum.Null = false
@@ -83,15 +90,19 @@ next_name g t = record { thread = t; serial = (thread_of g t).made + 1 }
 
 -- ---- what a call does
 
+-- the value on top of the stack of a thread
 abbrev pub push : Graph → ℕ → Datum → Graph
 push g t value = let state = thread_of g t in with_thread g t (record state { stack = state.stack ++ value ∷ [] })
 
+-- the stack of a thread without its top slot
 abbrev pub drop_top : Graph → ℕ → Graph
 drop_top g t = let state = thread_of g t in with_thread g t (record state { stack = take (length state.stack - 1) state.stack })
 
+-- another depth of a thread
 abbrev pub with_depth : Graph → ℕ → ℕ → Graph
 with_depth g t depth = let state = thread_of g t in with_thread g t (record state { depth = depth })
 
+-- an object with this content, made or written over
 abbrev pub with_object : Graph → Name → Content → Graph
 with_object g name content = record g { objects = finite.insert g.objects name content }
 
@@ -111,12 +122,15 @@ put_field g (datum.Int i) f value = g
 
 -- ---- refusals
 
+-- the stack has no room for another slot
 abbrev pub is_stack_full : Graph → ℕ → Bool
 is_stack_full g t = leb STACK_SLOTS (length (stack_of g t))
 
+-- the slot is at or past the length of the stack
 abbrev pub is_bad_slot : Graph → ℕ → ℕ → Bool
 is_bad_slot g t s = leb (length (stack_of g t)) s
 
+-- the field is at or past the number of fields of the object of a slot
 abbrev pub is_bad_field : Graph → ℕ → ℕ → ℕ → Bool
 is_bad_field g t s f = leb (length (fields_at g (slot_of g t s))) f
 
@@ -168,9 +182,11 @@ shown g datum.Null = reply.Null
 shown g (datum.Int i) = reply.Int i
 shown g (datum.Object name) = reply.Object (length (fields_at g (datum.Object name)))
 
+-- a reply to the end of an epoch
 abbrev pub IsEnded : Reply → Type 0
 IsEnded said = (moved : ℕ) × (tight : Bool) × (said ≡ reply.Ended moved tight)
 
+-- a reply to a census
 abbrev pub IsPages : Reply → Type 0
 IsPages said = (free : ℕ) × (region : ℕ) × (control : ℕ) × (said ≡ reply.Pages free region control)
 

@@ -3,6 +3,7 @@ use Rattle.std.specs.Prelude.{◌≡◌, ℕ, ◌≤◌, List, [], ◌∷◌, eq
 use Rattle.std.specs.List.{filter}
 use Rattle.object_layout.specs.declared.calls.Call.{Call}
 use Rattle.object_layout.specs.declared.replies.Reply.{Reply}
+use Rattle.object_layout.specs.Calls.{IsCall}
 use Rattle.yak_model.specs.Graph.{Graph, IsThread, Limits, answers, opening}
 
 -- a call of a thread and its reply, or a collection that a thread makes inside a call
@@ -12,7 +13,7 @@ pub data Entry : Type 0 where
 
 -- One entry leads from g to h.
 abbrev pub Moves : Graph → Entry → Graph → Type 0
-Moves g (Said t asked said) h = IsThread g t × answers g t asked said h
+Moves g (Said t asked said) h = IsThread g t × answers g t asked said h × IsCall asked
 Moves g (Collected t) h = IsThread g t × (h ≡ g)
 
 -- The entries are allowed one after another, and lead from g to h.
@@ -20,9 +21,11 @@ abbrev pub Leads : Graph → List Entry → Graph → Type 0
 Leads g [] h = h ≡ g
 Leads g (entry ∷ rest) h = (mid : Graph) × Moves g entry mid × Leads mid rest h
 
+-- The object graph allows the history, from its opening on.
 abbrev pub IsLegal : Limits → ℕ → List Entry → Type 0
 IsLegal limits threads history = (h : Graph) × Leads (opening limits threads) history h
 
+-- the thread of an entry
 abbrev pub caller : Entry → ℕ
 caller (Said t asked said) = t
 caller (Collected t) = t

@@ -19,12 +19,15 @@ pub record Kept : Type 0 where
   pub home : Space
   pub content : Content
 
+-- stands for no object
 abbrev pub nobody : Kept
 nobody = record { name = root_name; home = Control; content = Fields [] }
 
+-- the name of the object at this place
 abbrev pub name_at : List Kept → ℕ → Name
 name_at objects i = (slice_index_or objects i nobody).name
 
+-- the fields of the object at this place
 abbrev pub fields_of_place : List Kept → ℕ → List Datum
 fields_of_place objects i = fields_of (slice_index_or objects i nobody).content
 
@@ -32,6 +35,7 @@ fields_of_place objects i = fields_of (slice_index_or objects i nobody).content
 abbrev pub AreDistinct : List Kept → Type 0
 AreDistinct objects = (i j : ℕ) → i < length objects → j < length objects → name_at objects i ≡ name_at objects j → i ≡ j
 
+-- The object at this place is marked.
 abbrev pub IsMarked : List Bool → ℕ → Type 0
 IsMarked marks i = slice_index_or marks i false ≡ true
 
@@ -54,9 +58,11 @@ state_of limits threads objects = record {
   home = finite.from_entries (map (λ (k : Kept). (k.name, k.home)) objects);
 }
 
+-- the space of the object at this place
 abbrev pub home_at : List Kept → ℕ → Space
 home_at objects i = (slice_index_or objects i nobody).home
 
+-- what the object at this place has for a target
 abbrev pub target_at : List (Option Space) → ℕ → Option Space
 target_at targets i = slice_index_or targets i None
 
@@ -131,9 +137,11 @@ abbrev pub IsJoinOf : (Space → Type 0) → Option Space → Type 0
 IsJoinOf collection None = (space : Space) → collection space → ⊥
 IsJoinOf collection (Some top) = IsLeastAbove collection top × ((space : Space) × collection space)
 
+-- Each object is in a space that a heap can have.
 abbrev pub AreHomesValid : List Kept → Type 0
 AreHomesValid objects = (i : ℕ) → i < length objects → IsValid MAX_DEPTH (home_at objects i)
 
+-- A target, where there is one, is a space that a heap can have.
 abbrev pub IsTargetValid : Option Space → Type 0
 IsTargetValid None = Unit {0}
 IsTargetValid (Some space) = IsValid MAX_DEPTH space

@@ -14,9 +14,11 @@ use Rattle.yak_model.specs.Graph.{Content, Fields, Graph, fields_or_none, next_n
 use Rattle.yak_model.specs.History.{Entry, Said, Collected, Moves}
 use Rattle.yak_model.specs.Spaces.{IsOnStack, Refers, Walk, content_at}
 
+-- a finite map from names to what the objects hold
 abbrev pub KnownObjects : Type 0
 KnownObjects = finite.FinMap name_cmp Content
 
+-- The map has the name.
 abbrev pub IsKnown : KnownObjects → Name → Type 0
 IsKnown known name = IsSome (finite.get known name)
 

@@ -8,6 +8,7 @@ use Rattle.object_layout.specs.declared.calls.Call.{Call}
 use Rattle.object_layout.specs.declared.calls.Call.TheVariants as call
 use Rattle.object_layout.specs.declared.replies.Reply.{Reply}
 use Rattle.object_layout.specs.declared.replies.Reply.TheVariants as reply
+use Rattle.object_layout.specs.Calls.{IsCall}
 use Rattle.epoch_lattice.specs.declared.Space.{Space}
 use Rattle.epoch_lattice.specs.declared.Space.TheVariants.{Control}
 use Rattle.epoch_lattice.specs.Lattice.{IsLeastAbove, inner_of, parent_of}
@@ -21,12 +22,15 @@ pub record SpaceState : Type 0 where
   pub graph : Graph
   pub home : finite.FinMap name_cmp Space
 
+-- the space of an object, none where it is not present
 abbrev pub home_of : SpaceState → Name → Option Space
 home_of s name = finite.get s.home name
 
+-- Only what has a space is present.
 abbrev pub IsPresent : SpaceState → Name → Type 0
 IsPresent s name = IsSome (home_of s name)
 
+-- what an object holds
 abbrev pub content_at : Graph → Name → Option Content
 content_at g name = finite.get g.objects name
 
@@ -113,6 +117,7 @@ pub record EndsEpoch (s : SpaceState) (t : ℕ) (moved : ℕ) (tight : Bool) (af
 abbrev pub IsRoot : SpaceState → Name → Type 0
 IsRoot s name = ((t : ℕ) × IsOnStack s.graph t name) ⊎ ((space : Space) × (home_of s name ≡ Some space) × (space ≢ Control))
 
+-- A collection keeps the object: a walk leads to it from where a collection begins.
 abbrev pub IsLive : SpaceState → Name → Type 0
 IsLive s name = IsReached (RefersPresent s) (IsRoot s) name
 
@@ -136,7 +141,7 @@ abbrev pub Turns : SpaceState → Entry → SpaceState → Type 0
 Turns s (Said t call.End (reply.Ended moved tight)) after = IsThread s.graph t × EndsEpoch s t moved tight after
 Turns s (Said t call.Collect reply.Ok) after = IsThread s.graph t × Collects s after
 Turns s (Said t asked said) after =
-    IsThread s.graph t × answers s.graph t asked said after.graph × (after.home ≡ homes_after s t asked said)
+    IsThread s.graph t × answers s.graph t asked said after.graph × (after.home ≡ homes_after s t asked said) × IsCall asked
 Turns s (Collected t) after = IsThread s.graph t × Collects s after
 
 -- The entries lead from s to after.
@@ -144,6 +149,7 @@ abbrev pub TurnsAll : SpaceState → List Entry → SpaceState → Type 0
 TurnsAll s [] after = after ≡ s
 TurnsAll s (entry ∷ rest) after = (mid : SpaceState) × Turns s entry mid × TurnsAll mid rest after
 
+-- The spaces of a heap of so many threads as it opens: the root is in the control space.
 abbrev pub opening_spaces : Limits → ℕ → SpaceState
 opening_spaces limits threads = record { graph = opening limits threads; home = finite.insert finite.empty root_name Control }
 

@@ -164,7 +164,10 @@ fn first_state(alloc: Global) -> Result<ThreadState, AllocError>
     ensures { IfOk result (λ state. state ≡ record { stack = datum.Object root_name ∷ []; depth = 0; made = 0 }) }
 {
     let mut stack = Vec::new(alloc);
-    stack.push(Datum::Object(Name { thread: 0, serial: 0 }))?;
+    stack.push(Datum::Object(Name {
+        thread: 0,
+        serial: 0,
+    }))?;
     Ok(ThreadState {
         stack,
         depth: 0,
@@ -190,7 +193,13 @@ impl GraphState {
     {
         let fields = vec![in alloc; Datum::Null; ROOT_FIELDS]?;
         let mut writes = VecDeque::new(alloc);
-        writes.push_front(Written { name: Name { thread: 0, serial: 0 }, fields })?;
+        writes.push_front(Written {
+            name: Name {
+                thread: 0,
+                serial: 0,
+            },
+            fields,
+        })?;
         let states = first_states(alloc, threads)?;
         Ok(GraphState {
             page: PAGE_WORDS,
@@ -560,5 +569,4 @@ pub fn privacy()
 /// Each name in the graph stays that of an object that was made.
 pub fn freshness()
     ensures { NamesStayMade }
-{
-}
+{}
