@@ -1,5 +1,5 @@
 -- How a run of the program ends: its status, what the status says of the words and of the input, and what is written.
-use Rattle.std.specs.Prelude.{◌≡◌, ◌<◌, ◌≤◌, ◌⊎◌, ℕ, List, [], ◌∷◌, ◌++◌, length, codes, Option, Some, None, IfSome}
+use Rattle.std.specs.Prelude.{◌≡◌, ◌<◌, ◌≤◌, ℕ, List, [], ◌∷◌, ◌++◌, length, codes, Option, Some, None, IfSome}
 use Rattle.std.specs.Io.KnownBytes.{Appends}
 use Rattle.yak_io.specs.Causes.{Rose}
 use Rattle.yak_io.specs.Transfers.{TookAll, TookFront}

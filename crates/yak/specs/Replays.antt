@@ -1,6 +1,5 @@
 -- What running a script gives: a history, the text of its replies, and a heap.
 use Rattle.std.specs.Prelude.{◌≡◌, ◌≤◌, ℕ, All, Bool, true, false, List, [], ◌∷◌, ◌++◌, filter, map}
-use Rattle.object_layout.specs.declared.calls.Call.{Call}
 use Rattle.object_layout.specs.declared.replies.Reply.{Reply}
 use Rattle.object_layout.specs.Calls.{IsCall}
 use Rattle.heap_words.specs.declared.map.Areas.{Areas}
