@@ -1,0 +1,564 @@
+//! The heap as a graph of objects, without spaces.
+ghost use Rattle.std.specs.Prelude.{◌≡◌, ◌≢◌, ℕ, ◌+◌, ◌-◌, ◌^◌, ◌<◌, ◌≤◌, ◌++◌, ◌∷◌, [], IfOk, OnErr, OnOk, IsTrue, ◌↔◌, take, length, replicate, slice_set, slice_index_or, true, false};
+ghost use Rattle.std.specs.List.{Contains};
+ghost use Rattle.yak_model.specs.Graph.{Thread, Graph, Fields, Does, IsThread, answers, fields_at, opening, make, push, drop_top, with_depth, with_object, put_field, refusal_of, shown, slot_of, stack_of, standard_limits, thread_of};
+ghost use Rattle.yak_model.specs.declared.datum.Datum.TheVariants as datum;
+ghost use Rattle.object_layout.specs.declared.replies.Reply.TheVariants as said;
+ghost use Rattle.yak_model.specs.Names.{root_name};
+ghost use Rattle.yak_model.specs.Agreement.{MachinesAgree};
+ghost use Rattle.yak_model.specs.Private.{NamesStayMade, PrivacyIsKept};
+ghost use Rattle.yak_model.specs.Unique.{StatesAreUnique};
+
+use crate::datum::Datum;
+use crate::{ROOT_FIELDS, STACK_SLOTS};
+use object_layout::{Call, MAX_DEPTH, MAX_SERIAL, Name, OBJECT_WORDS, PAGE_WORDS, Refusal, Reply};
+use std::alloc::{AllocError, Global};
+use std::collections::VecDeque;
+use std::marker::Model;
+
+/// What a thread has.
+#[derive(Drop)]
+pub struct ThreadState {
+    stack: Vec<Datum>,
+    depth: u8,
+    made: u64,
+}
+
+impl Model for ThreadState {
+    ghost use Rattle.yak_model.specs.Graph.{Thread};
+
+    ghost Value = { Thread };
+
+    ghost view = { λ a. record { stack = a.stack.items; depth = a.depth; made = a.made } };
+}
+
+impl ThreadState {
+    /// Puts a value on top.
+    fn push(&mut self, value: Datum) -> Result<(), AllocError>
+        ensures ok { OnOk result (self.new ≡ record self.old { stack = self.old.stack ++ value ∷ [] }) }
+        ensures err { OnErr result (self.new ≡ self.old) }
+    {
+        self.stack.push(value)?;
+        Ok(())
+    }
+
+    /// Puts a reference to a new object on top.
+    fn push_made(&mut self, value: Datum) -> Result<(), AllocError>
+        requires { self.old.made < MAX_SERIAL }
+        ensures ok { OnOk result (self.new ≡ record self.old { stack = self.old.stack ++ value ∷ []; made = self.old.made + 1 }) }
+        ensures err { OnErr result (self.new ≡ self.old) }
+    {
+        self.stack.push(value)?;
+        self.made += 1;
+        Ok(())
+    }
+
+    /// Changes the depth.
+    fn set_depth(&mut self, depth: u8)
+        ensures { self.new ≡ record self.old { depth = depth } }
+    {
+        self.depth = depth;
+    }
+
+    /// Drops the top slot, where there is one.
+    fn drop_top(&mut self)
+        ensures { self.new ≡ record self.old { stack = take (length self.old.stack - 1) self.old.stack } }
+    {
+        let _top = self.stack.pop();
+    }
+
+    /// Whether a slot refers to the object.
+    pub fn holds(&self, name: Name) -> bool
+        ensures { IsTrue result ↔ Contains self.now.stack (datum.Object name) }
+    {
+        let sought = Datum::Object(name);
+        for value in &self.stack {
+            if *value == sought {
+                return true;
+            }
+        }
+        false
+    }
+
+    /// The number of slots.
+    fn len(&self) -> usize
+        ensures { result ≡ length self.now.stack }
+    {
+        self.stack.len()
+    }
+
+    /// The value of a slot, or null past the last one.
+    fn slot(&self, s: u32) -> Datum
+        ensures { result ≡ slice_index_or self.now.stack s datum.Null }
+    {
+        match self.stack.get(s as usize) {
+            Some(value) => *value,
+            None => Datum::Null,
+        }
+    }
+
+    /// The depth of the thread's epochs.
+    fn depth(&self) -> u8
+        ensures { result ≡ self.now.depth }
+    {
+        self.depth
+    }
+
+    /// The number of objects made.
+    fn made(&self) -> u64
+        ensures { result ≡ self.now.made }
+    {
+        self.made
+    }
+}
+
+/// One more than a depth that is below the greatest one.
+fn deeper(depth: u8, greatest: u8) -> u8
+    requires { depth < greatest }
+    ensures { result ≡ depth + 1 }
+{
+    depth + 1
+}
+
+/// An object as some write left it.
+#[derive(Drop)]
+struct Written {
+    name: Name,
+    fields: Vec<Datum>,
+}
+
+impl Model for Written {
+    ghost use Rattle.std.specs.Prelude.{ℕ};
+    ghost use Rattle.object_layout.specs.declared.names.Name.{Name};
+    ghost use Rattle.yak_model.specs.Graph.{Content, Fields};
+
+    ghost Value = { Name × Content };
+
+    ghost view = { λ a. (a.name, Fields a.fields.items) };
+}
+
+/// The heap as a graph of objects: each write of an object, the newest first, and the threads.
+#[derive(Drop)]
+pub struct GraphState {
+    page: u16,
+    depth: u8,
+    writes: VecDeque<Written>,
+    threads: Vec<ThreadState>,
+    alloc: Global,
+}
+
+impl Model for GraphState {
+    ghost use Rattle.std.specs.FinMap.{code, from_entries};
+    ghost use Rattle.std.specs.Coded.{codes};
+    ghost use Rattle.yak_model.specs.Graph.{Graph};
+
+    ghost Value = { Graph };
+
+    ghost coded = { Prim.hlevel (codes, code) };
+
+    ghost view = { λ a. record { limits = record { page = a.page; depth = a.depth }; objects = from_entries a.writes.items; threads = a.threads.items } };
+}
+
+/// What a thread has as the heap opens: a reference to the root.
+fn first_state(alloc: Global) -> Result<ThreadState, AllocError>
+    ensures { IfOk result (λ state. state ≡ record { stack = datum.Object root_name ∷ []; depth = 0; made = 0 }) }
+{
+    let mut stack = Vec::new(alloc);
+    stack.push(Datum::Object(Name { thread: 0, serial: 0 }))?;
+    Ok(ThreadState {
+        stack,
+        depth: 0,
+        made: 0,
+    })
+}
+
+/// The states of so many threads as the heap opens.
+fn first_states(alloc: Global, threads: u8) -> Result<Vec<ThreadState>, AllocError>
+    ensures { IfOk result (λ states. states.items ≡ replicate threads (record { stack = datum.Object root_name ∷ []; depth = 0; made = 0 })) }
+{
+    let mut states = Vec::new(alloc);
+    for i in 0..threads {
+        states.push(first_state(alloc)?)?;
+    }
+    Ok(states)
+}
+
+impl GraphState {
+    /// The graph of a heap of so many threads as it opens.
+    pub fn new(alloc: Global, threads: u8) -> Result<GraphState, AllocError>
+        ensures { IfOk result (λ state. state ≡ opening standard_limits threads) }
+    {
+        let fields = vec![in alloc; Datum::Null; ROOT_FIELDS]?;
+        let mut writes = VecDeque::new(alloc);
+        writes.push_front(Written { name: Name { thread: 0, serial: 0 }, fields })?;
+        let states = first_states(alloc, threads)?;
+        Ok(GraphState {
+            page: PAGE_WORDS,
+            depth: MAX_DEPTH,
+            writes,
+            threads: states,
+            alloc,
+        })
+    }
+
+    /// The number of slots of a thread.
+    fn len(&self, thread: u8) -> usize
+        requires { IsThread self.now thread }
+        ensures { result ≡ length (stack_of self.now thread) }
+    {
+        self.threads[thread as usize - 1].len()
+    }
+
+    /// The value of a slot of a thread, or null past the last one.
+    fn slot(&self, thread: u8, s: u32) -> Datum
+        requires { IsThread self.now thread }
+        ensures { result ≡ slot_of self.now thread s }
+    {
+        self.threads[thread as usize - 1].slot(s)
+    }
+
+    /// The fields of the object that a value refers to.
+    fn fields_at(&self, value: Datum) -> &[Datum]
+        ensures { result.now ≡ fields_at self.now value }
+    {
+        if let Datum::Object(name) = value {
+            for written in &self.writes {
+                if written.name == name {
+                    return &written.fields;
+                }
+            }
+        }
+        &[]
+    }
+
+    /// Why a call is refused, other than for want of room in the heap.
+    fn refusal(&self, thread: u8, call: Call) -> Option<Refusal>
+        requires { IsThread self.now thread }
+        ensures { result ≡ refusal_of self.now thread call }
+    {
+        let state = &self.threads[thread as usize - 1];
+        let is_full = state.len() >= STACK_SLOTS;
+        match call {
+            Call::Int(_) | Call::Null => {
+                if is_full {
+                    Some(Refusal::StackFull)
+                } else {
+                    None
+                }
+            }
+            Call::Dup(s) => {
+                if s as usize >= state.len() {
+                    Some(Refusal::BadSlot)
+                } else if is_full {
+                    Some(Refusal::StackFull)
+                } else {
+                    None
+                }
+            }
+            Call::Pop => if state.len() == 0 {
+                Some(Refusal::StackEmpty)
+            } else {
+                None
+            },
+            Call::New(k) => {
+                if k > u32::from(self.page.saturating_sub(OBJECT_WORDS)) {
+                    Some(Refusal::TooLong)
+                } else if is_full {
+                    Some(Refusal::StackFull)
+                } else if state.made() >= MAX_SERIAL {
+                    Some(Refusal::NamesSpent)
+                } else {
+                    None
+                }
+            }
+            Call::Load(s, f) => {
+                if s as usize >= state.len() {
+                    return Some(Refusal::BadSlot);
+                }
+                let value = state.slot(s);
+                if !value.is_reference() {
+                    Some(Refusal::NotAReference)
+                } else if f as usize >= self.fields_at(value).len() {
+                    Some(Refusal::BadField)
+                } else if is_full {
+                    Some(Refusal::StackFull)
+                } else {
+                    None
+                }
+            }
+            Call::Store(s, f, x) => {
+                if s as usize >= state.len() || x as usize >= state.len() {
+                    return Some(Refusal::BadSlot);
+                }
+                let value = state.slot(s);
+                if !value.is_reference() {
+                    Some(Refusal::NotAReference)
+                } else if f as usize >= self.fields_at(value).len() {
+                    Some(Refusal::BadField)
+                } else {
+                    None
+                }
+            }
+            Call::Get(s) => if s as usize >= state.len() {
+                Some(Refusal::BadSlot)
+            } else {
+                None
+            },
+            Call::Same(s, x) => {
+                if s as usize >= state.len() || x as usize >= state.len() {
+                    Some(Refusal::BadSlot)
+                } else {
+                    None
+                }
+            }
+            Call::Begin => if state.depth() >= self.depth {
+                Some(Refusal::TooDeep)
+            } else {
+                None
+            },
+            Call::End => if state.depth() == 0 {
+                Some(Refusal::NoEpoch)
+            } else {
+                None
+            },
+            Call::Collect | Call::Census => None,
+        }
+    }
+
+    /// Pushes a value on the stack of a thread.
+    fn push(&mut self, thread: u8, value: Datum) -> Result<(), AllocError>
+        requires { IsThread self.old thread }
+        ensures ok { OnOk result (self.new ≡ push self.old thread value) }
+        ensures err { OnErr result (self.new ≡ self.old) }
+    {
+        self.threads[thread as usize - 1].push(value)?;
+        Ok(())
+    }
+
+    /// Drops the top slot of a thread.
+    fn drop_top(&mut self, thread: u8)
+        requires { IsThread self.old thread }
+        ensures { self.new ≡ drop_top self.old thread }
+    {
+        self.threads[thread as usize - 1].drop_top();
+    }
+
+    /// Gives an object these fields.
+    fn write(&mut self, name: Name, fields: Vec<Datum>) -> Result<(), AllocError>
+        ensures ok { OnOk result (self.new ≡ with_object self.old name (Fields fields.items)) }
+        ensures err { OnErr result (self.new ≡ self.old) }
+    {
+        self.writes.push_front(Written { name, fields })?;
+        Ok(())
+    }
+
+    /// Makes an object of null fields, and pushes a reference to it.
+    fn make(&mut self, thread: u8, k: u32) -> Result<(), AllocError>
+        requires thread { IsThread self.old thread }
+        requires room { (thread_of self.old thread).made < MAX_SERIAL }
+        ensures ok { OnOk result (self.new ≡ make self.old thread k) }
+        ensures err { OnErr result (self.new ≡ self.old) }
+    {
+        let fields = vec![in self.alloc; Datum::Null; k as usize]?;
+        let serial = self.threads[thread as usize - 1].made() + 1;
+        let name = Name { thread, serial };
+        self.writes.push_front(Written { name, fields })?;
+        let state = &mut self.threads[thread as usize - 1];
+        if state.push_made(Datum::Object(name)).is_err() {
+            let _undone = self.writes.pop_front();
+            return Err(AllocError);
+        }
+        Ok(())
+    }
+
+    /// The fields of an object with a new value in one of them.
+    fn changed(&self, value: Datum, f: u32, new: Datum) -> Result<Vec<Datum>, AllocError>
+        ensures { IfOk result (λ fields. fields.items ≡ slice_set (fields_at self.now value) f new) }
+    {
+        let mut fields = Vec::new(self.alloc);
+        fields.extend_from_slice(self.fields_at(value))?;
+        if (f as usize) < fields.len() {
+            fields[f as usize] = new;
+        }
+        Ok(fields)
+    }
+
+    /// Puts a value into a field of the object that a value refers to.
+    fn put_field(&mut self, value: Datum, f: u32, new: Datum) -> Result<(), AllocError>
+        ensures ok { OnOk result (self.new ≡ put_field self.old value f new) }
+        ensures err { OnErr result (self.new ≡ self.old) }
+    {
+        match value {
+            Datum::Object(name) => {
+                let fields = self.changed(value, f, new)?;
+                self.write(name, fields)
+            }
+            _ => Ok(()),
+        }
+    }
+
+    /// Changes the depth of a thread.
+    fn set_depth(&mut self, thread: u8, depth: u8)
+        requires { IsThread self.old thread }
+        ensures { self.new ≡ with_depth self.old thread depth }
+    {
+        self.threads[thread as usize - 1].set_depth(depth);
+    }
+
+    /// Whether a reply is what `get` shows of a value.
+    fn is_shown(&self, value: Datum, reply: Reply) -> bool
+        ensures { IsTrue result ↔ (reply ≡ shown self.now value) }
+    {
+        match value {
+            Datum::Null => reply == Reply::Null,
+            Datum::Int(i) => reply == Reply::Int(i),
+            Datum::Object(_) => {
+                if let Reply::Object(k) = reply {
+                    usize::from(k) == self.fields_at(value).len()
+                } else {
+                    false
+                }
+            }
+        }
+    }
+
+    /// Pushes the value where the reply is `Ok`.
+    fn accept_push(&mut self, thread: u8, value: Datum, reply: Reply) -> Result<bool, AllocError>
+        requires { IsThread self.old thread }
+        ensures allowed { IfOk result (λ done. done ≡ true → (reply ≡ said.Ok) × (self.new ≡ push self.old thread value)) }
+        ensures denied { IfOk result (λ done. done ≡ false → (reply ≢ said.Ok) × (self.new ≡ self.old)) }
+        ensures err { OnErr result (self.new ≡ self.old) }
+    {
+        if reply != Reply::Ok {
+            return Ok(false);
+        }
+        self.push(thread, value)?;
+        Ok(true)
+    }
+
+    /// Makes a call that isn't refused, where the reply is allowed.
+    fn accept(&mut self, thread: u8, call: Call, reply: Reply) -> Result<bool, AllocError>
+        requires thread { IsThread self.old thread }
+        requires free { refusal_of self.old thread call ≡ None }
+        ensures allowed { IfOk result (λ done. done ≡ true → Does self.old thread call reply self.new) }
+        ensures denied { IfOk result (λ done. done ≡ false → ((h : Graph) → Does self.old thread call reply h → ⊥) × (self.new ≡ self.old)) }
+        ensures err { OnErr result (self.new ≡ self.old) }
+    {
+        match call {
+            Call::Int(i) => self.accept_push(thread, Datum::Int(i), reply),
+            Call::Null => self.accept_push(thread, Datum::Null, reply),
+            Call::Dup(s) => self.accept_push(thread, self.slot(thread, s), reply),
+            Call::Pop => {
+                if reply != Reply::Ok {
+                    return Ok(false);
+                }
+                self.drop_top(thread);
+                Ok(true)
+            }
+            Call::New(k) => match reply {
+                Reply::Ok => {
+                    self.make(thread, k)?;
+                    Ok(true)
+                }
+                Reply::OutOfHeap => Ok(true),
+                _ => Ok(false),
+            },
+            Call::Load(s, f) => {
+                let value = self.field(self.slot(thread, s), f);
+                self.accept_push(thread, value, reply)
+            }
+            Call::Store(s, f, x) => {
+                if reply != Reply::Ok {
+                    return Ok(false);
+                }
+                self.put_field(self.slot(thread, s), f, self.slot(thread, x))?;
+                Ok(true)
+            }
+            Call::Get(s) => Ok(self.is_shown(self.slot(thread, s), reply)),
+            Call::Same(s, x) => {
+                let is_same = self.slot(thread, s) == self.slot(thread, x);
+                Ok(reply == if is_same { Reply::Yes } else { Reply::No })
+            }
+            Call::Begin => {
+                if reply != Reply::Ok {
+                    return Ok(false);
+                }
+                self.raise(thread);
+                Ok(true)
+            }
+            Call::End => match reply {
+                Reply::Ended { .. } => {
+                    let depth = self.depth_of(thread);
+                    self.set_depth(thread, depth - 1);
+                    Ok(true)
+                }
+                _ => Ok(false),
+            },
+            Call::Collect => Ok(reply == Reply::Ok),
+            Call::Census => Ok(matches!(reply, Reply::Pages { .. })),
+        }
+    }
+
+    /// Raises the depth of a thread.
+    fn raise(&mut self, thread: u8)
+        requires thread { IsThread self.old thread }
+        requires room { (thread_of self.old thread).depth < self.old.limits.depth }
+        ensures { self.new ≡ with_depth self.old thread ((thread_of self.old thread).depth + 1) }
+    {
+        let greatest = self.depth;
+        let depth = self.depth_of(thread);
+        self.set_depth(thread, deeper(depth, greatest));
+    }
+
+    /// The depth of a thread's epochs.
+    fn depth_of(&self, thread: u8) -> u8
+        requires { IsThread self.now thread }
+        ensures { result ≡ (thread_of self.now thread).depth }
+    {
+        self.threads[thread as usize - 1].depth()
+    }
+
+    /// A field of the object that a value refers to, or null where there is none.
+    fn field(&self, value: Datum, f: u32) -> Datum
+        ensures { result ≡ slice_index_or (fields_at self.now value) f datum.Null }
+    {
+        match self.fields_at(value).get(f as usize) {
+            Some(found) => *found,
+            None => Datum::Null,
+        }
+    }
+
+    /// Makes a call where the reply is allowed, and tells whether it is.
+    pub fn step(&mut self, thread: u8, call: Call, reply: Reply) -> Result<bool, AllocError>
+        requires { IsThread self.old thread }
+        ensures allowed { IfOk result (λ done. done ≡ true → answers self.old thread call reply self.new) }
+        ensures denied { IfOk result (λ done. done ≡ false → ((h : Graph) → answers self.old thread call reply h → ⊥) × (self.new ≡ self.old)) }
+        ensures err { OnErr result (self.new ≡ self.old) }
+    {
+        match self.refusal(thread, call) {
+            Some(why) => Ok(reply == Reply::Refused(why)),
+            None => self.accept(thread, call, reply),
+        }
+    }
+}
+
+/// The graph and the spaces agree along every history.
+pub fn agreement()
+    ensures { MachinesAgree }
+{}
+
+/// The end of an epoch and a collection each lead to one state.
+pub fn uniqueness()
+    ensures { StatesAreUnique }
+{}
+
+/// What one thread alone knows stays so, whatever entry comes.
+pub fn privacy()
+    ensures { PrivacyIsKept }
+{}
+
+/// Each name in the graph stays that of an object that was made.
+pub fn freshness()
+    ensures { NamesStayMade }
+{
+}

@@ -1,0 +1,12 @@
+//! What a heap means: objects in a graph, objects in spaces, and the histories of calls on them, with plain machines that
+//! compute each step.
+#![tactic(auto)]
+
+pub mod datum;
+pub mod graph;
+pub mod spaces;
+
+/// The greatest number of slots of a stack.
+pub const STACK_SLOTS: usize = 64;
+/// The fields of the root object.
+pub const ROOT_FIELDS: usize = 16;
