@@ -2,8 +2,10 @@
 #![tactic(auto)]
 
 mod claim;
+mod placement;
 
 pub use claim::claim_page;
+pub use placement::place;
 
 /// Where the claim counter stands in the heads.
 pub const CLAIM_COUNTER: usize = 1;
