@@ -1,5 +1,5 @@
 -- What placing an object keeps.
-use Rattle.std.proofs.Common.{◌≡◌, ◌≢◌, ◌↔◌, ℕ, zero, suc, ◌+◌, ◌-◌, ◌*◌, ◌≤◌, ◌<◌, List, [], ◌∷◌, length, get_or, set, refl, sym, ap, ◌∙◌, subst, arith, inl, inr, ◌⊎◌, ⊎_elim, length-set}
+use Rattle.std.proofs.Common.{◌≡◌, ◌≢◌, ℕ, zero, suc, ◌+◌, ◌-◌, ◌*◌, ◌≤◌, ◌<◌, List, [], length, get_or, set, refl, sym, ap, ◌∙◌, arith, ⊎_elim, length-set}
 use Rattle.std.specs.List.{Contains}
 use Rattle.std.proofs.lemmas.Bool.{cases_eq, cases_lt}
 use Rattle.std.proofs.lemmas.Bool.Decides.{nat_tests}
@@ -64,14 +64,14 @@ table-used m table p u rows lt long small fits =
 pub not_current : (m : Areas) (currents table : List (List ℕ)) (page u e : ℕ) → CurrentsStand m currents table → space_word table page ≡ 0 → 1 ≤ u → u ≤ m.threads → current currents u e ≢ page + 1
 not_current m currents table page u e stands free hu le is =
     ⊎_elim (λ (lt : e < length (row currents (u - 1))).
-      let some : current currents u e ≢ 0 = omega arith in
-      let b = stands.belong u e hu le lt some in
-      let at : current currents u e - 1 ≡ page = omega arith in
-      absurd (omega (arith, free, b.1, ap (λ (q : ℕ). space_word table q) at)))
+    let some : current currents u e ≢ 0 = omega arith in
+    let b = stands.belong u e hu le lt some in
+    let at : current currents u e - 1 ≡ page = omega arith in
+    absurd (omega (arith, free, b.1, ap (λ (q : ℕ). space_word table q) at)))
     (λ (past : length (row currents (u - 1)) ≤ e). absurd (omega (arith, get_or_past (row currents (u - 1)) e 0 past, is)))
     (cases_lt e (length (row currents (u - 1))))
 
-length-slots_set : (currents : List (List ℕ)) (t d u v : ℕ) → 1 ≤ t → 1 ≤ u → t - 1 < length currents → length (row (row_set currents (t - 1) d v) (u - 1)) ≡ length (row currents (u - 1))
+pub length-slots_set : (currents : List (List ℕ)) (t d u v : ℕ) → 1 ≤ t → 1 ≤ u → t - 1 < length currents → length (row (row_set currents (t - 1) d v) (u - 1)) ≡ length (row currents (u - 1))
 length-slots_set currents t d u v ht hu inside =
     ⊎_elim (λ (e : u - 1 ≡ t - 1). ap (λ (k : ℕ). length (row (row_set currents (t - 1) d v) k)) e ∙ ap (λ (r : List ℕ). length r) (get_or-set_same currents (t - 1) (set (row currents (t - 1)) d v) [] inside) ∙ length-set (row currents (t - 1)) d v ∙ ap (λ (k : ℕ). length (row currents k)) (sym e))
     (λ (ne : u - 1 ≢ t - 1). ap (λ (r : List ℕ). length r) (get_or-set_other currents (t - 1) (u - 1) (set (row currents (t - 1)) d v) [] ne))
@@ -84,23 +84,23 @@ currents-moved m currents table t d page ht inside slot fresh lt word stands =
     record {
       belong = λ u e hu le he some.
           ⊎_elim (λ (w : (u ≡ t) × (e ≡ d) × (current new u e ≡ page + 1)).
-            let at : current new u e - 1 ≡ page = omega (arith, w.2) in
-            (omega (arith, w.2), ap (λ (q : ℕ). space_word table q) at ∙ word ∙ ap (λ (k : ℕ). space_index (inner_of k d) + 1) (sym w.0) ∙ ap (λ (k : ℕ). space_index (inner_of u k) + 1) (sym w.1)))
+          let at : current new u e - 1 ≡ page = omega (arith, w.2) in
+          (omega (arith, w.2), ap (λ (q : ℕ). space_word table q) at ∙ word ∙ ap (λ (k : ℕ). space_index (inner_of k d) + 1) (sym w.0) ∙ ap (λ (k : ℕ). space_index (inner_of u k) + 1) (sym w.1)))
           (λ (w : ((u ≡ t) × (e ≡ d) → ⊥) × (current new u e ≡ current currents u e)).
-            let inside_old : e < length (row currents (u - 1)) = omega (arith, length-slots_set currents t d u (page + 1) ht.0 hu inside) in
-            let some_old : current currents u e ≢ 0 = λ z. some (w.1 ∙ z) in
-            let b = stands.belong u e hu le inside_old some_old in
-            (omega (arith, w.1, b.0), ap (λ (k : ℕ). space_word table (k - 1)) w.1 ∙ b.1))
+          let inside_old : e < length (row currents (u - 1)) = omega (arith, length-slots_set currents t d u (page + 1) ht.0 hu inside) in
+          let some_old : current currents u e ≢ 0 = λ z. some (w.1 ∙ z) in
+          let b = stands.belong u e hu le inside_old some_old in
+          (omega (arith, w.1, b.0), ap (λ (k : ℕ). space_word table (k - 1)) w.1 ∙ b.1))
           (current-cases currents t d u e (page + 1) ht.0 hu inside slot);
       once = λ u e v f hu lu hv lv some same.
           ⊎_elim (λ (w : (u ≡ t) × (e ≡ d) × (current new u e ≡ page + 1)).
-            ⊎_elim (λ (z : (v ≡ t) × (f ≡ d) × (current new v f ≡ page + 1)). (w.0 ∙ sym z.0, w.1 ∙ sym z.1))
-            (λ (z : ((v ≡ t) × (f ≡ d) → ⊥) × (current new v f ≡ current currents v f)). absurd (fresh v f hv lv (sym z.1 ∙ sym same ∙ w.2)))
-            (current-cases currents t d v f (page + 1) ht.0 hv inside slot))
+          ⊎_elim (λ (z : (v ≡ t) × (f ≡ d) × (current new v f ≡ page + 1)). (w.0 ∙ sym z.0, w.1 ∙ sym z.1))
+          (λ (z : ((v ≡ t) × (f ≡ d) → ⊥) × (current new v f ≡ current currents v f)). absurd (fresh v f hv lv (sym z.1 ∙ sym same ∙ w.2)))
+          (current-cases currents t d v f (page + 1) ht.0 hv inside slot))
           (λ (w : ((u ≡ t) × (e ≡ d) → ⊥) × (current new u e ≡ current currents u e)).
-            ⊎_elim (λ (z : (v ≡ t) × (f ≡ d) × (current new v f ≡ page + 1)). absurd (fresh u e hu lu (sym w.1 ∙ same ∙ z.2)))
-            (λ (z : ((v ≡ t) × (f ≡ d) → ⊥) × (current new v f ≡ current currents v f)). stands.once u e v f hu lu hv lv (λ q. some (w.1 ∙ q)) (sym w.1 ∙ same ∙ z.1))
-            (current-cases currents t d v f (page + 1) ht.0 hv inside slot))
+          ⊎_elim (λ (z : (v ≡ t) × (f ≡ d) × (current new v f ≡ page + 1)). absurd (fresh u e hu lu (sym w.1 ∙ same ∙ z.2)))
+          (λ (z : ((v ≡ t) × (f ≡ d) → ⊥) × (current new v f ≡ current currents v f)). stands.once u e v f hu lu hv lv (λ q. some (w.1 ∙ q)) (sym w.1 ∙ same ∙ z.1))
+          (current-cases currents t d v f (page + 1) ht.0 hv inside slot))
           (current-cases currents t d u e (page + 1) ht.0 hu inside slot);
     }
 
