@@ -14,7 +14,8 @@ use Rattle.yak_model.specs.State.{Thing, State}
 use Rattle.yak_model.specs.Placed.{words_by, size_by, StandsAt, Holds}
 use Rattle.yak_model.specs.Plans.{Move}
 use Rattle.relocation.specs.Moves.{fields_at, size_at, Copied, Moved, AllMovable}
-use Rattle.yak_model.specs.Plans.{by_move, forwarded, cleared, rehomed, without, after_moves, IsLawfulPlan, IsSpaceOf}
+use Rattle.yak_model.specs.Plans.{by_move, forwarded, cleared, rehomed, without, after_moves, IsLawfulPlan}
+use Rattle.yak_model.specs.Packed.{IsSpaceOf}
 use Rattle.relocation.proofs.Moving.{fields_at-header, beside_apart}
 
 -- the number of a space fits a header

@@ -3,9 +3,9 @@ use Rattle.std.specs.Prelude.{◌≡◌, ◌≢◌, ℕ, ◌+◌, ◌*◌, ◌�
 use Rattle.object_layout.specs.declared.names.Name.{Name}
 use Rattle.object_layout.specs.declared.TheConstants.{OBJECT_WORDS}
 use Rattle.heap_words.specs.declared.map.Areas.{Areas}
-use Rattle.heap_words.specs.Map.{HasRegion, page_words}
+use Rattle.heap_words.specs.Map.{page_words}
 use Rattle.epoch_lattice.specs.declared.Space.{Space}
-use Rattle.epoch_lattice.specs.declared.Space.TheVariants.{Control, Region}
+use Rattle.yak_model.specs.Packed.{IsSpaceOf}
 use Rattle.yak_model.specs.State.{Thing, State, IsClosed}
 
 -- A move of an object: the address at which it lies, the one to which it goes, and its new space.
@@ -43,11 +43,6 @@ without s dropped = record s { objects = λ n. cond (dropped n) None (s.objects 
 -- The state whose moved objects are in their new spaces. All else is as before.
 abbrev pub after_moves : ℕ → (ℕ → Move) → (Name → ℕ) → State → State
 after_moves count moves at s = record s { objects = λ n. rehomed count moves (at n) (s.objects n) }
-
--- A space of a heap of this map: the control space, or a region of one of its threads.
-abbrev pub IsSpaceOf : Areas → Space → Type 0
-IsSpaceOf m Control = Unit {0}
-IsSpaceOf m (Region thread depth) = HasRegion m thread depth
 
 -- A run of n words from an address on lies within one page.
 abbrev pub IsInOnePage : Areas → ℕ → ℕ → Type 0
