@@ -79,10 +79,10 @@ pub fn find_call(word: &[u8]) -> Option<Call>
 fn number(words: &mut Words, limit: u64) -> Result<u64, Reason>
     ensures { MatchResult result (λ n. Takes limit words.old n words.new) (λ reason. Misses limit words.old reason) }
 {
-    let Some(word) = words.next() else {
+    let Some(digits) = words.next() else {
         return Err(Reason::MissingWord);
     };
-    match number_of(word, 0, limit) {
+    match number_of(digits, 0, limit) {
         Some(number) => Ok(number),
         None => Err(Reason::BadNumber),
     }

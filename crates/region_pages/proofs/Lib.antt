@@ -1,0 +1,4 @@
+pub mod Shapes
+pub mod Entries
+pub mod Claims
+pub mod Placing

@@ -1,0 +1,36 @@
+-- The pool made anew, and the pages of a space given back.
+use Rattle.std.specs.Prelude.{ℕ, ◌+◌, ◌-◌, ◌==◌, cond, List, [], ◌∷◌, ◌++◌, length, map, drop, slice_index, slice_set}
+use Rattle.std.specs.List.{filter, range_with_len}
+use Rattle.heap_words.specs.Cells.{row}
+use Rattle.heap_words.specs.Contents.{Contents, with_head, with_current}
+use Rattle.epoch_lattice.specs.declared.Space.{Space}
+use Rattle.epoch_lattice.specs.Lattice.{space_index}
+use Rattle.yak_model.specs.Placed.{space_word}
+use Rattle.region_pages.specs.declared.TheConstants.{CLAIM_COUNTER, POOL_LENGTH}
+
+-- The free ones of the first pages, in ascending order.
+abbrev pub free_below : List (List ℕ) → ℕ → List ℕ
+free_below table n = filter (λ (p : ℕ). space_word table p == 0) (range_with_len 0 n)
+
+-- A pool that begins with some pages. What stands past them stays.
+abbrev pub pool_with : List ℕ → List ℕ → List ℕ
+pool_with pages pool = pages ++ drop (length pages) pool
+
+-- The contents with a pool of exactly the free pages, in ascending order, of which none is claimed.
+abbrev pub with_pool_rebuilt : Contents → Contents
+with_pool_rebuilt c =
+    let pages = free_below c.table (length c.table) in
+    let filled = record c { pool = pool_with pages c.pool } in
+    with_head (with_head filled CLAIM_COUNTER 0) POOL_LENGTH (length pages)
+
+-- The entry of a page after a space's pages are freed.
+abbrev pub freed : Space → List ℕ → List ℕ
+freed x r = cond (slice_index r 0 == space_index x + 1) (0 ∷ 0 ∷ []) r
+
+-- The page table after the pages of a space are freed.
+abbrev pub freed_table : Space → List (List ℕ) → List (List ℕ)
+freed_table x table = map (freed x) table
+
+-- The contents after a region has given back its pages: it has no current page, and the pool is made anew.
+abbrev pub with_released : Contents → ℕ → ℕ → Space → Contents
+with_released c t d x = with_pool_rebuilt (with_current (record c { table = freed_table x c.table }) t d 0)
