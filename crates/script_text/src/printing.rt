@@ -28,7 +28,7 @@ fn push_feeds(text: &mut String, count: u32) -> Result<(), AllocError>
 }
 
 /// The text of a script, as a string.
-fn printed(alloc: Global, script: &Script) -> Result<String, AllocError>
+fn script_string(alloc: Global, script: &Script) -> Result<String, AllocError>
     requires { IsValid script.now }
     ensures text { IfOk result (λ text. string_bytes text ≡ script_text script.now) }
     ensures reads { IfOk result (λ text. IsScript (string_bytes text) script.now) }
@@ -53,7 +53,7 @@ pub fn print_script(alloc: Global, script: &Script) -> Result<Vec<u8>, NoMemory>
     ensures text { IfOk result (λ text. text.items ≡ script_text script.now) }
     ensures reads { IfOk result (λ text. IsScript text.items script.now) }
 {
-    match printed(alloc, script) {
+    match script_string(alloc, script) {
         Ok(text) => Ok(text.into_bytes()),
         Err(_) => Err(NoMemory),
     }

@@ -7,7 +7,7 @@ use Rattle.script_text.specs.Contents.{Contents}
 use Rattle.script_text.specs.Scripts.{header_words}
 use Rattle.script_text.specs.Printing.{spaced}
 use Rattle.script_text.proofs.Spelling.{IsPrintedTo, begins, goes_on, ends, ends_text}
-use Rattle.script_text.proofs.printing.printed.Goals as goal
+use Rattle.script_text.proofs.printing.script_string.Goals as goal
 
 lines_of : Contents → List Line
 lines_of script = script.lines
