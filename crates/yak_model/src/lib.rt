@@ -4,6 +4,9 @@
 
 pub mod datum;
 pub mod graph;
+pub mod homes;
+pub mod laws;
+pub mod space_state;
 pub mod spaces;
 
 /// The greatest number of slots of a stack.
