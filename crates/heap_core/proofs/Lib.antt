@@ -1,0 +1,5 @@
+pub mod Opens
+pub mod Opening
+pub mod Steps
+pub mod Reached
+pub mod Sound

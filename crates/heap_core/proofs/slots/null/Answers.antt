@@ -1,0 +1,7 @@
+use Rattle.heap_words.specs.Contents.{contents}
+use Rattle.heap_core.proofs.Steps.{null_turns}
+use Rattle.heap_core.proofs.slots.null.Goals as goal
+
+pub returns-clause-turns : goal.returns-clause-turns
+returns-clause-turns g c =
+    null_turns c.args.map (contents c.args.map (g.W.Words.words c.args.words.now)) (contents c.args.map (g.W.Words.words c.push_word.new.words)) c.args.thread c.encode_value.result c.push_word.result c.requires.thread c.encode_value.ensures.word c.push_word.ensures.pushed

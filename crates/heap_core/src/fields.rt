@@ -1,0 +1,82 @@
+//! Calls on the fields of a slot's object.
+
+ghost use Rattle.std.specs.Prelude.{◌≡◌, ◌≤◌, ◌<◌, ◌+◌, ◌-◌, ◌*◌, ◌^◌, ◌%◌, ℕ, length, IfOk, MatchResult};
+ghost use Rattle.heap_words.specs.Map.{HasThread, heap_length};
+ghost use Rattle.heap_words.specs.Contents.{contents, Sound};
+ghost use Rattle.yak_model.specs.Spaces.{SpaceState};
+ghost use Rattle.yak_model.specs.Stands.{Stands};
+ghost use Rattle.heap_core.specs.Steps.{Turned};
+ghost use Rattle.heap_core.specs.Fields.{IsFieldOf, no_field};
+
+use crate::slots::push_word;
+use heap_words::{Areas, Words, get_heap, set_heap};
+use object_layout::{Call, OBJECT_WORDS, Refusal, Reply, address, field_count};
+use thread_stacks::slot;
+
+/// The heap word of a field of the object that a slot refers to, or why there is none.
+pub fn field_of<W: Words>(
+    words: &mut W,
+    map: Areas,
+    thread: u8,
+    s: u32,
+    f: u32,
+) -> Result<usize, Refusal>
+    requires sound { Sound map (W.words words.old) }
+    requires thread { HasThread map thread }
+    requires stands { ∥ ((state : SpaceState) × Stands map (contents map (W.words words.old)) state) ∥₁ }
+    ensures field { (state : SpaceState) → (h : Stands map (contents map (W.words words.old)) state) → MatchResult result (IsFieldOf state h.places.at thread s f) (λ why. no_field state.graph thread s f ≡ Some why) }
+    ensures within { IfOk result (λ a. a < heap_length map) }
+    ensures words { W.words words.new ≡ W.words words.old }
+    ensures base { W.base words.new ≡ W.base words.old }
+{
+    let Ok(word) = slot(words, map, thread, s) else {
+        return Err(Refusal::BadSlot);
+    };
+    let Some(object) = address(word) else {
+        return Err(Refusal::NotAReference);
+    };
+    let count = field_count(get_heap(words, map, object));
+    if f as usize >= count {
+        return Err(Refusal::BadField);
+    }
+    Ok(object + OBJECT_WORDS as usize + f as usize)
+}
+
+/// Pushes a field of a slot's object.
+pub fn load<W: Words>(words: &mut W, map: Areas, thread: u8, s: u32, f: u32) -> Reply
+    requires sound { Sound map (W.words words.old) }
+    requires thread { HasThread map thread }
+    requires stands { ∥ ((state : SpaceState) × Stands map (contents map (W.words words.old)) state) ∥₁ }
+    ensures turns { Turned map (contents map (W.words words.old)) (contents map (W.words words.new)) thread (Call.Load s f) result }
+    ensures sound { Sound map (W.words words.new) }
+    ensures base { W.base words.new ≡ W.base words.old }
+{
+    match field_of(words, map, thread, s, f) {
+        Ok(a) => {
+            let word = get_heap(words, map, a);
+            push_word(words, map, thread, word)
+        }
+        Err(why) => Reply::Refused(why),
+    }
+}
+
+/// Puts the value of slot x into a field of the object of slot s.
+pub fn store<W: Words>(words: &mut W, map: Areas, thread: u8, s: u32, f: u32, x: u32) -> Reply
+    requires sound { Sound map (W.words words.old) }
+    requires thread { HasThread map thread }
+    requires stands { ∥ ((state : SpaceState) × Stands map (contents map (W.words words.old)) state) ∥₁ }
+    ensures turns { Turned map (contents map (W.words words.old)) (contents map (W.words words.new)) thread (Call.Store s f x) result }
+    ensures sound { Sound map (W.words words.new) }
+    ensures base { W.base words.new ≡ W.base words.old }
+{
+    let Ok(word) = slot(words, map, thread, x) else {
+        return Reply::Refused(Refusal::BadSlot);
+    };
+    match field_of(words, map, thread, s, f) {
+        Ok(a) => {
+            set_heap(words, map, a, word);
+            Reply::Ok
+        }
+        Err(why) => Reply::Refused(why),
+    }
+}

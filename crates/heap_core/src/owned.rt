@@ -1,0 +1,106 @@
+//! A heap that is owned, with its words.
+
+ghost use Rattle.std.specs.Prelude.{◌≡◌, ◌≤◌, ◌<◌, ◌+◌, ◌-◌, ◌↔◌, ℕ, false, IfOk, IfErr, None};
+ghost use Rattle.object_layout.specs.Calls.{IsCall};
+ghost use Rattle.heap_words.specs.Map.{HasThread, IsAreas};
+ghost use Rattle.heap_words.specs.Contents.{contents, Sound};
+ghost use Rattle.yak_model.specs.Graph.{standard_limits};
+ghost use Rattle.yak_model.specs.Spaces.{SpaceState, TurnsAll, opening_spaces};
+ghost use Rattle.yak_model.specs.Stands.{Stands};
+ghost use Rattle.heap_core.specs.Steps.{IsBuilt, entries};
+
+use crate::calls::answer;
+use crate::made::open_words;
+use heap_words::{Areas, Image, MakeError, Words};
+use object_layout::{Call, Census, Reply, Shortage};
+use std::alloc::Global;
+
+/// What a step says.
+#[derive(Clone, Copy, Debug, PartialEq, Eq, Drop)]
+pub struct Stepped {
+    pub reply: Reply,
+    /// Whether the step made a collection of the control space before it answered.
+    pub collected: bool,
+    /// The pages at an `OutOfHeap`.
+    pub full: Option<Census>,
+    /// The pages at an end whose objects had to stay in the region's own pages.
+    pub shortage: Option<Shortage>,
+}
+
+/// A heap, of which one call is made at a time. Its words stand for a state of the model.
+#[derive(Drop)]
+pub struct Core<W: Words> {
+    words: W,
+    map: Areas,
+    ghost own: { map ≡ W.map (W.base words) },
+    ghost stands: { ∥ ((s : SpaceState) × Stands map (contents map (W.words words)) s) ∥₁ },
+}
+
+impl Core<Image> {
+    /// A new heap of so many pages and threads, in the opening state.
+    pub fn new(alloc: Global, pages: u32, threads: u8) -> Result<Core<Image>, MakeError>
+        ensures opening { IfOk result (λ core. Stands core.map (contents core.map (⟦<Image as Words>⟧.words core.words)) (opening_spaces standard_limits threads)) }
+        ensures map { IfOk result (λ core. core.map ≡ record { pages = pages; threads = threads }) }
+        ensures within_limits { IfOk result (λ _. IsAreas (record { pages = pages; threads = threads })) }
+        ensures refused { IfErr result (λ e. (e ≡ MakeError.BadConfig) ↔ ¬ IsAreas (record { pages = pages; threads = threads })) }
+    {
+        let mut words = Image::new(alloc, pages, threads)?;
+        let map = words.map();
+        open_words(&mut words, map);
+        Ok(Core { words, map })
+    }
+}
+
+impl<W: Words> Core<W> {
+    /// A heap over words that stand for a state.
+    pub fn over(words: W, map: Areas) -> Core<W>
+        requires own { map ≡ W.map (W.base words) }
+        requires stands { ∥ ((s : SpaceState) × Stands map (contents map (W.words words)) s) ∥₁ }
+        ensures words { result.words ≡ words }
+        ensures map { result.map ≡ map }
+    {
+        Core { words, map }
+    }
+
+    /// Makes a call of a thread.
+    pub fn step(&mut self, thread: u8, call: Call) -> Stepped
+        requires thread { HasThread self.old.map thread }
+        requires number { IsCall call }
+        requires built { IsBuilt call }
+        ensures turns { (s : SpaceState) → Stands self.old.map (contents self.old.map (W.words self.old.words)) s → (after : SpaceState) × TurnsAll s (entries thread call result) after × Stands self.new.map (contents self.new.map (W.words self.new.words)) after }
+        ensures collected { result.collected ≡ false }
+        ensures full { result.full ≡ None }
+        ensures shortage { result.shortage ≡ None }
+        ensures map { self.new.map ≡ self.old.map }
+        ensures base { W.base self.new.words ≡ W.base self.old.words }
+    {
+        let reply = answer(&mut self.words, self.map, thread, call);
+        Stepped {
+            reply,
+            collected: false,
+            full: None,
+            shortage: None,
+        }
+    }
+
+    /// The number of threads.
+    pub fn threads(&self) -> u8
+        ensures { result ≡ self.now.map.threads }
+    {
+        self.map.threads
+    }
+
+    /// The number of pages.
+    pub fn pages(&self) -> u32
+        ensures { result ≡ self.now.map.pages }
+    {
+        self.map.pages
+    }
+
+    /// The words of the heap.
+    pub fn into_words(self) -> W
+        ensures { result ≡ self.words }
+    {
+        self.words
+    }
+}

@@ -1,0 +1,4 @@
+pub mod Pages
+pub mod Placement
+pub mod Counts
+pub mod Freeing

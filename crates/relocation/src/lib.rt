@@ -1,0 +1,16 @@
+//! The moving of objects: plans of moves, the correcting of references by a plan, and the moves themselves.
+//!
+//! A plan stands in the scratch area, three words for each move: the old address, the new address and the
+//! number of the new space. While it is made, the work word of each object that it moves tells the number of
+//! the move, from 1, so that a reference is corrected without a search.
+#![tactic(auto)]
+
+mod corrections;
+mod moves;
+mod plans;
+#[cfg(test)]
+mod tests;
+
+pub use corrections::correct;
+pub use moves::move_all;
+pub use plans::{Move, Plan, add_move, empty_plan, read_move};

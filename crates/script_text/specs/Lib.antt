@@ -1,0 +1,9 @@
+pub mod Commands
+pub mod Contents
+pub mod Digits
+pub mod Words
+pub mod Faults
+pub mod Scripts
+pub mod Reasons
+pub mod Printing
+pub mod Replies

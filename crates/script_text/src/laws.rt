@@ -1,0 +1,23 @@
+//! Laws of the format, as contracts of functions that do nothing.
+ghost use Rattle.std.specs.Prelude.{◌≡◌, ℕ, List};
+ghost use Rattle.script_text.specs.declared.faults.Bad.{Bad};
+ghost use Rattle.script_text.specs.Contents.{Contents};
+ghost use Rattle.script_text.specs.Scripts.{IsScript, IsBad};
+
+/// A text is one script at most.
+#[tactic(auto, using(crate::proofs::Single::same_script))]
+pub fn law_one_script()
+    ensures { (bytes : List ℕ) (one other : Contents) → IsScript bytes one → IsScript bytes other → one ≡ other }
+{}
+
+/// A text is refused at one line and for one reason at most.
+#[tactic(auto, using(crate::proofs::Single::same_refusal))]
+pub fn law_one_refusal()
+    ensures { (bytes : List ℕ) (one other : Bad) → IsBad bytes one → IsBad bytes other → one ≡ other }
+{}
+
+/// No text is both a script and refused.
+#[tactic(auto, using(crate::proofs::Single::script_or_refusal))]
+pub fn law_script_or_refusal()
+    ensures { (bytes : List ℕ) (script : Contents) (bad : Bad) → IsScript bytes script → IsBad bytes bad → ⊥ }
+{}

@@ -1,0 +1,27 @@
+//! The text of scripts and of replies, both ways.
+#![tactic(auto)]
+
+mod commands;
+mod faults;
+mod laws;
+mod numbers;
+mod printing;
+mod reading;
+mod replies;
+mod scripts;
+#[cfg(test)]
+mod tests;
+mod words;
+
+pub use commands::find_call;
+pub use faults::{Bad, ReadError, Reason};
+pub use laws::{law_one_refusal, law_one_script, law_script_or_refusal};
+pub use printing::print_script;
+pub use reading::{command_word, read_script, text_lines};
+pub use replies::print_reply;
+pub use scripts::{Line, Script};
+
+/// The greatest number of bytes of a text that is read.
+pub const INPUT_LIMIT: usize = 16777216;
+/// The greatest number of pages of a heap.
+pub const MAX_PAGES: u32 = 4096;
