@@ -4,6 +4,7 @@
 mod calls;
 mod fields;
 mod made;
+mod objects;
 mod owned;
 mod slots;
 
@@ -14,8 +15,6 @@ pub use owned::{Core, Stepped};
 pub const ROOT_FIELDS: u16 = 16;
 /// The words of the root object.
 pub const ROOT_WORDS: u64 = 19;
-/// Which of the first words has the pool's length.
-pub const POOL_LENGTH: usize = 2;
 
 #[cfg(test)]
 mod tests {
