@@ -8,6 +8,8 @@ mod homes;
 pub mod laws;
 pub mod space_state;
 mod spaces;
+#[cfg(test)]
+mod tests;
 
 pub use datum::Datum;
 pub use graph::GraphState;
