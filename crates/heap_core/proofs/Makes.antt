@@ -17,6 +17,7 @@ use Rattle.heap_words.specs.declared.map.Areas.{Areas}
 use Rattle.heap_words.specs.declared.TheConstants.{STACK_SLOTS}
 use Rattle.heap_words.specs.Map.{HasThread, IsAreas, heap_length, max_depth, page_words}
 use Rattle.heap_words.specs.Contents.{Contents, depth_of, made_of, stack_of, with_heap, with_made, with_stack}
+use Rattle.epoch_lattice.specs.declared.Space.{Space}
 use Rattle.epoch_lattice.specs.Lattice.{inner_of, space_index}
 use Rattle.yak_model.specs.declared.datum.Datum.TheVariants as datum
 use Rattle.yak_model.specs.Graph.{Limits, is_stack_full, next_name, thread_of}
@@ -28,7 +29,7 @@ use Rattle.yak_model.specs.Stands.{CurrentsStand, PoolStands, Stands, StandsAs}
 use Rattle.yak_model.proofs.Grown.{grown}
 use Rattle.yak_model.proofs.Placed.{same_name-self}
 use Rattle.yak_model.proofs.Stacks.{all-at, stack_length}
-use Rattle.region_pages.specs.Placement.{IsPlaced, IsWithinPage}
+use Rattle.region_pages.specs.Placement.{IsPlaced, IsLastInPage}
 use Rattle.region_pages.proofs.Shapes.{Shape}
 use Rattle.heap_core.specs.Steps.{IsPushed, Turned}
 use Rattle.heap_core.specs.Objects.{IsWritten}
@@ -173,8 +174,8 @@ make_turns m c c1 c2 c3 d t k made a first second w r areas ht few room is_made 
     absurd (omega (arith, p.0, same)))
     pushed
 
--- words within a page lie in the heap
-pub within-heap : (m : Areas) (a size : ℕ) → IsWithinPage m a size → a + size ≤ heap_length m
-within-heap m a size h =
+-- the last words of a page lie in the heap
+pub within-heap : (m : Areas) (table : List (List ℕ)) (x : Space) (a size : ℕ) → IsLastInPage m table x a size → a + size ≤ heap_length m
+within-heap m table x a size h =
     let le : h.page + 1 ≤ m.pages = omega (arith, h.exists) in
-    omega (arith, h.to, mul-le-mul_left (page_words m) le)
+    omega (arith, h.ends, h.fits, mul-le-mul_left (page_words m) le)
