@@ -13,7 +13,8 @@ write_object-requires-clause-within g c = c.in-Ok.ensures.within
 pub returns-in_default-clause-turns : goal.returns-in_default-clause-turns
 returns-in_default-clause-turns g c =
     let left = rw c.requires.made at c.requires.unspent in
-    rw (c.in_default.ensures.none.2, c.new_header-header.ensures.words) (out_of_heap c.args.map (contents c.args.map (g.W.Words.words c.args.words.now)) c.args.thread c.args.fields c.requires.thread c.requires.few c.requires.slot left)
+    let none = rw c.new_header-header.ensures.words at c.in_default.ensures.none in
+    rw (c.in_default.ensures.none.2, c.new_header-header.ensures.words) (out_of_heap c.args.map (contents c.args.map (g.W.Words.words c.args.words.now)) c.args.thread c.args.fields c.requires.thread c.requires.few c.requires.slot left (record { few_left = none.0; none_free = none.1 }))
 
 pub returns-clause-turns : goal.returns-clause-turns
 returns-clause-turns g c =
