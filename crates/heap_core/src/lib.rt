@@ -44,4 +44,25 @@ mod tests {
         );
         Ok(())
     }
+
+    #[test]
+    fn two_threads_fill_the_heap(rt: HostRuntime) -> Result<(), Fail> {
+        let mut core = match Core::new(rt.alloc(), 2, 2) {
+            Ok(core) => core,
+            Err(error) => {
+                println!(rt; "{error}")?;
+                return Ok(());
+            }
+        };
+        assert_eq!(rt; core.step(2, Call::New(0)).reply, Reply::Ok);
+        assert_eq!(rt; core.step(1, Call::New(234)).reply, Reply::Ok);
+        assert_eq!(rt; core.step(1, Call::New(0)).reply, Reply::OutOfHeap);
+        assert_eq!(rt; core.step(2, Call::Dup(1)).reply, Reply::Ok);
+        assert_eq!(rt; core.step(2, Call::Same(1, 2)).reply, Reply::Yes);
+        assert_eq!(rt;
+            core.step(2, Call::Store(1, 0, 0)).reply,
+            Reply::Refused(Refusal::BadField)
+        );
+        Ok(())
+    }
 }

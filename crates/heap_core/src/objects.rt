@@ -9,7 +9,7 @@ ghost use Rattle.heap_words.specs.Contents.{contents, depth_of, made_of, stack_o
 ghost use Rattle.epoch_lattice.specs.Lattice.{inner_of, space_index};
 ghost use Rattle.yak_model.specs.Spaces.{SpaceState};
 ghost use Rattle.yak_model.specs.Stands.{CurrentsStand, PoolStands, Stands, free_pages};
-ghost use Rattle.region_pages.specs.Placement.{IsPlaced, IsWithinPage, words_left_at};
+ghost use Rattle.region_pages.specs.Placement.{IsPlaced, words_left_at};
 ghost use Rattle.heap_core.specs.Steps.{Turned};
 ghost use Rattle.heap_core.specs.Objects.{IsWritten};
 
@@ -63,7 +63,8 @@ fn new_place<W: Words>(words: &mut W, map: Areas, thread: u8, size: u16) -> Resu
     requires stands { ∥ ((state : SpaceState) × Stands map (contents map (W.words words.old)) state) ∥₁ }
     requires least { OBJECT_WORDS ≤ size }
     requires most { size ≤ page_words map }
-    ensures placed { let c = contents map (W.words words.old) in IfOk result (λ a. IsPlaced map c thread (inner_of thread (depth_of c thread)) size a.0 (contents map (W.words words.new)) × IsWithinPage map a.0 size) }
+    ensures placed { let c = contents map (W.words words.old) in IfOk result (λ a. IsPlaced map c thread (inner_of thread (depth_of c thread)) size a.0 (contents map (W.words words.new))) }
+    ensures within { IfOk result (λ a. a.0 + size ≤ heap_length map) }
     ensures none { let c = contents map (W.words words.old) in IfErr result (λ _. (words_left_at map c thread (depth_of c thread) < size) × (free_pages c.heads c.pool ≡ []) × (W.words words.new ≡ W.words words.old)) }
     ensures sound { Sound map (W.words words.new) }
     ensures pool { let c = contents map (W.words words.new) in PoolStands map c.heads c.pool c.table }
