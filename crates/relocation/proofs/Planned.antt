@@ -1,4 +1,4 @@
-use Rattle.std.proofs.Common.{◌≡◌, ℕ, ◌+◌, ◌*◌, ◌≤◌, ◌<◌, Some, List, length, get_or, set, refl, ap, ◌∙◌, arith, length-set, get_or-set_same, get_or-set_other}
+use Rattle.std.proofs.Common.{◌≡◌, ◌≢◌, ℕ, ◌+◌, ◌*◌, ◌≤◌, ◌<◌, Some, List, length, get_or, set, refl, ap, ◌∙◌, arith, length-set, get_or-set_same, get_or-set_other}
 use Rattle.std.proofs.lemmas.Bool.{cases_eq}
 use Rattle.std.proofs.Math.Logic.{⊎_elim}
 use Rattle.heap_words.specs.declared.map.Areas.{Areas}
@@ -69,3 +69,20 @@ numbered-more m heap k o n x moves moves' h room up within place long former add
           rw (olds j jk) (get_or-set_other heap (o + 2) ((moves j).old + 2) (k + 1) 0 (λ e. omega arith) ∙ h.marks j jk))
           (cases_eq j k);
     }
+
+pub numbered-none : (m : Areas) (heap : List ℕ) (moves : ℕ → Move) → Numbered m heap 0 moves
+numbered-none m heap moves = record {
+  room = omega arith;
+  ascending = λ j k lt le. absurd (omega arith);
+  within = λ k lt. absurd (omega arith);
+  marks = λ k lt. absurd (omega arith);
+}
+
+-- a word that is no work word of a moved object
+pub numbered-kept : (m : Areas) (heap : List ℕ) (count : ℕ) (moves : ℕ → Move) (i v : ℕ) → Numbered m heap count moves → ((k : ℕ) → k < count → (moves k).old + 2 ≢ i) → Numbered m (set heap i v) count moves
+numbered-kept m heap count moves i v h none = record {
+  room = h.room;
+  ascending = h.ascending;
+  within = h.within;
+  marks = λ k lt. get_or-set_other heap i ((moves k).old + 2) v 0 (none k lt) ∙ h.marks k lt;
+}

@@ -8,6 +8,8 @@
 mod corrections;
 mod moves;
 mod plans;
+#[cfg(test)]
+mod tests;
 
 pub use corrections::correct;
 pub use moves::move_all;
