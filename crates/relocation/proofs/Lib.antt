@@ -4,3 +4,4 @@ pub mod Moving
 pub mod Lawful
 pub mod Corrected
 pub mod Planned
+pub mod Laid
