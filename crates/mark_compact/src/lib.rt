@@ -2,6 +2,5 @@
 #![tactic(auto)]
 
 mod marking;
-mod pages;
 
 pub use marking::mark;

@@ -14,7 +14,7 @@ ghost use Rattle.relocation.specs.Laid.{Laid};
 ghost use Rattle.mark_compact.specs.Marked.{MarksLive};
 ghost use Rattle.mark_compact.specs.Marking.{Marking, GoesOn, IsLead, IsFollowed, IsAliveAt, IsScanned, IsStackMarked, IsPagePassed, ArePagesPassed, AreListedScanned};
 
-use crate::pages::page_start;
+use relocation::page_start;
 use heap_words::{
     Areas, Words, get_heap, get_page, get_scratch, get_stack, set_heap, set_scratch, stack_length,
 };
