@@ -1,8 +1,8 @@
 -- Regions stay half full where objects are placed.
-use Rattle.std.proofs.Common.{◌≡◌, ◌≢◌, ◌==◌, ℕ, zero, suc, ◌+◌, ◌-◌, ◌*◌, ◌≤◌, ◌<◌, Bool, true, false, cond, List, [], ◌∷◌, length, get_or, set, slice_index, refl, sym, ap, ◌∙◌, subst, arith, inl, inr, ◌⊎◌, ⊎_elim, Option}
-use Rattle.std.proofs.lemmas.Bool.{cases_eq, cases_lt}
-use Rattle.std.proofs.lemmas.Bool.Decides.{nat_tests, Decides-eqb}
-use Rattle.std.proofs.lemmas.List.{get_or-set_other, get_or-set_same, length-set}
+use Rattle.std.proofs.Common.{◌≡◌, ◌≢◌, ◌==◌, ℕ, zero, suc, ◌+◌, ◌-◌, ◌≤◌, ◌<◌, cond, List, [], length, get_or, set, slice_index, refl, sym, ap, ◌∙◌, subst, arith, inl, inr, ◌⊎◌, ⊎_elim, Option}
+use Rattle.std.proofs.lemmas.Bool.{cases_eq}
+use Rattle.std.proofs.lemmas.Bool.Decides.{nat_tests}
+use Rattle.std.proofs.lemmas.List.{get_or-set_other, length-set}
 use Rattle.std.proofs.lemmas.List.Sums.{sum_by-set}
 use Rattle.object_layout.specs.declared.names.Name.{Name}
 use Rattle.heap_words.specs.declared.map.Areas.{Areas}
@@ -16,12 +16,13 @@ use Rattle.epoch_lattice.specs.Lattice.{IsValid, space_index, inner_of}
 use Rattle.epoch_lattice.proofs.Numbers.{number-own}
 use Rattle.yak_model.specs.State.{Thing}
 use Rattle.yak_model.specs.Placed.{space_word, used_mark}
-use Rattle.yak_model.specs.Stands.{current, CurrentsStand, pages_of, words_of, RegionsDense}
-use Rattle.region_pages.specs.Placement.{words_left_at}
+use Rattle.yak_model.specs.Stands.{current, free_pages, PoolStands, CurrentsStand, pages_of, words_of, RegionsDense}
+use Rattle.yak_model.specs.Packed.{IsSpaceOf}
+use Rattle.region_pages.specs.Placement.{IsOwn, IsPlaced, IsPlacedInCurrent, IsPlacedOnClaimed, depth_in, words_left_at}
 use Rattle.region_pages.proofs.Shapes.{Shape}
 use Rattle.region_pages.proofs.Entries.{used-with_used, used-with_used_other, entry-same, entry-other, current-cases}
-use Rattle.region_pages.proofs.Claims.{entry}
-use Rattle.region_pages.proofs.Placing.{not_current}
+use Rattle.region_pages.proofs.Claims.{entry, free_page}
+use Rattle.region_pages.proofs.Placing.{current_within, depth_fits, inner_is, not_current}
 use Rattle.region_pages.proofs.Released.{inner_region, inner_valid}
 
 -- the pages of a space after a used mark is written, and after a free page is entered
@@ -65,7 +66,7 @@ same_region v e t d =
     (cases_eq v t)
 
 -- an object was placed in the current page
-pub dense-in_current : (m : Areas) (c : Contents) (pages pages' : List (List Name)) (objects objects' : Name → Option Thing) (t d page size : ℕ) → Shape m c → HasThread m t → page < m.pages → current c.currents t d ≡ page + 1 → CurrentsStand m c.currents c.table → ((y : Space) → words_of pages objects y ≤ words_of pages' objects' y) → words_of pages objects (Region t d) + size ≤ words_of pages' objects' (Region t d) → RegionsDense m c.table c.currents pages objects → RegionsDense m (row_set c.table page 1 (used_mark c.table page + size)) c.currents pages' objects'
+pub dense-in_current : (m : Areas) (c : Contents) (pages pages' : List (List Name)) (objects objects' : Name → Option Thing) (t d page size : ℕ) → Shape m c → HasThread m t → page < m.pages → current c.currents t d ≡ page + 1 → CurrentsStand m c.currents c.table → ((y : Space) → words_of pages objects y ≤ words_of pages' objects' y) → (1 ≤ d → words_of pages objects (Region t d) + size ≤ words_of pages' objects' (Region t d)) → RegionsDense m c.table c.currents pages objects → RegionsDense m (row_set c.table page 1 (used_mark c.table page + size)) c.currents pages' objects'
 dense-in_current m c pages pages' objects objects' t d page size s ht lt at stands more own dense v e hv lv he le some =
     let u : ℕ = used_mark c.table page + size in
     let y : Space = Region v e in
@@ -79,7 +80,7 @@ dense-in_current m c pages pages' objects objects' t d page size s ht lt at stan
     let mark_old = ap (λ (q : ℕ). used_mark c.table q) back in
     let region = ap (λ (k : ℕ). words_of pages objects (Region k e)) w.0 ∙ ap (λ (k : ℕ). words_of pages objects (Region t k)) w.1 in
     let region' = ap (λ (k : ℕ). words_of pages' objects' (Region k e)) w.0 ∙ ap (λ (k : ℕ). words_of pages' objects' (Region t k)) w.1 in
-    (old.0, omega (arith, old.1, count, mark, mark_old, region, region', own)))
+    (old.0, omega (arith, old.1, count, mark, mark_old, region, region', own (omega (arith, w.1)))))
     (λ (w : (v ≡ t) × (e ≡ d) → ⊥).
     let apart : current c.currents v e - 1 ≢ page = λ q. w (stands.once v e t d hv lv ht.0 ht.1 old.0 (omega (arith, old.0, q, at))) in
     let mark = used-with_used_other c.table page (current c.currents v e - 1) u apart in
@@ -100,7 +101,7 @@ left_some : (m : Areas) (c : Contents) (t d : ℕ) → current c.currents t d �
 left_some m c t d some = grind (arith, nat_tests)
 
 -- an object was placed on a claimed page
-pub dense-on_claimed : (m : Areas) (c : Contents) (pages pages' : List (List Name)) (objects objects' : Name → Option Thing) (t d page size : ℕ) → Shape m c → IsAreas m → HasThread m t → d ≤ max_depth m → page < m.pages → space_word c.table page ≡ 0 → words_left_at m c t d < size → CurrentsStand m c.currents c.table → ((y : Space) → words_of pages objects y ≤ words_of pages' objects' y) → words_of pages objects (Region t d) + size ≤ words_of pages' objects' (Region t d) → RegionsDense m c.table c.currents pages objects → RegionsDense m (row_set (set c.table page (entry (inner_of t d))) page 1 size) (row_set c.currents (t - 1) d (page + 1)) pages' objects'
+pub dense-on_claimed : (m : Areas) (c : Contents) (pages pages' : List (List Name)) (objects objects' : Name → Option Thing) (t d page size : ℕ) → Shape m c → IsAreas m → HasThread m t → d ≤ max_depth m → page < m.pages → space_word c.table page ≡ 0 → words_left_at m c t d < size → CurrentsStand m c.currents c.table → ((y : Space) → words_of pages objects y ≤ words_of pages' objects' y) → (1 ≤ d → words_of pages objects (Region t d) + size ≤ words_of pages' objects' (Region t d)) → RegionsDense m c.table c.currents pages objects → RegionsDense m (row_set (set c.table page (entry (inner_of t d))) page 1 size) (row_set c.currents (t - 1) d (page + 1)) pages' objects'
 dense-on_claimed m c pages pages' objects objects' t d page size s areas ht hd lt free few stands more own dense v e hv lv he le some =
     let x : Space = inner_of t d in
     let y : Space = Region v e in
@@ -119,13 +120,13 @@ dense-on_claimed m c pages pages' objects objects' t d page size s areas ht hd l
     let region = ap (λ (k : ℕ). words_of pages objects (Region k e)) w.0 ∙ ap (λ (k : ℕ). words_of pages objects (Region t k)) w.1 in
     let region' = ap (λ (k : ℕ). words_of pages' objects' (Region k e)) w.0 ∙ ap (λ (k : ℕ). words_of pages' objects' (Region t k)) w.1 in (
       omega (arith, w.2),
-      ⊎_elim (λ (none : 0 ≡ pages_of c.table y). omega (arith, count, own_count, mark, region, region', own, none))
+      ⊎_elim (λ (none : 0 ≡ pages_of c.table y). omega (arith, count, own_count, mark, region, region', own (omega (arith, w.1)), none))
           (λ (ne : 0 ≢ pages_of c.table y).
           let old = dense v e hv lv he le (omega (arith, ne)) in
           let here : current c.currents v e ≡ current c.currents t d = ap (λ (k : ℕ). current c.currents k e) w.0 ∙ ap (λ (k : ℕ). current c.currents t k) w.1 in
           let left = left_some m c t d (λ z. old.0 (here ∙ z)) in
           let mark_old = ap (λ (k : ℕ). used_mark c.table (k - 1)) here in
-          omega (arith, old.1, count, own_count, mark, mark_old, left, few, region, region', own, ne))
+          omega (arith, old.1, count, own_count, mark, mark_old, left, few, region, region', own (omega (arith, w.1)), ne))
           (cases_eq 0 (pages_of c.table y)),
     ))
     (λ (w : ((v ≡ t) × (e ≡ d) → ⊥) × (current (row_set c.currents (t - 1) d (page + 1)) v e ≡ current c.currents v e)).
@@ -137,3 +138,29 @@ dense-on_claimed m c pages pages' objects objects' t d page size s areas ht hd l
     let mark' = ap (λ (k : ℕ). used_mark (row_set entered page 1 size) (k - 1)) w.1 in
     (λ z. old.0 (sym w.1 ∙ z), omega (arith, old.1, count, kept, mark, mark', more y)))
     (current-cases c.currents t d v e (page + 1) ht.0 hv inside slot)
+
+some_left : (m : Areas) (c : Contents) (t d size : ℕ) → 1 ≤ size → size ≤ words_left_at m c t d → current c.currents t d ≢ 0
+some_left m c t d size least fits = grind (arith, nat_tests)
+
+-- an object was placed, and its words count for its region
+pub dense-placed : (m : Areas) (c after : Contents) (pages pages' : List (List Name)) (objects objects' : Name → Option Thing) (t : ℕ) (x : Space) (size a : ℕ) → Shape m c → IsAreas m → HasThread m t → IsSpaceOf m x → IsOwn t x → 1 ≤ size → PoolStands m c.heads c.pool c.table → CurrentsStand m c.currents c.table → ((y : Space) → words_of pages objects y ≤ words_of pages' objects' y) → (1 ≤ depth_in x → words_of pages objects x + size ≤ words_of pages' objects' x) → IsPlaced m c t x size a after → RegionsDense m c.table c.currents pages objects → RegionsDense m after.table after.currents pages' objects'
+dense-placed m c after pages pages' objects objects' t x size a s areas ht valid owned least pool stands more own placed dense =
+    let d : ℕ = depth_in x in
+    let deep : d ≤ max_depth m = depth_fits m x valid in
+    let P : List (List ℕ) → List (List ℕ) → Type 0 = λ table currents. RegionsDense m table currents pages' objects' in
+    let own' : 1 ≤ d → words_of pages objects (Region t d) + size ≤ words_of pages' objects' (Region t d) = λ le.
+    let is : x ≡ Region t d = sym (inner_is m t x valid owned) ∙ own_region t d t d le refl refl in
+    omega (arith, own le, ap (λ (y : Space). words_of pages objects y) is, ap (λ (y : Space). words_of pages' objects' y) is) in
+    ⊎_elim (λ (w : IsPlacedInCurrent m c t d size a after).
+    let page : ℕ = current c.currents t d - 1 in
+    let some = some_left m c t d size least w.fits in
+    let at : current c.currents t d ≡ page + 1 = omega (arith, some) in
+    let lt : page < m.pages = omega (arith, some, current_within m c t d s ht deep stands some) in
+    subst (λ (y : Contents). P y.table y.currents) (sym w.changed) (dense-in_current m c pages pages' objects objects' t d page size s ht lt at stands more own' dense))
+    (λ (w : (words_left_at m c t d < size) × IsPlacedOnClaimed m c t x size a after).
+    let page : ℕ = w.1.page in
+    let free = free_page m c.heads c.pool c.table page (free_pages after.heads after.pool) pool w.1.free in
+    let old = dense-on_claimed m c pages pages' objects objects' t d page size s areas ht deep free.0 free.1 w.0 stands more own' dense in
+    let new = subst (λ (y : Space). P (row_set (set c.table page (entry y)) page 1 size) (row_set c.currents (t - 1) d (page + 1))) (inner_is m t x valid owned) old in
+    subst (λ (y : Contents). P y.table y.currents) (sym w.1.changed) new)
+    placed

@@ -1,13 +1,11 @@
 -- A free page that is entered for a space holds no object, so the heap stands as before.
-use Rattle.std.proofs.Common.{◌≡◌, ◌≢◌, ℕ, zero, suc, ◌+◌, ◌*◌, ◌≤◌, ◌<◌, List, [], ◌∷◌, length, get_or, set, sum_by, refl, sym, ap, ◌∙◌, subst, arith, inl, inr, ◌⊎◌, ⊎_elim, Option, Some}
+use Rattle.std.proofs.Common.{◌≡◌, ◌≢◌, ℕ, ◌<◌, List, [], ◌∷◌, length, get_or, set, sum_by, refl, sym, ap, ◌∙◌, arith, inl, inr, ◌⊎◌, ⊎_elim, Option}
 use Rattle.std.proofs.lemmas.Bool.{cases_eq}
 use Rattle.object_layout.specs.declared.names.Name.{Name}
 use Rattle.heap_words.specs.declared.map.Areas.{Areas}
-use Rattle.heap_words.specs.Cells.{row}
 use Rattle.epoch_lattice.specs.declared.Space.{Space}
-use Rattle.epoch_lattice.specs.Lattice.{space_index}
 use Rattle.yak_model.specs.State.{Thing, IsOpen}
-use Rattle.yak_model.specs.Placed.{Places, IsAt, HeapStands, names_of, size_by, space_word, used_mark}
+use Rattle.yak_model.specs.Placed.{Places, HeapStands, names_of, size_by, space_word, used_mark}
 use Rattle.yak_model.specs.Stands.{SpacesOpen}
 use Rattle.region_pages.proofs.Entries.{entry-same, entry-other}
 use Rattle.region_pages.proofs.Claims.{entry}
