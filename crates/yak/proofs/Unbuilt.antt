@@ -57,20 +57,21 @@ shape_built Census = (λ h. h, λ h. h)
 built_alike : (a b : Call) → word_of a ≡ word_of b → IsBuilt a → IsBuilt b
 built_alike a b same built = (shape_built b).0 (subst (λ (w : List ℕ). IsBuilt (shape_of w)) same ((shape_built a).1 built))
 
+-- a call is built or not; the search finds which, so that a call that is built later changes nothing here
 built_or_not : (call : Call) → IsBuilt call ⊎ (IsBuilt call → ⊥)
-built_or_not (Int i) = inl tt
-built_or_not Null = inl tt
-built_or_not (Dup s) = inl tt
-built_or_not Pop = inl tt
-built_or_not (New k) = inl tt
-built_or_not (Load s f) = inl tt
-built_or_not (Store s f x) = inl tt
-built_or_not (Get s) = inl tt
-built_or_not (Same s x) = inl tt
-built_or_not Begin = inr (λ h. h)
-built_or_not End = inr (λ h. h)
-built_or_not Collect = inr (λ h. h)
-built_or_not Census = inr (λ h. h)
+built_or_not (Int i) = search (inl, inr)
+built_or_not Null = search (inl, inr)
+built_or_not (Dup s) = search (inl, inr)
+built_or_not Pop = search (inl, inr)
+built_or_not (New k) = search (inl, inr)
+built_or_not (Load s f) = search (inl, inr)
+built_or_not (Store s f x) = search (inl, inr)
+built_or_not (Get s) = search (inl, inr)
+built_or_not (Same s x) = search (inl, inr)
+built_or_not Begin = search (inl, inr)
+built_or_not End = search (inl, inr)
+built_or_not Collect = search (inl, inr)
+built_or_not Census = search (inl, inr)
 
 -- ---- one line
 

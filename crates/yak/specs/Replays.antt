@@ -18,6 +18,7 @@ pub record Answered : Type 0 where
   pub line : Line
   pub reply : Reply
 
+-- the command lines, without the replies
 abbrev pub lines_of : List Answered → List Line
 lines_of answered = map (λ one. one.line) answered
 
@@ -44,6 +45,7 @@ pub record Held : Type 0 where
   pub map : Areas
   pub words : List ℕ
 
+-- such a record, from its parts
 abbrev pub held_of : Areas → List ℕ → Held
 held_of map words = record { map = map; words = words }
 
