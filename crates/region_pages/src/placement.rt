@@ -1,6 +1,7 @@
 //! Where objects are placed.
 
 ghost use Rattle.std.specs.Prelude.{◌≡◌, ◌≤◌, ◌<◌, ◌+◌, ◌*◌, ℕ, IfOk, IfErr, MatchOption, [], ◌∷◌};
+ghost use Rattle.object_layout.specs.declared.TheConstants.{OBJECT_WORDS};
 ghost use Rattle.epoch_lattice.specs.Lattice.{inner_of};
 ghost use Rattle.heap_words.specs.Map.{HasPage, HasThread, max_depth, page_words};
 ghost use Rattle.heap_words.specs.Contents.{contents, Sound};
@@ -31,7 +32,7 @@ pub fn place<W: Words>(
     requires thread { HasThread map thread }
     requires space { IsSpaceOf map space }
     requires own { IsOwn thread space }
-    requires least { 3 ≤ size }
+    requires least { OBJECT_WORDS ≤ size }
     requires most { size ≤ page_words map }
     requires table { TableFits map (contents map (W.words words.old)).table }
     requires pool { let c = contents map (W.words words.old) in PoolStands map c.heads c.pool c.table }
@@ -91,7 +92,7 @@ fn place_in_current<W: Words>(
     requires sound { Sound map (W.words words.old) }
     requires thread { HasThread map thread }
     requires depth { depth ≤ max_depth map }
-    requires least { 3 ≤ size }
+    requires least { OBJECT_WORDS ≤ size }
     requires table { TableFits map (contents map (W.words words.old)).table }
     requires pool { let c = contents map (W.words words.old) in PoolStands map c.heads c.pool c.table }
     requires currents { let c = contents map (W.words words.old) in CurrentsStand map c.currents c.table }
