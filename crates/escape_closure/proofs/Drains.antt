@@ -1,12 +1,10 @@
 -- The list, scanned until it is empty.
-use Rattle.std.proofs.Common.{◌≡◌, ◌≢◌, ◌⊎◌, ℕ, ◌+◌, ◌≤◌, ◌<◌, refl, sym, ap, subst, ◌∙◌, arith, inl, inr}
+use Rattle.std.proofs.Common.{ℕ, arith}
 use Rattle.escape_closure.specs.declared.raising.Tally.{Tally}
-use Rattle.object_layout.specs.declared.names.Name.{Name}
-use Rattle.epoch_lattice.specs.declared.Space.{Space}
 use Rattle.epoch_lattice.proofs.Lattice.{join-idempotent, below-transitive}
 use Rattle.heap_words.specs.declared.map.Areas.{Areas}
 use Rattle.heap_words.specs.Contents.{Contents}
-use Rattle.escape_closure.specs.Raising.{Ended, Raising, Scans, potential}
+use Rattle.escape_closure.specs.Raising.{Ended, Raising, Scans}
 
 pub no_scan : (m : Areas) (e : Ended) (c : Contents) (reads : ℕ) (tally : Tally) → Raising m e c tally → Scans m e c reads c reads tally
 no_scan m e c reads tally rz = record { raising = rz; targets = λ n x here t. (x, t, join-idempotent x); closed = λ q. q; reads = omega arith }

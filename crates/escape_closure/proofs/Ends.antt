@@ -1,5 +1,5 @@
 -- The targets of an end, from the sources to the empty list.
-use Rattle.std.proofs.Common.{◌≡◌, ◌≢◌, ◌⊎◌, ℕ, ◌+◌, ◌-◌, ◌*◌, ◌≤◌, ◌<◌, List, [], ◌∷◌, Option, Some, None, refl, sym, ap, subst, ◌∙◌, arith, inl, inr, get_or, length}
+use Rattle.std.proofs.Common.{◌≡◌, ◌≢◌, ℕ, ◌+◌, ◌-◌, ◌*◌, ◌≤◌, ◌<◌, List, [], ◌∷◌, Some, None, refl, sym, ap, subst, ◌∙◌, arith, inl, inr, get_or, length}
 use Rattle.escape_closure.specs.declared.raising.Tally.{Tally}
 use Rattle.epoch_lattice.specs.declared.TheConstants.{MAX_DEPTH}
 use Rattle.heap_words.specs.declared.TheConstants.{STACK_SLOTS}
@@ -18,9 +18,9 @@ use Rattle.heap_words.specs.Contents.{Contents}
 use Rattle.yak_model.specs.State.{Thing}
 use Rattle.yak_model.specs.Stands.{set_entries, words_in, words_of}
 use Rattle.heap_walks.specs.Laid.{work_of}
-use Rattle.escape_closure.specs.Words.{settled_word, scans_left}
-use Rattle.escape_closure.specs.Raising.{Ended, IsHere, Raising, Rises, RaisesOn, IsClosedOff, Scans, IsStackDue, IsStackPaid, AreEntriesPaid, AreSourcesPaid, EndsAt, TargetsStand, potential}
-use Rattle.escape_closure.proofs.Fields.{then_on, raised_on}
+use Rattle.escape_closure.specs.Words.{scans_left}
+use Rattle.escape_closure.specs.Raising.{Ended, Rises, RaisesOn, IsClosedOff, Scans, IsStackDue, IsStackPaid, AreEntriesPaid, AreSourcesPaid, EndsAt, TargetsStand, potential}
+use Rattle.escape_closure.proofs.Fields.{then_on}
 use Rattle.escape_closure.proofs.Outside.{due_source, slot_still, stack_still, sources_paid}
 use Rattle.heap_walks.specs.Reach.{IsHeldAt}
 use Rattle.escape_closure.proofs.Tells.{index_fits}

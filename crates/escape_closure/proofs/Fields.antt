@@ -1,5 +1,5 @@
 -- The fields of an object of the region, one after another.
-use Rattle.std.proofs.Common.{◌≡◌, ◌≢◌, ◌⊎◌, ℕ, ◌+◌, ◌-◌, ◌*◌, ◌≤◌, ◌<◌, Option, Some, refl, sym, ap, subst, ◌∙◌, arith, inl, inr, get_or, length, below_more}
+use Rattle.std.proofs.Common.{◌≡◌, ℕ, ◌+◌, ◌≤◌, ◌<◌, sym, ap, subst, ◌∙◌, arith, inl, inr, get_or, length, below_more}
 use Rattle.escape_closure.specs.declared.raising.Tally.{Tally}
 use Rattle.epoch_lattice.specs.declared.TheConstants.{MAX_DEPTH}
 use Rattle.object_layout.specs.declared.TheConstants.{OBJECT_WORDS}
@@ -10,7 +10,7 @@ use Rattle.std.proofs.lemmas.List.Elements.{All-get_or, Contains-get_or}
 use Rattle.std.specs.List.{Contains}
 use Rattle.object_layout.specs.declared.names.Name.{Name}
 use Rattle.epoch_lattice.specs.declared.Space.{Space}
-use Rattle.epoch_lattice.specs.Lattice.{IsBelow, IsValid}
+use Rattle.epoch_lattice.specs.Lattice.{IsValid}
 use Rattle.epoch_lattice.proofs.Lattice.{below-transitive}
 use Rattle.yak_model.specs.declared.datum.Datum.TheVariants.{Null, Object}
 use Rattle.yak_model.specs.Spaces.{onward}
@@ -18,12 +18,10 @@ use Rattle.heap_words.specs.declared.map.Areas.{Areas}
 use Rattle.heap_words.specs.Map.{heap_length}
 use Rattle.heap_words.specs.Contents.{Contents}
 use Rattle.yak_model.specs.State.{Thing, IsDatum}
-use Rattle.epoch_lattice.specs.Lattice.{space_index}
 use Rattle.yak_model.specs.Placed.{datum_word}
-use Rattle.heap_walks.specs.Laid.{work_of}
 use Rattle.heap_walks.proofs.Objects.{in_heap, same_address, same_thing, field_now}
-use Rattle.escape_closure.specs.Sources.{IsDue, IsReachedIn}
-use Rattle.escape_closure.specs.Raising.{Ended, IsHere, IsWaiting, HasTarget, IsRaised, Raising, Rises, RaisesOn, IsOwed, IsPaid, IsDueAt, AreFieldsPaidTo, AreFieldsPaid}
+use Rattle.escape_closure.specs.Sources.{IsReachedIn}
+use Rattle.escape_closure.specs.Raising.{Ended, IsHere, IsRaised, Raising, Rises, RaisesOn, IsOwed, IsPaid, IsDueAt, AreFieldsPaidTo, AreFieldsPaid}
 
 pub raised_on : (e : Ended) (c d : Contents) (n : Name) (x : Space) → Rises e c d → IsHere e n → IsRaised e c n x → IsRaised e d n x
 raised_on e c d n x r here up =

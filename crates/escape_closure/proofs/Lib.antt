@@ -8,3 +8,5 @@ pub mod Drains
 pub mod Settles
 pub mod Outside
 pub mod Ends
+pub mod Reaches
+pub mod Written

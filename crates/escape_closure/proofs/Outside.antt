@@ -1,5 +1,5 @@
 -- References into the region from outside.
-use Rattle.std.proofs.Common.{◌≡◌, ◌≢◌, ◌⊎◌, ℕ, ◌+◌, ◌-◌, ◌*◌, ◌/◌, ◌≤◌, ◌<◌, Option, Some, List, [], refl, sym, ap, subst, ◌∙◌, arith, inl, inr, get_or, length, below_more, take, length-take, get_or-take}
+use Rattle.std.proofs.Common.{◌≡◌, ◌≢◌, ℕ, ◌+◌, ◌-◌, ◌*◌, ◌/◌, ◌≤◌, ◌<◌, Some, List, [], refl, sym, ap, subst, ◌∙◌, arith, inl, inr, get_or, length, below_more, take, length-take, get_or-take}
 use Rattle.escape_closure.specs.declared.raising.Tally.{Tally}
 use Rattle.epoch_lattice.specs.declared.TheConstants.{MAX_DEPTH}
 use Rattle.object_layout.specs.declared.TheConstants.{OBJECT_WORDS}
@@ -9,7 +9,7 @@ use Rattle.std.specs.List.{Contains, All, flat_map}
 use Rattle.object_layout.specs.declared.names.Name.{Name}
 use Rattle.epoch_lattice.specs.declared.Space.{Space}
 use Rattle.epoch_lattice.specs.declared.Space.TheVariants.{Control, Region}
-use Rattle.epoch_lattice.specs.Lattice.{IsBelow, IsValid, parent_of}
+use Rattle.epoch_lattice.specs.Lattice.{IsValid, parent_of}
 use Rattle.yak_model.specs.declared.datum.Datum.{Datum}
 use Rattle.yak_model.specs.declared.datum.Datum.TheVariants.{Null, Object}
 use Rattle.yak_model.specs.Spaces.{here}
@@ -24,14 +24,12 @@ use Rattle.yak_model.specs.Placed.{datum_word, size_by, space_word}
 use Rattle.yak_model.specs.Stands.{set_entries}
 use Rattle.yak_model.specs.Recorded.{RecordedAs, IsField, Enters, IsReader}
 use Rattle.yak_model.proofs.Placed.{in_page}
-use Rattle.heap_walks.specs.Laid.{Laid, IsAmong}
-use Rattle.heap_walks.specs.Reach.{IsHeldAt}
-use Rattle.heap_walks.proofs.Objects.{in_heap, same_address, same_thing, size_is, field_now, lie_apart}
+use Rattle.heap_walks.proofs.Objects.{in_heap, same_thing, size_is, field_now, lie_apart}
 use Rattle.heap_walks.proofs.Stacks.{some_row, slot_word}
 use Rattle.heap_walks.proofs.Pages.{table_now}
 use Rattle.escape_closure.specs.Words.{settled_word}
 use Rattle.escape_closure.specs.Sources.{IsDue, IsReachedIn}
-use Rattle.escape_closure.specs.Raising.{Ended, IsHere, IsRaised, Raising, Rises, RaisesOn, IsOwed, IsPaid, IsStackDue, IsStackPaidTo, IsStackPaid, IsSlotPaid, AreEntriesPaid, AreSourcesPaid}
+use Rattle.escape_closure.specs.Raising.{Ended, IsRaised, Raising, Rises, IsOwed, IsPaid, IsStackDue, IsStackPaidTo, IsStackPaid, IsSlotPaid, AreEntriesPaid, AreSourcesPaid}
 use Rattle.escape_closure.proofs.Fields.{raised_on}
 
 -- a source reaches the object to which it refers

@@ -1,15 +1,13 @@
 -- What raising the target behind a reference leaves.
-use Rattle.std.proofs.Common.{◌≡◌, ◌≢◌, ◌⊎◌, ℕ, ◌+◌, ◌-◌, ◌*◌, ◌≤◌, ◌<◌, Option, Some, None, MatchOption, refl, sym, ap, subst, ◌∙◌, arith, inl, inr, get_or, length, set}
+use Rattle.std.proofs.Common.{◌≡◌, ◌≢◌, ℕ, ◌+◌, ◌*◌, ◌≤◌, ◌<◌, Option, Some, None, MatchOption, refl, sym, ap, subst, ◌∙◌, arith, inl, inr, get_or, length, set}
 use Rattle.escape_closure.specs.declared.raising.Tally.{Tally}
 use Rattle.escape_closure.specs.declared.TheConstants.{WAITING}
 use Rattle.epoch_lattice.specs.declared.TheConstants.{MAX_DEPTH}
 use Rattle.object_layout.specs.declared.TheConstants.{MAX_ADDRESS, MAX_FIELDS, MAX_SPACE, OBJECT_WORDS, HEADER_BASE, SPACE_UNIT}
 use Rattle.yak_model.proofs.Data.{some-of}
-use Rattle.heap_words.specs.Contents.{with_heap, with_scratch}
 use Rattle.std.specs.Prelude.{◌==◌, cond}
 use Rattle.object_layout.specs.declared.names.Name.{Name}
 use Rattle.epoch_lattice.specs.declared.Space.{Space}
-use Rattle.epoch_lattice.specs.declared.Space.TheVariants.{Control, Region}
 use Rattle.epoch_lattice.specs.Lattice.{IsBelow, IsValid, join_of}
 use Rattle.epoch_lattice.proofs.Lattice.{join-above, join-closed, join-commutative, join-least, join-idempotent}
 use Rattle.yak_model.specs.declared.datum.Datum.{Datum}
@@ -20,12 +18,12 @@ use Rattle.heap_words.specs.Contents.{Contents}
 use Rattle.yak_model.specs.State.{Thing, IsDatum}
 use Rattle.epoch_lattice.specs.Lattice.{space_index}
 use Rattle.yak_model.specs.Placed.{datum_word}
-use Rattle.heap_walks.specs.Laid.{Laid, work_of}
+use Rattle.heap_walks.specs.Laid.{work_of}
 use Rattle.heap_walks.proofs.Objects.{in_heap, same_address, same_thing, header_now, home_index}
-use Rattle.escape_closure.specs.Words.{settled_word, waiting_word, TellsTarget, scans_left, weight}
+use Rattle.escape_closure.specs.Words.{waiting_word, TellsTarget, scans_left, weight}
 use Rattle.escape_closure.specs.Sources.{IsDue}
-use Rattle.escape_closure.specs.Raising.{Ended, IsHere, IsWaiting, IsDueToScan, HasTarget, IsRaised, Raising, Rises, RaisesOn, IsOwed, IsPaid}
-use Rattle.escape_closure.proofs.Tells.{tells_one, tells_some, index_fits, rank, scans_settled, scans_waiting, weight_settled, weight_waiting, rank_falls, index_falls, rank_fits, same_index}
+use Rattle.escape_closure.specs.Raising.{Ended, IsHere, IsDueToScan, HasTarget, IsRaised, Raising, Rises, RaisesOn, IsOwed, IsPaid}
+use Rattle.escape_closure.proofs.Tells.{tells_one, tells_some, index_fits, scans_settled, scans_waiting, weight_settled, weight_waiting, rank_falls, index_falls, rank_fits, same_index}
 use Rattle.heap_walks.proofs.Lists as lists
 use Rattle.escape_closure.proofs.Writes as writes
 

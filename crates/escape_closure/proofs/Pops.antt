@@ -1,12 +1,12 @@
 -- An object that is taken off the list.
-use Rattle.std.proofs.Common.{◌≡◌, ◌≢◌, ◌⊎◌, ℕ, ◌+◌, ◌-◌, ◌*◌, ◌≤◌, ◌<◌, Option, Some, List, refl, sym, ap, subst, ◌∙◌, arith, inl, inr, get_or, set, length, cond, eq-eqb}
+use Rattle.std.proofs.Common.{◌≡◌, ◌≢◌, ◌⊎◌, ℕ, ◌+◌, ◌-◌, ◌*◌, ◌≤◌, ◌<◌, Some, List, refl, sym, ap, subst, ◌∙◌, arith, inl, inr, get_or, set, length, eq-eqb}
 use Rattle.escape_closure.specs.declared.raising.Tally.{Tally}
 use Rattle.escape_closure.specs.declared.raising.Tally.{Tally}
 use Rattle.escape_closure.specs.declared.TheConstants.{WAITING}
 use Rattle.epoch_lattice.specs.declared.TheConstants.{MAX_DEPTH}
 use Rattle.object_layout.specs.declared.TheConstants.{OBJECT_WORDS}
 use Rattle.std.proofs.lemmas.List.{get_or_default}
-use Rattle.std.specs.List.{Contains, sum_by}
+use Rattle.std.specs.List.{sum_by}
 use Rattle.object_layout.specs.declared.names.Name.{Name}
 use Rattle.epoch_lattice.specs.declared.Space.{Space}
 use Rattle.epoch_lattice.specs.Lattice.{IsBelow, IsValid}
@@ -23,9 +23,9 @@ use Rattle.yak_model.specs.Stands.{words_in}
 use Rattle.heap_walks.specs.Laid.{work_of}
 use Rattle.heap_walks.proofs.Objects.{in_heap, same_thing, same_address}
 use Rattle.escape_closure.specs.Words.{settled_word, waiting_word, TellsTarget, scans_left, weight, weights, zero_count}
-use Rattle.escape_closure.specs.Sources.{IsDue, IsInside}
-use Rattle.escape_closure.specs.Raising.{Ended, IsHere, IsWaiting, IsDueToScan, HasSome, HasTarget, IsRaised, Raising, Rises, RaisesOn, IsDueAt, AreFieldsPaid, IsClosedOff, Scans, potential}
-use Rattle.escape_closure.proofs.Tells.{tells_one, same_index, index_fits, rank, scans_settled, scans_waiting, weight_settled, weight_waiting, sum_falls}
+use Rattle.escape_closure.specs.Sources.{IsDue}
+use Rattle.escape_closure.specs.Raising.{Ended, IsHere, IsWaiting, IsDueToScan, HasSome, HasTarget, IsRaised, Raising, RaisesOn, IsDueAt, AreFieldsPaid, IsClosedOff, Scans, potential}
+use Rattle.escape_closure.proofs.Tells.{tells_one, same_index, index_fits, scans_settled, scans_waiting, weight_settled, weight_waiting, sum_falls}
 use Rattle.heap_walks.proofs.Lists as lists
 use Rattle.heap_walks.proofs.Works as works
 use Rattle.escape_closure.proofs.Counted.{counts_as}

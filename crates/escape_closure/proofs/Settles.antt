@@ -1,19 +1,16 @@
 -- Where nothing waits any more, each target is the join of all sources that reach the object.
-use Rattle.std.proofs.Common.{◌≡◌, ◌≢◌, ◌⊎◌, ℕ, ◌+◌, ◌≤◌, ◌<◌, refl, sym, ap, subst, ◌∙◌, arith, inl, inr}
-use Rattle.escape_closure.specs.declared.raising.Tally.{Tally}
-use Rattle.epoch_lattice.specs.declared.TheConstants.{MAX_DEPTH}
+use Rattle.std.proofs.Common.{◌≡◌, ℕ, subst, arith, inl, inr}
 use Rattle.object_layout.specs.declared.names.Name.{Name}
 use Rattle.epoch_lattice.specs.declared.Space.{Space}
-use Rattle.epoch_lattice.specs.Lattice.{IsBelow, IsLeastAbove, IsValid}
+use Rattle.epoch_lattice.specs.Lattice.{IsBelow}
 use Rattle.epoch_lattice.proofs.Lattice.{below-transitive}
 use Rattle.yak_model.proofs.Walks.{reach_keeps}
 use Rattle.heap_words.specs.declared.map.Areas.{Areas}
 use Rattle.heap_words.specs.Contents.{Contents}
-use Rattle.yak_model.specs.State.{Thing}
 use Rattle.heap_walks.specs.Laid.{work_of}
-use Rattle.escape_closure.specs.Words.{settled_word, TellsTarget}
-use Rattle.escape_closure.specs.Sources.{IsInside, IsReachedIn, IsSourceIn}
-use Rattle.escape_closure.specs.Raising.{Ended, IsHere, IsWaiting, HasTarget, IsRaised, Raising, IsClosedOff, AreSourcesPaid, IsSettled}
+use Rattle.escape_closure.specs.Words.{settled_word}
+use Rattle.escape_closure.specs.Sources.{IsReachedIn}
+use Rattle.escape_closure.specs.Raising.{Ended, IsHere, HasTarget, IsRaised, Raising, IsClosedOff, AreSourcesPaid, IsSettled}
 use Rattle.escape_closure.proofs.Tells.{tells_one, tells_some}
 
 module _ (m : Areas) (e : Ended) (c : Contents) (found : ℕ) (rz : Raising m e c (record { waiting = 0; escaping = found })) (closed : IsClosedOff e c) (paid : AreSourcesPaid e c) where
@@ -37,6 +34,7 @@ module _ (m : Areas) (e : Ended) (c : Contents) (found : ℕ) (rz : Raising m e 
         | inl free ↦ inl (free, λ x h. let up = (raised_where_reached n x h).1 in tells_some (work_of e.laid c n) up.0 up.1.1 free)
         | inr t ↦ inr (
           t.1,
+          t.2.0,
           rests n t.1 here t.2,
           record {
             above = λ y h.

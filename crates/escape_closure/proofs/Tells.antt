@@ -1,15 +1,14 @@
 -- Work words and the targets that they tell.
-use Rattle.std.proofs.Common.{◌≡◌, ◌≢◌, ◌⊎◌, ℕ, zero, suc, ◌+◌, ◌-◌, ◌*◌, ◌%◌, ◌≤◌, ◌<◌, List, [], ◌∷◌, refl, sym, ap, subst, ◌∙◌, arith, inl, inr, get_or, length, cond, true, false}
+use Rattle.std.proofs.Common.{◌≡◌, ◌≢◌, ℕ, zero, suc, ◌+◌, ◌*◌, ◌≤◌, ◌<◌, List, [], ◌∷◌, refl, ap, ◌∙◌, arith, inl, inr, get_or, length}
 use Rattle.epoch_lattice.specs.declared.TheConstants.{MAX_DEPTH}
 use Rattle.epoch_lattice.specs.declared.TheConstants.{MAX_THREADS}
 use Rattle.epoch_lattice.proofs.Numbers.{number-most, number-own}
-use Rattle.escape_closure.specs.declared.TheConstants.{WAITING}
 use Rattle.std.proofs.lemmas.Bool.Decides.{nat_tests}
 use Rattle.std.proofs.lemmas.List.Sums.{sum_by-cons, sum_by-le-sum_by}
 use Rattle.std.specs.List.{sum_by}
 use Rattle.epoch_lattice.specs.declared.Space.{Space}
 use Rattle.epoch_lattice.specs.declared.Space.TheVariants.{Control, Region}
-use Rattle.epoch_lattice.specs.Lattice.{IsBelow, IsValid, join_of}
+use Rattle.epoch_lattice.specs.Lattice.{IsValid, join_of}
 use Rattle.epoch_lattice.specs.Lattice.{space_index}
 use Rattle.escape_closure.specs.Words.{settled_word, waiting_word, TellsTarget, rises_left, scans_left, weight}
 

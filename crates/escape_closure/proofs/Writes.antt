@@ -1,5 +1,5 @@
 -- One work word rewritten.
-use Rattle.std.proofs.Common.{◌≡◌, ◌≢◌, ◌⊎◌, ℕ, ◌+◌, ◌*◌, ◌≤◌, ◌<◌, ◌==◌, cond, None, Some, List, length, refl, sym, ap, subst, ◌∙◌, arith, inl, inr}
+use Rattle.std.proofs.Common.{◌≡◌, ◌≢◌, ◌⊎◌, ℕ, ◌+◌, ◌*◌, ◌≤◌, ◌<◌, ◌==◌, cond, None, Some, length, refl, sym, ap, subst, ◌∙◌, arith, inl, inr}
 use Rattle.std.proofs.lemmas.Bool.{cases_eq}
 use Rattle.std.proofs.lemmas.Bool.Decides.{nat_tests}
 use Rattle.std.proofs.lemmas.List.Sums.{sum_by-set, sum_by-le-sum_by}
@@ -22,8 +22,7 @@ use Rattle.heap_walks.proofs.Objects.{same_thing}
 use Rattle.heap_walks.proofs.Works as works
 use Rattle.heap_walks.proofs.Lists as lists
 use Rattle.escape_closure.specs.declared.raising.Tally.{Tally}
-use Rattle.escape_closure.specs.declared.TheConstants.{WAITING}
-use Rattle.escape_closure.specs.Words.{settled_word, waiting_word, TellsTarget, scans_left, weight, weights, zeros, zero_count}
+use Rattle.escape_closure.specs.Words.{waiting_word, TellsTarget, scans_left, weight, weights, zeros, zero_count}
 use Rattle.escape_closure.specs.Sources.{IsDue}
 use Rattle.escape_closure.specs.Raising.{Ended, IsHere, IsWaiting, IsDueToScan, HasSome, HasTarget, IsRaised, Raising, Rises, potential}
 use Rattle.escape_closure.proofs.Counted.{counts_as, counts_more}

@@ -135,7 +135,7 @@ AreSourcesPaid e c = (n : Name) (x : Space) → IsSourceIn e.laid.state e.thread
 abbrev pub IsSettled : Ended → Contents → Name → Type 0
 IsSettled e c n =
     ((work_of e.laid c n ≡ 0) × ((x : Space) → IsReachedIn e.laid.state e.thread e.region n x → ⊥))
-    ⊎ ((x : Space) × (work_of e.laid c n ≡ settled_word x) × IsLeastAbove (λ y. IsReachedIn e.laid.state e.thread e.region n y) x × ((y : Space) × IsReachedIn e.laid.state e.thread e.region n y))
+    ⊎ ((x : Space) × IsValid MAX_DEPTH x × (work_of e.laid c n ≡ settled_word x) × IsLeastAbove (λ y. IsReachedIn e.laid.state e.thread e.region n y) x × ((y : Space) × IsReachedIn e.laid.state e.thread e.region n y))
 
 -- A space is due to the objects of the region to which the stack at a place of the list refers.
 abbrev pub IsStackDue : Ended → ℕ → Space → Type 0

@@ -5,6 +5,8 @@ mod ending;
 mod raising;
 mod sources;
 
+pub use ending::targets;
+
 /// What the work word of an object counts more while it waits on the list.
 const WAITING: u64 = 128;
 /// Where the number of the recorded slots stands in the heads.

@@ -1,9 +1,9 @@
 use Rattle.std.proofs.Math.Logic.{∥∥₁_map}
-use Rattle.std.proofs.Common.{◌≡◌, ◌≤◌, ◌+◌, ◌-◌, ◌*◌, ℕ, arith, ap, sym, ◌∙◌, subst}
+use Rattle.std.proofs.Common.{◌≡◌, ◌-◌, arith, ap, sym, ◌∙◌, subst}
 use Rattle.epoch_lattice.specs.Lattice.{parent_of}
 use Rattle.heap_words.specs.Contents.{contents}
 use Rattle.epoch_lattice.specs.Lattice.{space_index}
-use Rattle.escape_closure.specs.Raising.{Ended, Raising, RaisesOn, IsStackDue}
+use Rattle.escape_closure.specs.Raising.{Raising, RaisesOn, IsStackDue}
 use Rattle.escape_closure.proofs.Ends.{own_due, targets_stand}
 use Rattle.escape_closure.proofs.ending.settle_targets.Goals as goal
 

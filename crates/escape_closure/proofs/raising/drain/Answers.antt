@@ -1,8 +1,7 @@
 use Rattle.std.proofs.Math.Logic.{∥∥₁_map}
-use Rattle.std.proofs.Common.{◌≡◌, ◌≤◌, ◌<◌, ◌∙◌, refl, arith, subst, ℕ}
-use Rattle.escape_closure.specs.declared.raising.Tally.{Tally}
+use Rattle.std.proofs.Common.{◌≡◌, ◌∙◌, refl, arith, subst}
 use Rattle.heap_words.specs.Contents.{contents}
-use Rattle.escape_closure.specs.Raising.{Ended, Raising, Scans}
+use Rattle.escape_closure.specs.Raising.{Scans}
 use Rattle.escape_closure.proofs.Drains.{no_scan, then_scans}
 use Rattle.escape_closure.proofs.raising.drain.Goals as goal
 

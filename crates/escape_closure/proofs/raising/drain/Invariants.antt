@@ -1,4 +1,4 @@
-use Rattle.std.proofs.Common.{◌≡◌, ◌≤◌}
+use Rattle.std.proofs.Common.{◌≡◌}
 use Rattle.epoch_lattice.specs.Lattice.{space_index}
 use Rattle.heap_words.specs.Contents.{contents, Sound}
 use Rattle.escape_closure.specs.Words.{weights}

@@ -1,15 +1,12 @@
 use Rattle.std.proofs.Props.{props}
 use Rattle.std.proofs.Math.Logic.{∥∥₁_elim}
-use Rattle.std.proofs.Common.{◌≡◌, ◌≢◌, ◌≤◌, ◌<◌, ◌+◌, ℕ, IsTrue, arith, sym, ap, subst, ◌∙◌, get_or, set, refl, true, false, Some, None, MatchOption}
+use Rattle.std.proofs.Common.{◌≡◌, ◌≤◌, ◌+◌, ℕ, IsTrue, arith, sym, ap, subst, ◌∙◌, get_or, set, refl, Some, None}
 use Rattle.object_layout.specs.declared.TheConstants.{OBJECT_WORDS}
-use Rattle.escape_closure.specs.declared.raising.Tally.{Tally}
-use Rattle.escape_closure.specs.declared.TheConstants.{WAITING}
 use Rattle.std.specs.Prelude.{◌==◌, cond}
-use Rattle.escape_closure.specs.Raising.{RaisesOn, IsPaid}
-use Rattle.epoch_lattice.specs.Lattice.{IsBelow, join_of}
+use Rattle.escape_closure.specs.Raising.{RaisesOn}
 use Rattle.heap_words.specs.Map.{heap_length}
 use Rattle.heap_words.specs.Contents.{Contents, contents, with_heap, with_scratch}
-use Rattle.escape_closure.specs.Words.{waiting_word, TellsTarget}
+use Rattle.escape_closure.specs.Words.{TellsTarget}
 use Rattle.escape_closure.proofs.Owes.{led, led_fits, stays, no_address, other_region, no_rise, raised_waiting, raised_new, room_here, Tells, First, Later}
 use Rattle.escape_closure.proofs.raising.raise.Goals as goal
 

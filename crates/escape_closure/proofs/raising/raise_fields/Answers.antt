@@ -1,10 +1,8 @@
 use Rattle.std.proofs.Props.{props}
 use Rattle.std.proofs.Math.Logic.{∥∥₁_elim, ∥∥₁_map}
-use Rattle.std.proofs.Common.{◌≡◌, ◌≤◌, ◌<◌, ◌+◌, ◌*◌, ℕ, arith, ap, ◌∙◌, get_or, length, subst}
-use Rattle.heap_words.specs.Map.{heap_length}
+use Rattle.std.proofs.Common.{◌≡◌, ◌<◌, arith, ap, ◌∙◌, length, subst}
 use Rattle.heap_words.specs.Contents.{contents}
-use Rattle.epoch_lattice.specs.Lattice.{space_index}
-use Rattle.escape_closure.specs.Raising.{Ended, Raising, RaisesOn, IsDueAt, IsOwed, IsPaid}
+use Rattle.escape_closure.specs.Raising.{Raising, RaisesOn, IsOwed, IsPaid}
 use Rattle.escape_closure.proofs.Owes.{stays}
 use Rattle.escape_closure.proofs.Fields.{then_on, paid_more, due_fits, counted, field_word, field_owed, all_paid}
 use Rattle.escape_closure.proofs.raising.raise_fields.Goals as goal

@@ -1,13 +1,10 @@
 use Rattle.std.proofs.Props.{props}
 use Rattle.std.proofs.Math.Logic.{∥∥₁_elim, ∥∥₁_map}
-use Rattle.std.proofs.Common.{◌≡◌, ◌≤◌, ◌<◌, ◌+◌, ◌-◌, ◌*◌, ℕ, arith, ap, sym, ◌∙◌, get_or, length, set, subst, refl, inr, Some, None}
-use Rattle.escape_closure.specs.declared.raising.Tally.{Tally}
+use Rattle.std.proofs.Common.{◌≡◌, ◌≤◌, ◌+◌, ◌-◌, ◌*◌, ℕ, arith, ap, sym, ◌∙◌, length, subst, refl, inr}
 use Rattle.escape_closure.specs.declared.TheConstants.{WAITING}
-use Rattle.heap_words.specs.Map.{heap_length}
 use Rattle.heap_words.specs.Contents.{Contents, contents, with_heap}
-use Rattle.epoch_lattice.specs.Lattice.{space_index}
-use Rattle.escape_closure.specs.Words.{waiting_word, weights}
-use Rattle.escape_closure.specs.Raising.{Ended, Raising, RaisesOn, IsDueAt, AreFieldsPaid}
+use Rattle.escape_closure.specs.Words.{waiting_word}
+use Rattle.escape_closure.specs.Raising.{Raising, RaisesOn, IsDueAt, AreFieldsPaid}
 use Rattle.escape_closure.proofs.Pops.{Popped, last_of, popped, raising_popped, lighter, due_at, scans, word_at, popped_is, popped_fits, same_size}
 use Rattle.escape_closure.proofs.raising.scan_last.Goals as goal
 

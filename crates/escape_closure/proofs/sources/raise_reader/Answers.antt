@@ -1,7 +1,6 @@
 use Rattle.std.proofs.lemmas.Nat.{bit_set_by_shift}
 use Rattle.std.proofs.Math.Logic.{∥∥₁_map}
-use Rattle.std.proofs.Common.{◌≡◌, ◌≢◌, ◌≤◌, ◌<◌, ◌+◌, ◌*◌, ◌-◌, ℕ, arith, ap, get_or, length, []}
-use Rattle.heap_words.specs.Contents.{contents}
+use Rattle.std.proofs.Common.{◌-◌, arith}
 use Rattle.heap_words.proofs.Contents.{stack_of-fits}
 use Rattle.heap_walks.proofs.Stacks.{stack_size}
 use Rattle.escape_closure.proofs.Owes.{stays}

@@ -1,9 +1,9 @@
 use Rattle.std.proofs.Math.Logic.{∥∥₁_map}
 use Rattle.std.specs.Int.{IsBitSet}
-use Rattle.std.proofs.Common.{◌≡◌, ◌≢◌, ◌≤◌, ◌<◌, ◌+◌, ◌*◌, ◌-◌, ℕ, arith, ap, ◌∙◌, below_more, refl, subst, sym}
+use Rattle.std.proofs.Common.{◌≡◌, ◌≢◌, ◌+◌, ◌-◌, arith, ◌∙◌, below_more, refl, subst, sym}
 use Rattle.epoch_lattice.specs.declared.Space.TheVariants.{Control}
 use Rattle.heap_words.specs.Contents.{contents}
-use Rattle.escape_closure.specs.Raising.{Ended, Raising, RaisesOn, IsStackPaid}
+use Rattle.escape_closure.specs.Raising.{IsStackPaid}
 use Rattle.escape_closure.proofs.Owes.{stays}
 use Rattle.escape_closure.proofs.Fields.{then_on}
 use Rattle.escape_closure.proofs.Outside.{stack_still}

@@ -1,15 +1,14 @@
 use Rattle.std.proofs.Props.{props}
 use Rattle.std.proofs.Math.Logic.{∥∥₁_elim, ∥∥₁_map}
-use Rattle.std.proofs.Common.{◌≡◌, ◌≢◌, ◌≤◌, ◌<◌, ◌+◌, ◌*◌, ◌/◌, ℕ, List, arith, ap, sym, ◌∙◌, get_or, subst, inl, Some, None}
+use Rattle.std.proofs.Common.{◌≡◌, ◌≢◌, ℕ, List, arith, ap, sym, ◌∙◌, get_or, subst, inl}
 use Rattle.epoch_lattice.specs.declared.TheConstants.{MAX_DEPTH}
 use Rattle.epoch_lattice.specs.Lattice.{IsValid}
-use Rattle.heap_words.specs.Map.{heap_length}
 use Rattle.heap_words.specs.Cells.{row}
 use Rattle.heap_words.specs.Contents.{contents}
 use Rattle.heap_words.proofs.Contents.{length-sets}
 use Rattle.epoch_lattice.specs.Lattice.{space_index}
 use Rattle.escape_closure.specs.Words.{settled_word}
-use Rattle.escape_closure.specs.Raising.{Ended, Raising, RaisesOn, IsOwed, IsPaid, IsSlotPaid}
+use Rattle.escape_closure.specs.Raising.{Raising, RaisesOn, IsOwed, IsPaid, IsSlotPaid}
 use Rattle.escape_closure.proofs.Tells.{same_index}
 use Rattle.escape_closure.proofs.Owes.{stays}
 use Rattle.escape_closure.proofs.Outside.{Slot, slot_at, slot_page, slot_fits, slot_due, slot_paid, slot_inside, entries_fit, sets_now}

@@ -1,9 +1,9 @@
 use Rattle.std.proofs.Props.{props}
 use Rattle.std.proofs.Math.Logic.{∥∥₁_elim, ∥∥₁_map}
-use Rattle.std.proofs.Common.{◌≡◌, ◌≤◌, ◌<◌, ◌+◌, ◌*◌, ℕ, arith, ap, sym, ◌∙◌, below_more, get_or}
-use Rattle.heap_words.specs.Contents.{Contents, contents}
+use Rattle.std.proofs.Common.{◌≡◌, arith, ◌∙◌, below_more, get_or}
+use Rattle.heap_words.specs.Contents.{contents}
 use Rattle.yak_model.specs.Stands.{set_entries}
-use Rattle.escape_closure.specs.Raising.{Ended, Raising, RaisesOn, IsSlotPaid}
+use Rattle.escape_closure.specs.Raising.{IsSlotPaid}
 use Rattle.escape_closure.proofs.Owes.{stays}
 use Rattle.escape_closure.proofs.Fields.{then_on}
 use Rattle.escape_closure.proofs.Outside.{entries_now, slot_still}

@@ -1,9 +1,9 @@
 use Rattle.std.proofs.Props.{props}
 use Rattle.std.proofs.Math.Logic.{∥∥₁_elim, ∥∥₁_map}
-use Rattle.std.proofs.Common.{◌≡◌, ◌≤◌, ◌<◌, ◌+◌, ◌*◌, ◌-◌, ℕ, arith, ap, ◌∙◌, get_or, length, subst, []}
-use Rattle.heap_words.specs.Contents.{contents, stack_of}
+use Rattle.std.proofs.Common.{◌≡◌, ◌<◌, ◌-◌, arith, ap, ◌∙◌, get_or, length, subst, []}
+use Rattle.heap_words.specs.Contents.{contents}
 use Rattle.heap_walks.proofs.Stacks.{stack_size, slot_word}
-use Rattle.escape_closure.specs.Raising.{Ended, Raising, RaisesOn, IsOwed, IsPaid}
+use Rattle.escape_closure.specs.Raising.{Raising, RaisesOn, IsOwed, IsPaid}
 use Rattle.escape_closure.proofs.Owes.{stays}
 use Rattle.escape_closure.proofs.Fields.{then_on}
 use Rattle.escape_closure.proofs.Outside.{slot_owed, slot_more, stack_paid}
