@@ -13,3 +13,33 @@ pub use reading::{clear_readers, readers, set_reader};
 
 /// Where the number of recorded slots stands among the first words.
 pub const SET_ENTRIES: usize = 3;
+
+#[cfg(test)]
+mod tests {
+    use super::*;
+    use epoch_lattice::Space;
+    use heap_words::Image;
+    use object_layout::Addr;
+    use std::test::Fail;
+
+    #[test]
+    fn slots_are_filed_once(rt: HostRuntime) -> Result<(), Fail> {
+        let Ok(mut image) = Image::new(rt.alloc(), 1, 1) else {
+            return Ok(());
+        };
+        let map = image.map();
+        let region = Space::Region {
+            thread: 1,
+            depth: 1,
+        };
+        set_reader(&mut image, map, region, 1);
+        assert_eq!(rt; readers(&mut image, map, region), 1);
+        clear_readers(&mut image, map, region);
+        add_slot(&mut image, map, Addr(5));
+        add_slot(&mut image, map, Addr(9));
+        add_slot(&mut image, map, Addr(5));
+        drop_slots_in(&mut image, map, Space::Control);
+        assert_eq!(rt; entries(&mut image, map), 2);
+        Ok(())
+    }
+}
