@@ -5,3 +5,4 @@ pub mod Stacks
 pub mod Walked
 pub mod Seen
 pub mod Whole
+pub mod Tables
