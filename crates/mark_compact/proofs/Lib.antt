@@ -2,7 +2,8 @@ pub mod Marks
 pub mod Follows
 pub mod Scans
 pub mod Stacks
-pub mod Walked
-pub mod Seen
+pub mod Pages
+pub mod Costs
+pub mod Lives
 pub mod Whole
 pub mod Tables

@@ -1,20 +1,20 @@
 -- The fields of an object, one after another.
-use Rattle.std.proofs.Common.{◌≡◌, ℕ, ◌+◌, ◌*◌, ◌≤◌, ◌<◌, sym, ap, subst, ◌∙◌, arith, get_or, length, below_more}
+use Rattle.std.proofs.Common.{◌≡◌, ℕ, ◌+◌, ◌≤◌, ◌<◌, sym, ap, subst, ◌∙◌, arith, get_or, length, below_more}
 use Rattle.std.proofs.lemmas.List.{get_or_default}
 use Rattle.std.proofs.lemmas.List.Elements.{All-get_or, Contains-get_or}
 use Rattle.std.specs.List.{Contains}
-use Rattle.object_layout.specs.declared.TheConstants.{HEADER_BASE, SPACE_UNIT, MAX_FIELDS, MAX_SPACE}
+use Rattle.object_layout.specs.declared.TheConstants.{OBJECT_WORDS}
 use Rattle.yak_model.specs.declared.datum.Datum.TheVariants.{Null, Object}
 use Rattle.yak_model.specs.Spaces.{onward}
 use Rattle.heap_words.specs.declared.map.Areas.{Areas}
-use Rattle.heap_words.specs.Map.{heap_length}
 use Rattle.heap_words.specs.Contents.{Contents}
 use Rattle.yak_model.specs.State.{Thing, IsDatum}
-use Rattle.epoch_lattice.specs.Lattice.{space_index}
 use Rattle.yak_model.specs.Placed.{datum_word}
+use Rattle.yak_model.proofs.Data.{Tells}
+use Rattle.heap_walks.specs.Laid.{Laid}
+use Rattle.heap_walks.proofs.Objects.{same_address, same_thing, field_now}
+use Rattle.heap_walks.proofs.Objects as objects
 use Rattle.mark_compact.specs.Marking.{Marking, Grows, GoesOn, IsLead, IsFollowed, IsFollowedTo, IsAliveAt, IsScanned}
-use Rattle.relocation.specs.Laid.{Laid}
-use Rattle.relocation.proofs.Laid.{in_heap, same_address, same_thing, header_now, home_index, field_now}
 
 pub then_on : (m : Areas) (h : Laid) (c d e : Contents) (i j k : ℕ) → GoesOn m h c i d j → GoesOn m h d j e k → GoesOn m h c i e k
 then_on m h c d e i j k a b = record {
@@ -29,22 +29,17 @@ then_on m h c d e i j k a b = record {
 pub followed_still : (h : Laid) (c d : Contents) (i j word : ℕ) → Grows h c i d j → IsFollowed h c word → IsFollowed h d word
 followed_still h c d i j word g f n control e = g.marks n (f n control e)
 
-pub followed_more : (m : Areas) (h : Laid) (c d : Contents) (i j a k word : ℕ) (l : IsAliveAt h a) → Grows h c i d j → word ≡ datum_word h.places.at (get_or l.object.fields k Null) → IsFollowedTo h c a l k → IsFollowed h d word → IsFollowedTo h d a l (k + 1)
-followed_more m h c d i j a k word l g e before now =
+pub followed_more : (h : Laid) (c d : Contents) (i j a k word : ℕ) (l : IsAliveAt h a) → Grows h c i d j → word ≡ datum_word h.places.at (get_or l.object.fields k Null) → IsFollowedTo h c a l k → IsFollowed h d word → IsFollowedTo h d a l (k + 1)
+followed_more h c d i j a k word l g e before now =
     below_more _ k (λ p lt. followed_still h c d i j _ g (before p lt)) (subst (IsFollowed h d) e now)
 
-pub scan_fits : (m : Areas) (h : Laid) (c : Contents) (count a : ℕ) → Marking m h c count → (l : IsAliveAt h a) → a + (length l.object.fields + 3) ≤ heap_length m
-scan_fits m h c count a mk l = let b = in_heap m h l.name l.object mk.among.stands l.present in omega (arith, b, l.address)
+pub counted : (m : Areas) (h : Laid) (c : Contents) (count a r : ℕ) → Marking m h c count → (l : IsAliveAt h a) → Tells (get_or c.heap a 0) r → r ≡ length l.object.fields
+counted m h c count a r mk l tells = objects.counted m h c l.name l.object a r mk.among l.present l.address tells
 
-pub counted : (m : Areas) (h : Laid) (c : Contents) (count a r : ℕ) → Marking m h c count → (l : IsAliveAt h a) → ((fields space : ℕ) → fields ≤ MAX_FIELDS → space ≤ MAX_SPACE → get_or c.heap a 0 ≡ HEADER_BASE + SPACE_UNIT * space + fields → r ≡ fields) → r ≡ length l.object.fields
-counted m h c count a r mk l tells =
-    tells (length l.object.fields) (space_index l.object.home) (mk.among.stands.closed.fields l.name l.object l.present).1 (home_index m h l.name l.object mk.among.areas mk.among.stands l.present)
-    (ap (λ i. get_or c.heap i 0) l.address ∙ header_now m h c l.name l.object mk.among l.present)
+pub field_word : (m : Areas) (h : Laid) (c : Contents) (count a f : ℕ) → Marking m h c count → (l : IsAliveAt h a) → f < length l.object.fields → get_or c.heap (a + OBJECT_WORDS + f) 0 ≡ datum_word h.places.at (get_or l.object.fields f Null)
+field_word m h c count a f mk l lt = ap (λ i. get_or c.heap (i + OBJECT_WORDS + f) 0) l.address ∙ field_now m h c l.name l.object f mk.among l.present lt
 
-pub field_word : (m : Areas) (h : Laid) (c : Contents) (count a f : ℕ) → Marking m h c count → (l : IsAliveAt h a) → f < length l.object.fields → get_or c.heap (a + 3 + f) 0 ≡ datum_word h.places.at (get_or l.object.fields f Null)
-field_word m h c count a f mk l lt = ap (λ i. get_or c.heap (i + 3 + f) 0) l.address ∙ field_now m h c l.name l.object f mk.among l.present lt
-
-pub field_lead : (m : Areas) (h : Laid) (c : Contents) (count a f word : ℕ) → Marking m h c count → (l : IsAliveAt h a) → f < length l.object.fields → word ≡ get_or c.heap (a + 3 + f) 0 → IsLead h word
+pub field_lead : (m : Areas) (h : Laid) (c : Contents) (count a f word : ℕ) → Marking m h c count → (l : IsAliveAt h a) → f < length l.object.fields → word ≡ get_or c.heap (a + OBJECT_WORDS + f) 0 → IsLead h word
 field_lead m h c count a f word mk l lt e = record {
   datum = get_or l.object.fields f Null;
   fits = All-get_or (IsDatum h.state.objects) l.object.fields f Null lt (mk.among.stands.closed.fields l.name l.object l.present).0;
@@ -53,7 +48,7 @@ field_lead m h c count a f word mk l lt e = record {
 }
 
 pub scanned : (m : Areas) (h : Laid) (c : Contents) (count a k : ℕ) → Marking m h c count → (l : IsAliveAt h a) → length l.object.fields ≤ k → IsFollowedTo h c a l k → IsScanned h c a
-scanned m h c count a k mk l all to n o x e at refers control =
+scanned m h c count a k mk l all to n at o x e refers control =
     let same : l.name ≡ n = same_address m h l.name n l.object o mk.among.stands l.present e (sym l.address ∙ at) in
     let thing : l.object ≡ o = same_thing h n l.object o (ap h.state.objects (sym same) ∙ l.present) e in
     let here : Contains l.object.fields (Object x) = subst (λ (t : Thing). Contains t.fields (Object x)) (sym thing) refers in

@@ -1,5 +1,5 @@
 -- The whole of a marking.
-use Rattle.std.proofs.Common.{◌≡◌, ◌≢◌, ◌⊎◌, ◌↔◌, ℕ, zero, suc, ◌+◌, ◌≤◌, ◌<◌, true, false, cond, ◌||◌, IsTrue, Some, refl, sym, ap, subst, ◌∙◌, arith, inl, inr, get_or, length}
+use Rattle.std.proofs.Common.{◌≡◌, ◌≢◌, ◌⊎◌, ◌↔◌, ℕ, zero, suc, ◌+◌, ◌≤◌, ◌<◌, true, false, cond, ◌||◌, IsTrue, refl, sym, ap, subst, ◌∙◌, arith, inl, inr, get_or, length}
 use Rattle.std.proofs.lemmas.Bool.{cases_eq}
 use Rattle.std.proofs.lemmas.List.{length-map}
 use Rattle.std.specs.FinSet as names
@@ -15,35 +15,30 @@ use Rattle.yak_model.proofs.Walks.{reach_keeps}
 use Rattle.heap_words.specs.declared.map.Areas.{Areas}
 use Rattle.heap_words.specs.Map.{IsAreas, heap_length, scratch_length}
 use Rattle.heap_words.specs.Contents.{Contents}
-use Rattle.yak_model.specs.State.{Thing, view}
 use Rattle.epoch_lattice.specs.Lattice.{space_index}
+use Rattle.yak_model.specs.State.{Thing, view}
 use Rattle.yak_model.specs.Placed.{HeapStands}
 use Rattle.yak_model.specs.Stands.{Stands}
-use Rattle.mark_compact.specs.Reach.{IsAlive, IsControl, IsStart, Points}
-use Rattle.mark_compact.specs.Marking.{IsMarked, Marking, IsStackMarked, ArePagesPassed, AreListedScanned}
-use Rattle.relocation.specs.Laid.{Laid, work_of}
+use Rattle.heap_walks.specs.Reach.{Points}
+use Rattle.mark_compact.specs.Reach.{IsAlive, IsControl, IsStart}
+use Rattle.heap_walks.specs.Laid.{Laid, work_of}
+use Rattle.mark_compact.specs.Marking.{IsMarked, Marking, IsStackMarked, ArePagesMarked, AreListedScanned}
 use Rattle.mark_compact.specs.Marked.{IsLiveControl, MarksLive}
-use Rattle.relocation.proofs.Laid.{same_thing, same_address, kept_word, header_now, field_now}
-use Rattle.mark_compact.proofs.Seen.{present_of, live_of_alive, alive_of_live, control_of, home_of_control, shown, present_home}
+use Rattle.heap_walks.proofs.Objects.{same_thing, same_address, header_now, name_now, field_now}
+use Rattle.heap_walks.proofs.Works.{among_first}
+use Rattle.heap_walks.proofs.Lists.{none_listed}
+use Rattle.heap_walks.proofs.Seen.{present_of, is_in, home_of_in, shown, present_home}
+use Rattle.mark_compact.proofs.Lives.{live_of_alive, alive_of_live}
 
 abbrev pub laid : (m : Areas) (c : Contents) (s : SpaceState) → Stands m c s → Laid
 laid m c s st = record { state = view s; places = st.places; before = c }
 
 pub begins : (m : Areas) (c : Contents) (s : SpaceState) (st : Stands m c s) → IsAreas m → length c.heap ≡ heap_length m → length c.scratch ≡ scratch_length m → Marking m (laid m c s st) c 0
 begins m c s st areas heap scratch = record {
-  among = record {
-    areas = areas;
-    stands = st.stands;
-    frame = refl;
-    kept = λ a k. refl;
-    heap_size = heap;
-    scratch_size = scratch;
-  };
+  among = among_first m (laid m c s st) areas st.stands heap scratch;
   fits = omega arith;
   marks = λ n o e. inl (st.stands.heap.held n o e).work_word;
-  listed = λ k lt. absurd (omega (arith, lt));
-  placed = λ n marked. absurd (let q = (st.stands.heap.held n marked.0.0 marked.0.1).work_word in omega (arith, q, marked.1));
-  once = λ j k lt. absurd (omega (arith, lt));
+  list = none_listed (laid m c s st) (IsMarked (laid m c s st) c) c.scratch (λ n marked. let q = (st.stands.heap.held n marked.0.0 marked.0.1).work_word in omega (arith, q, marked.1));
 }
 
 space_case : (x : Space) → (x ≡ Control) ⊎ (x ≢ Control)
@@ -56,7 +51,7 @@ region_index (Region t d) ne = omega arith
 
 module _ (m : Areas) (h : Laid) (d : Contents) (count : ℕ) (mk : Marking m h d count) where
   -- where nothing waits any more, what lives is marked
-  pub all_marked : length h.state.stacks ≡ m.threads → ((t : ℕ) → t < m.threads → IsStackMarked h d t) → ArePagesPassed h d m.pages → AreListedScanned h d count → (n : Name) → IsAlive h.state n → IsControl h.state n → IsMarked h d n
+  pub all_marked : length h.state.stacks ≡ m.threads → ((t : ℕ) → t < m.threads → IsStackMarked h d t) → ArePagesMarked h d m.pages → AreListedScanned h d count → (n : Name) → IsAlive h.state n → IsControl h.state n → IsMarked h d n
   all_marked threads stacks pages list n alive =
       reach_keeps _ _ (λ x. IsControl h.state x → IsMarked h d x) (λ r start. from_start r start) (λ a b known edge. along a b known edge) n alive
     where
@@ -70,8 +65,8 @@ module _ (m : Areas) (h : Laid) (d : Contents) (count : ℕ) (mk : Marking m h d
       along a b known edge control =
           elim (space_case edge.0.home) [
             | inl e ↦
-                let p = mk.placed a (known (edge.0, edge.1, e)) in
-                list p.0 p.1 a edge.0 b edge.1 p.2 edge.2 control
+                let p = mk.list.placed a (known (edge.0, edge.1, e)) in
+                list p.0 p.1 a p.2 edge.0 b edge.1 edge.2 control
             | inr ne ↦
                 let at = mk.among.stands.heap.present a edge.0 edge.1 in
                 let w = mk.among.stands.heap.whole a at.0 at.1 at.2 in
@@ -92,13 +87,13 @@ module _ (m : Areas) (h : Laid) (d : Contents) (count : ℕ) (mk : Marking m h d
   below_step : (k : ℕ) → k < count → SetBelow k → SetBelow (suc k)
   unfolding SetBelow Below
   below_step k lt before =
-      let l = mk.listed k lt in
+      let l = mk.list.listed k lt in
       let x : Name = l.0 in
       let grown = names.insert before.0 x in
       let absent : names.contains before.0 x ≡ false = elim (names.contains before.0 x) as (λ b. names.contains before.0 x ≡ b → b ≡ false) [
         | true ↦ λ e.
             let w = (before.1 x).0 e in
-            let same : w.0 ≡ k = mk.once w.0 k (omega (arith, w.1)) lt (w.2 ∙ sym l.2) in
+            let same : w.0 ≡ k = mk.list.once w.0 k (omega (arith, w.1)) lt (w.2 ∙ sym l.2) in
             absurd (omega (arith, same, w.1))
         | false ↦ λ e. refl
       ] refl in
@@ -132,10 +127,7 @@ module _ (m : Areas) (h : Laid) (d : Contents) (count : ℕ) (mk : Marking m h d
   unfolding SetBelow Below
   marked_set =
       let all = below_all count (omega arith) in
-      (all.0, λ n. (λ e. ((all.1 n).0 e).3, λ marked. let p = mk.placed n marked in (all.1 n).1 (p.0, p.1, p.2, marked)), sym all.2)
-
-  name_now : (n : Name) (o : Thing) → h.state.objects n ≡ Some o → get_or d.heap (h.places.at n + 1) 0 ≡ get_or h.before.heap (h.places.at n + 1) 0
-  name_now n o e = mk.among.kept (h.places.at n + 1) (kept_word m h n o 1 mk.among.stands e (omega arith) (omega arith))
+      (all.0, λ n. (λ e. ((all.1 n).0 e).3, λ marked. let p = mk.list.placed n marked in (all.1 n).1 (p.0, p.1, p.2, marked)), sym all.2)
 
   pub still_stands : HeapStands m d.table d.heap h.state.objects h.places (work_of h d)
   still_stands =
@@ -149,19 +141,19 @@ module _ (m : Areas) (h : Laid) (d : Contents) (count : ℕ) (mk : Marking m h d
         marks = old.marks;
         held = λ n o e. record {
           header = header_now m h d n o mk.among e;
-          name = name_now n o e ∙ (old.held n o e).name;
+          name = name_now m h d n o mk.among e ∙ (old.held n o e).name;
           work_word = refl;
           fields = λ f lt. field_now m h d n o f mk.among e lt;
         };
       })
 
-pub marks_live : (m : Areas) (c d : Contents) (s : SpaceState) (st : Stands m c s) (count : ℕ) → Marking m (laid m c s st) d count → length c.heap ≡ heap_length m → ((t : ℕ) → t < m.threads → IsStackMarked (laid m c s st) d t) → ArePagesPassed (laid m c s st) d m.pages → AreListedScanned (laid m c s st) d count → MarksLive m s st.places c d count
+pub marks_live : (m : Areas) (c d : Contents) (s : SpaceState) (st : Stands m c s) (count : ℕ) → Marking m (laid m c s st) d count → length c.heap ≡ heap_length m → ((t : ℕ) → t < m.threads → IsStackMarked (laid m c s st) d t) → ArePagesMarked (laid m c s st) d m.pages → AreListedScanned (laid m c s st) d count → MarksLive m s st.places c d count
 marks_live m c d s st count mk size stacks pages list =
     let h : Laid = laid m c s st in
     let threads : length h.state.stacks ≡ m.threads = let q = st.stands.threads in simp length-map (simp length-map at q) in
-    let marked : (n : Name) → IsLiveControl s n → IsMarked h d n = λ n lc. all_marked m h d count mk threads stacks pages list n (alive_of_live s st.whole n lc.1) (control_of s st.whole n lc.0) in
+    let marked : (n : Name) → IsLiveControl s n → IsMarked h d n = λ n lc. all_marked m h d count mk threads stacks pages list n (alive_of_live s st.whole n lc.1) (is_in s st.whole n Control lc.0) in
     let live : (n : Name) → IsMarked h d n → IsLiveControl s n = λ n q. (
-      home_of_control s st.whole n q.0,
+      home_of_in s st.whole n Control q.0,
       elim (mk.marks n q.0.0 q.0.1) [
         | inl free ↦ absurd (omega (arith, free, q.1))
         | inr one ↦ live_of_alive s st.whole n one.2

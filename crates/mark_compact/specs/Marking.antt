@@ -1,5 +1,5 @@
 -- Marks in the work words, and the list of the marked objects in the scratch area.
-use Rattle.std.specs.Prelude.{[], sum_by, take, ◌≡◌, ◌⊎◌, ℕ, ◌+◌, ◌*◌, ◌≤◌, ◌<◌, length, slice_index, slice_index_or, Some}
+use Rattle.std.specs.Prelude.{[], ◌≡◌, ◌⊎◌, ℕ, ◌+◌, ◌*◌, ◌≤◌, ◌<◌, slice_index, slice_index_or, Some}
 use Rattle.std.specs.List.{Contains}
 use Rattle.object_layout.specs.declared.names.Name.{Name}
 use Rattle.epoch_lattice.specs.declared.Space.TheVariants.{Control}
@@ -9,8 +9,10 @@ use Rattle.heap_words.specs.declared.map.Areas.{Areas}
 use Rattle.heap_words.specs.Map.{heap_length}
 use Rattle.heap_words.specs.Contents.{Contents}
 use Rattle.yak_model.specs.State.{Thing, IsDatum}
-use Rattle.yak_model.specs.Placed.{datum_word, names_of, size_by, space_word, IsAt}
-use Rattle.relocation.specs.Laid.{Laid, IsAmong, work_of}
+use Rattle.yak_model.specs.Placed.{datum_word, space_word}
+use Rattle.heap_walks.specs.Laid.{Laid, IsAmong, IsThing, work_of}
+use Rattle.heap_walks.specs.Listed.{IsListed}
+use Rattle.heap_walks.specs.Walked.{IsPagePassed}
 use Rattle.mark_compact.specs.Reach.{IsAlive, IsControl}
 
 -- An object of the control space is marked.
@@ -21,16 +23,19 @@ IsMarked h c n = IsControl h.state n × (work_of h c n ≡ 1)
 pub record Marking (m : Areas) (h : Laid) (c : Contents) (count : ℕ) : Type 0 where
   pub among : IsAmong m h c
   pub fits : count ≤ heap_length m
-  pub marks : (n : Name) (o : Thing) → h.state.objects n ≡ Some o → (work_of h c n ≡ 0) ⊎ ((work_of h c n ≡ 1) × (o.home ≡ Control) × IsAlive h.state n)
-  pub listed : (k : ℕ) → k < count → (n : Name) × IsMarked h c n × (slice_index c.scratch k ≡ h.places.at n)
-  pub placed : (n : Name) → IsMarked h c n → (k : ℕ) × (k < count) × (slice_index c.scratch k ≡ h.places.at n)
-  pub once : (j k : ℕ) → j < count → k < count → slice_index c.scratch j ≡ slice_index c.scratch k → j ≡ k
+  pub marks : (n : Name) (o : Thing) → IsThing h n o → (work_of h c n ≡ 0) ⊎ ((work_of h c n ≡ 1) × (o.home ≡ Control) × IsAlive h.state n)
+  pub list : IsListed h (IsMarked h c) c.scratch count
 
 -- The marks stay, and the list grows at its end.
 pub record Grows (h : Laid) (c : Contents) (count : ℕ) (d : Contents) (more : ℕ) : Type 0 where
   pub longer : count ≤ more
   pub marks : (n : Name) → IsMarked h c n → IsMarked h d n
   pub list : (k : ℕ) → k < count → slice_index d.scratch k ≡ slice_index c.scratch k
+
+-- The marking goes on from one count to another.
+pub record GoesOn (m : Areas) (h : Laid) (c : Contents) (count : ℕ) (d : Contents) (more : ℕ) : Type 0 where
+  pub marking : Marking m h d more
+  pub grows : Grows h c count d more
 
 -- A word is that of a value which leads to live objects alone.
 pub record IsLead (h : Laid) (word : ℕ) : Type 0 where
@@ -51,14 +56,13 @@ pub record IsAliveAt (h : Laid) (a : ℕ) : Type 0 where
   pub address : a ≡ h.places.at name
   pub alive : IsAlive h.state name
 
+-- The control objects to which the fields of an object refer are marked.
+abbrev pub IsPassed : Laid → Contents → Name → Type 0
+IsPassed h c n = (o : Thing) (x : Name) → IsThing h n o → Contains o.fields (Object x) → IsControl h.state x → IsMarked h c x
+
 -- The control objects to which the fields of the object at an address refer are marked.
 abbrev pub IsScanned : Laid → Contents → ℕ → Type 0
-IsScanned h c a = (n : Name) (o : Thing) (x : Name) → h.state.objects n ≡ Some o → a ≡ h.places.at n → Contains o.fields (Object x) → IsControl h.state x → IsMarked h c x
-
--- The marking goes on from one count to another.
-pub record GoesOn (m : Areas) (h : Laid) (c : Contents) (count : ℕ) (d : Contents) (more : ℕ) : Type 0 where
-  pub marking : Marking m h d more
-  pub grows : Grows h c count d more
+IsScanned h c a = (n : Name) → a ≡ h.places.at n → IsPassed h c n
 
 -- The control objects to which the first fields of the object at an address refer are marked.
 abbrev pub IsFollowedTo : (h : Laid) → Contents → (a : ℕ) → IsAliveAt h a → ℕ → Type 0
@@ -72,24 +76,13 @@ IsStackFollowedTo h c t k = (j : ℕ) → j < k → IsFollowed h c (datum_word h
 abbrev pub IsStackMarked : Laid → Contents → ℕ → Type 0
 IsStackMarked h c t = (n : Name) → Contains (slice_index_or h.state.stacks t []) (Object n) → IsControl h.state n → IsMarked h c n
 
--- The control objects to which the fields of an object refer are marked.
-abbrev pub IsPassed : Laid → Contents → Name → Type 0
-IsPassed h c n = (o : Thing) (x : Name) → h.state.objects n ≡ Some o → Contains o.fields (Object x) → IsControl h.state x → IsMarked h c x
+-- The control objects to which the objects of a page refer are marked.
+abbrev pub IsPageMarked : Laid → Contents → ℕ → Type 0
+IsPageMarked h c page = IsPagePassed h (IsPassed h c) page
 
--- A walk over the objects of a page has come to an offset, and has passed the objects before it.
-pub record IsWalked (h : Laid) (c : Contents) (page offset : ℕ) : Type 0 where
-  pub place : ℕ
-  pub within : place ≤ length (names_of h.places page)
-  pub offset_is : offset ≡ sum_by (size_by h.state.objects) (take place (names_of h.places page))
-  pub passed : (n : Name) (k : ℕ) → k < place → IsAt h.places n page k → IsPassed h c n
-
--- The objects of a page are passed.
-abbrev pub IsPagePassed : Laid → Contents → ℕ → Type 0
-IsPagePassed h c page = (n : Name) (k : ℕ) → IsAt h.places n page k → IsPassed h c n
-
--- The objects of the first pages are passed, where they are of regions.
-abbrev pub ArePagesPassed : Laid → Contents → ℕ → Type 0
-ArePagesPassed h c pages = (p : ℕ) → p < pages → 1 < space_word h.before.table p → IsPagePassed h c p
+-- The control objects to which the objects of the first pages refer are marked, where the pages are of regions.
+abbrev pub ArePagesMarked : Laid → Contents → ℕ → Type 0
+ArePagesMarked h c pages = (p : ℕ) → p < pages → 1 < space_word h.before.table p → IsPageMarked h c p
 
 -- The first objects of the list are scanned.
 abbrev pub AreListedScanned : Laid → Contents → ℕ → Type 0

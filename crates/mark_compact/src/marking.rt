@@ -1,18 +1,18 @@
 //! The marking of the control objects that a collection keeps.
 //!
-//! A mark is the work word 1. The addresses of the marked objects stand in the scratch area, each once, in the order in
-//! which they were marked; an object is scanned after its mark.
+//! A mark is the work word 1. The addresses of the marked objects stand in the scratch area, each once, in the order in which
+//! they were marked; the fields of an object are followed after its mark.
 
-ghost use Rattle.std.specs.Prelude.{◌≡◌, ◌≤◌, ◌<◌, ◌+◌, ◌-◌, ◌*◌, ◌↔◌, ℕ, IsTrue, slice_index};
+ghost use Rattle.std.specs.Prelude.{◌≡◌, ◌≤◌, ◌<◌, ◌+◌, ◌-◌, ◌*◌, ◌↔◌, ℕ, IsTrue, length};
 ghost use Rattle.object_layout.specs.declared.TheConstants.{HEADER_BASE, SPACE_UNIT, MAX_FIELDS};
 ghost use Rattle.heap_words.specs.Map.{HasThread, HasPage};
-ghost use Rattle.heap_words.specs.Cells.{row};
-ghost use Rattle.heap_words.specs.Contents.{contents, Sound};
+ghost use Rattle.heap_words.specs.Contents.{contents, stack_of, Sound};
 ghost use Rattle.yak_model.specs.Spaces.{SpaceState};
+ghost use Rattle.yak_model.specs.Placed.{space_word, used_mark};
 ghost use Rattle.yak_model.specs.Stands.{Stands};
-ghost use Rattle.relocation.specs.Laid.{Laid};
-ghost use Rattle.mark_compact.specs.Marked.{MarksLive};
-ghost use Rattle.mark_compact.specs.Marking.{Marking, GoesOn, IsLead, IsFollowed, IsAliveAt, IsScanned, IsStackMarked, IsPagePassed, ArePagesPassed, AreListedScanned};
+ghost use Rattle.heap_walks.specs.Laid.{Laid};
+ghost use Rattle.mark_compact.specs.Marked.{MarksLive, slots_used, words_used};
+ghost use Rattle.mark_compact.specs.Marking.{Marking, GoesOn, IsLead, IsFollowed, IsAliveAt, IsScanned, IsStackMarked, IsPageMarked, ArePagesMarked, AreListedScanned};
 
 use heap_words::{
     Areas, Words, get_heap, get_page, get_scratch, get_stack, set_heap, set_scratch, stack_length,
@@ -61,6 +61,7 @@ fn scan_object<W: Words>(words: &mut W, map: Areas, count: usize, a: usize) -> u
     requires some { ∥ ((h : Laid) × Marking map h (contents map (W.words words.old)) count × IsAliveAt h a) ∥₁ }
     ensures marking { (h : Laid) → Marking map h (contents map (W.words words.old)) count → IsAliveAt h a → GoesOn map h (contents map (W.words words.old)) count (contents map (W.words words.new)) result × IsScanned h (contents map (W.words words.new)) a }
     ensures sound { Sound map (W.words words.new) }
+    ensures reads { (h : Laid) → Marking map h (contents map (W.words words.old)) count → (at : IsAliveAt h a) → W.reads words.new ≤ W.reads words.old + (1 + 3 * length at.object.fields) }
     ensures base { W.base words.new ≡ W.base words.old }
 {
     let fields = field_count(get_heap(words, map, a));
@@ -79,6 +80,7 @@ fn mark_stack<W: Words>(words: &mut W, map: Areas, count: usize, thread: u8) -> 
     requires some { ∥ ((h : Laid) × Marking map h (contents map (W.words words.old)) count) ∥₁ }
     ensures marking { (h : Laid) → Marking map h (contents map (W.words words.old)) count → GoesOn map h (contents map (W.words words.old)) count (contents map (W.words words.new)) result × IsStackMarked h (contents map (W.words words.new)) (thread - 1) }
     ensures sound { Sound map (W.words words.new) }
+    ensures reads { W.reads words.new ≤ W.reads words.old + (1 + 3 * length (stack_of (contents map (W.words words.old)) thread)) }
     ensures base { W.base words.new ≡ W.base words.old }
 {
     let length = stack_length(words, map, thread);
@@ -96,6 +98,7 @@ fn mark_stacks<W: Words>(words: &mut W, map: Areas, count: usize) -> usize
     requires some { ∥ ((h : Laid) × Marking map h (contents map (W.words words.old)) count) ∥₁ }
     ensures marking { (h : Laid) → Marking map h (contents map (W.words words.old)) count → GoesOn map h (contents map (W.words words.old)) count (contents map (W.words words.new)) result × ((t : ℕ) → t < map.threads → IsStackMarked h (contents map (W.words words.new)) t) }
     ensures sound { Sound map (W.words words.new) }
+    ensures reads { W.reads words.new ≤ W.reads words.old + (map.threads + 3 * slots_used (contents map (W.words words.old)).stacks) }
     ensures base { W.base words.new ≡ W.base words.old }
 {
     let mut count = count;
@@ -109,13 +112,14 @@ fn mark_stacks<W: Words>(words: &mut W, map: Areas, count: usize) -> usize
 fn mark_page<W: Words>(words: &mut W, map: Areas, count: usize, page: u32) -> usize
     requires sound { Sound map (W.words words.old) }
     requires page { HasPage map page }
-    requires region { 1 < slice_index (row (contents map (W.words words.old)).table page) 0 }
+    requires region { 1 < space_word (contents map (W.words words.old)).table page }
     requires some { ∥ ((h : Laid) × Marking map h (contents map (W.words words.old)) count) ∥₁ }
-    ensures marking { (h : Laid) → Marking map h (contents map (W.words words.old)) count → GoesOn map h (contents map (W.words words.old)) count (contents map (W.words words.new)) result × IsPagePassed h (contents map (W.words words.new)) page }
+    ensures marking { (h : Laid) → Marking map h (contents map (W.words words.old)) count → GoesOn map h (contents map (W.words words.old)) count (contents map (W.words words.new)) result × IsPageMarked h (contents map (W.words words.new)) page }
     ensures sound { Sound map (W.words words.new) }
+    ensures reads { W.reads words.new ≤ W.reads words.old + (1 + 3 * used_mark (contents map (W.words words.old)).table page) }
     ensures base { W.base words.new ≡ W.base words.old }
 {
-    let start = page_start(map, page);
+    let start = map.page_words() as usize * page as usize;
     let used = get_page(words, map, page, 1) as usize;
     let mut count = count;
     let mut offset = 0;
@@ -132,8 +136,9 @@ fn mark_where_regional<W: Words>(words: &mut W, map: Areas, count: usize, page: 
     requires sound { Sound map (W.words words.old) }
     requires page { HasPage map page }
     requires some { ∥ ((h : Laid) × Marking map h (contents map (W.words words.old)) count) ∥₁ }
-    ensures marking { (h : Laid) → Marking map h (contents map (W.words words.old)) count → GoesOn map h (contents map (W.words words.old)) count (contents map (W.words words.new)) result × (1 < slice_index (row (contents map (W.words words.old)).table page) 0 → IsPagePassed h (contents map (W.words words.new)) page) }
+    ensures marking { (h : Laid) → Marking map h (contents map (W.words words.old)) count → GoesOn map h (contents map (W.words words.old)) count (contents map (W.words words.new)) result × (1 < space_word (contents map (W.words words.old)).table page → IsPageMarked h (contents map (W.words words.new)) page) }
     ensures sound { Sound map (W.words words.new) }
+    ensures reads { W.reads words.new ≤ W.reads words.old + (2 + 3 * used_mark (contents map (W.words words.old)).table page) }
     ensures base { W.base words.new ≡ W.base words.old }
 {
     let space = get_page(words, map, page, 0);
@@ -147,8 +152,9 @@ fn mark_where_regional<W: Words>(words: &mut W, map: Areas, count: usize, page: 
 fn mark_pages<W: Words>(words: &mut W, map: Areas, count: usize) -> usize
     requires sound { Sound map (W.words words.old) }
     requires some { ∥ ((h : Laid) × Marking map h (contents map (W.words words.old)) count) ∥₁ }
-    ensures marking { (h : Laid) → Marking map h (contents map (W.words words.old)) count → GoesOn map h (contents map (W.words words.old)) count (contents map (W.words words.new)) result × ArePagesPassed h (contents map (W.words words.new)) map.pages }
+    ensures marking { (h : Laid) → Marking map h (contents map (W.words words.old)) count → GoesOn map h (contents map (W.words words.old)) count (contents map (W.words words.new)) result × ArePagesMarked h (contents map (W.words words.new)) map.pages }
     ensures sound { Sound map (W.words words.new) }
+    ensures reads { W.reads words.new ≤ W.reads words.old + (2 * map.pages + 3 * words_used (contents map (W.words words.old)).table) }
     ensures base { W.base words.new ≡ W.base words.old }
 {
     let mut count = count;
@@ -164,6 +170,7 @@ fn drain<W: Words>(words: &mut W, map: Areas, count: usize) -> usize
     requires some { ∥ ((h : Laid) × Marking map h (contents map (W.words words.old)) count) ∥₁ }
     ensures marking { (h : Laid) → Marking map h (contents map (W.words words.old)) count → GoesOn map h (contents map (W.words words.old)) count (contents map (W.words words.new)) result × AreListedScanned h (contents map (W.words words.new)) result }
     ensures sound { Sound map (W.words words.new) }
+    ensures reads { W.reads words.new ≤ W.reads words.old + 3 * words_used (contents map (W.words words.old)).table }
     ensures base { W.base words.new ≡ W.base words.old }
 {
     let mut count = count;
@@ -176,12 +183,14 @@ fn drain<W: Words>(words: &mut W, map: Areas, count: usize) -> usize
     count
 }
 
-/// Writes 1 into the work word of each object of the control space that a collection keeps, and gives their number.
+/// Writes 1 into the work word of each object of the control space that a collection keeps, and gives their number. All work
+/// words are 0 before, and those of all other objects stay 0.
 pub fn mark<W: Words>(words: &mut W, map: Areas) -> u32
     requires sound { Sound map (W.words words.old) }
     requires stands { ∥ ((s : SpaceState) × Stands map (contents map (W.words words.old)) s) ∥₁ }
     ensures marked { (s : SpaceState) (stands : Stands map (contents map (W.words words.old)) s) → MarksLive map s stands.places (contents map (W.words words.old)) (contents map (W.words words.new)) result }
     ensures sound { Sound map (W.words words.new) }
+    ensures reads { let c = contents map (W.words words.old) in W.reads words.new ≤ W.reads words.old + (map.threads + 3 * slots_used c.stacks + 2 * map.pages + 6 * words_used c.table) }
     ensures base { W.base words.new ≡ W.base words.old }
 {
     let held = mark_stacks(words, map, 0);

@@ -1,21 +1,19 @@
 -- What a claim does to the free pages, and that it keeps the pool, the table and the current pages.
-use Rattle.std.proofs.Common.{◌≡◌, ◌≢◌, ◌↔◌, ℕ, zero, suc, ◌+◌, ◌-◌, ◌*◌, ◌≤◌, ◌<◌, List, [], ◌∷◌, length, get_or, set, take, drop, refl, sym, ap, ◌∙◌, subst, arith, inl, inr, ◌⊎◌, ⊎_elim, get_or-set_same, get_or-set_other, length-take, length-drop}
+use Rattle.std.proofs.Common.{◌≡◌, ◌≢◌, ℕ, zero, suc, ◌+◌, ◌-◌, ◌≤◌, ◌<◌, List, [], ◌∷◌, length, get_or, set, take, drop, refl, sym, ap, ◌∙◌, subst, arith, inl, inr, ◌⊎◌, ⊎_elim, get_or-set_same, get_or-set_other, length-take}
 use Rattle.std.proofs.lemmas.Bool.{cases_eq}
 use Rattle.std.specs.List.{AllPairs, Contains}
 use Rattle.std.proofs.lemmas.List.{drop_more, drop_all, get_or-take}
 use Rattle.heap_words.specs.declared.map.Areas.{Areas}
 use Rattle.heap_words.specs.declared.TheConstants.{HEAD_WORDS}
-use Rattle.heap_words.specs.Map.{HasThread, max_depth, page_words}
-use Rattle.heap_words.specs.Cells.{row, row_set}
 use Rattle.heap_words.specs.Contents.{Contents}
 use Rattle.epoch_lattice.specs.declared.Space.{Space}
-use Rattle.epoch_lattice.specs.Lattice.{space_index, inner_of}
+use Rattle.epoch_lattice.specs.Lattice.{space_index}
 use Rattle.yak_model.specs.Placed.{space_word, used_mark}
 use Rattle.yak_model.specs.Stands.{claim_counter, pool_length, free_pages, PoolStands, current, CurrentsStand}
 use Rattle.yak_model.specs.Packed.{IsSpaceOf}
-use Rattle.region_pages.specs.Pages.{TableFits, with_claimed, with_entry}
+use Rattle.region_pages.specs.Pages.{TableFits}
 use Rattle.region_pages.proofs.Shapes.{Shape}
-use Rattle.region_pages.proofs.Entries.{entry-both, entry-same, entry-other}
+use Rattle.region_pages.proofs.Entries.{entry-same, entry-other}
 
 -- the entry of a page that is claimed
 abbrev pub entry : Space → List ℕ
@@ -78,17 +76,18 @@ pool-claimed m heads pool table page x long rows stands lt taken =
     record {
       within = omega (arith, stands.within);
       passed = omega (arith, stands.passed);
-      free = λ p.
-          (λ (h : Contains rest p).
-          let ne : p ≢ page = front_apart rest page p once h in
-          let old = (stands.free p).0 (subst (λ (xs : List ℕ). Contains xs p) (sym taken) (Contains-behind rest page p h)) in
-          (old.0, ap (λ (r : List ℕ). get_or r 0 0) (entry-other table page p (entry x) ne) ∙ old.1),
-          λ (h : (p < m.pages) × (space_word table' p ≡ 0)).
-          ⊎_elim (λ (e : p ≡ page). absurd (omega (arith, h.1, ap (λ (q : ℕ). space_word table' q) e, ap (λ (r : List ℕ). get_or r 0 0) (entry-same table page (entry x) within))))
-          (λ (ne : p ≢ page).
-          let old = (stands.free p).1 (h.0, sym (ap (λ (r : List ℕ). get_or r 0 0) (entry-other table page p (entry x) ne)) ∙ h.1) in
-          ⊎_elim (λ (e : page ≡ p). absurd (ne (sym e))) (λ (c : Contains rest p). c) (Contains-cases rest page p (subst (λ (xs : List ℕ). Contains xs p) taken old)))
-          (cases_eq p page));
+      free = λ p. (
+        λ (h : Contains rest p).
+            let ne : p ≢ page = front_apart rest page p once h in
+            let old = (stands.free p).0 (subst (λ (xs : List ℕ). Contains xs p) (sym taken) (Contains-behind rest page p h)) in
+            (old.0, ap (λ (r : List ℕ). get_or r 0 0) (entry-other table page p (entry x) ne) ∙ old.1),
+        λ (h : (p < m.pages) × (space_word table' p ≡ 0)).
+            ⊎_elim (λ (e : p ≡ page). absurd (omega (arith, h.1, ap (λ (q : ℕ). space_word table' q) e, ap (λ (r : List ℕ). get_or r 0 0) (entry-same table page (entry x) within))))
+            (λ (ne : p ≢ page).
+            let old = (stands.free p).1 (h.0, sym (ap (λ (r : List ℕ). get_or r 0 0) (entry-other table page p (entry x) ne)) ∙ h.1) in
+            ⊎_elim (λ (e : page ≡ p). absurd (ne (sym e))) (λ (c : Contains rest p). c) (Contains-cases rest page p (subst (λ (xs : List ℕ). Contains xs p) taken old)))
+            (cases_eq p page),
+      );
       once = AllPairs-behind rest page once;
     }
 

@@ -1,5 +1,5 @@
 -- The entries of the page table and the current pages after a write.
-use Rattle.std.proofs.Common.{◌≡◌, ◌≢◌, ℕ, zero, suc, ◌+◌, ◌-◌, ◌*◌, ◌≤◌, ◌<◌, List, [], ◌∷◌, length, get_or, set, refl, sym, ap, ◌∙◌, subst, arith, inl, inr, ◌⊎◌, ⊎_elim, get_or-set_same, get_or-set_other}
+use Rattle.std.proofs.Common.{◌≡◌, ◌≢◌, ℕ, ◌-◌, ◌≤◌, ◌<◌, List, [], ◌∷◌, length, get_or, set, refl, sym, ap, ◌∙◌, arith, inl, inr, ◌⊎◌, ⊎_elim, get_or-set_same, get_or-set_other}
 use Rattle.std.proofs.lemmas.Bool.{cases_eq, cases_lt}
 use Rattle.std.proofs.lemmas.List.{set-set, set_past}
 use Rattle.heap_words.specs.Cells.{row, row_set}
@@ -29,10 +29,10 @@ entry-other table p q r ne = get_or-set_other table p q r [] ne
 pub space-with_used : (table : List (List ℕ)) (p q u : ℕ) → space_word (row_set table p 1 u) q ≡ space_word table q
 space-with_used table p q u =
     ⊎_elim (λ (e : q ≡ p).
-      let ne : 0 ≢ 1 = omega arith in
-      ⊎_elim (λ (lt : p < length table). rw e (ap (λ (r : List ℕ). get_or r 0 0) (get_or-set_same table p (set (row table p) 1 u) [] lt) ∙ get_or-set_other (row table p) 1 0 u 0 ne))
-      (λ (past : length table ≤ p). ap (λ (t : List (List ℕ)). space_word t q) (set_past table p (set (row table p) 1 u) past))
-      (cases_lt p (length table)))
+    let ne : 0 ≢ 1 = omega arith in
+    ⊎_elim (λ (lt : p < length table). rw e (ap (λ (r : List ℕ). get_or r 0 0) (get_or-set_same table p (set (row table p) 1 u) [] lt) ∙ get_or-set_other (row table p) 1 0 u 0 ne))
+    (λ (past : length table ≤ p). ap (λ (t : List (List ℕ)). space_word t q) (set_past table p (set (row table p) 1 u) past))
+    (cases_lt p (length table)))
     (λ (ne : q ≢ p). ap (λ (r : List ℕ). get_or r 0 0) (get_or-set_other table p q (set (row table p) 1 u) [] ne))
     (cases_eq q p)
 
@@ -59,8 +59,8 @@ current-other_depth currents t d e v ht ne = ap (λ (r : List ℕ). get_or r e 0
 pub current-cases : (currents : List (List ℕ)) (t d u e v : ℕ) → 1 ≤ t → 1 ≤ u → t - 1 < length currents → d < length (row currents (t - 1)) → ((u ≡ t) × (e ≡ d) × (current (row_set currents (t - 1) d v) u e ≡ v)) ⊎ (((u ≡ t) × (e ≡ d) → ⊥) × (current (row_set currents (t - 1) d v) u e ≡ current currents u e))
 current-cases currents t d u e v ht hu inside slot =
     ⊎_elim (λ (p : u ≡ t).
-      ⊎_elim (λ (q : e ≡ d). inl (p, q, ap (λ (x : ℕ). current (row_set currents (t - 1) d v) x e) p ∙ ap (λ (x : ℕ). current (row_set currents (t - 1) d v) t x) q ∙ current-same currents t d v inside slot))
-      (λ (ne : e ≢ d). inr (λ h. ne h.1, ap (λ (x : ℕ). current (row_set currents (t - 1) d v) x e) p ∙ current-other_depth currents t d e v inside ne ∙ ap (λ (x : ℕ). current currents x e) (sym p)))
-      (cases_eq e d))
+    ⊎_elim (λ (q : e ≡ d). inl (p, q, ap (λ (x : ℕ). current (row_set currents (t - 1) d v) x e) p ∙ ap (λ (x : ℕ). current (row_set currents (t - 1) d v) t x) q ∙ current-same currents t d v inside slot))
+    (λ (ne : e ≢ d). inr (λ h. ne h.1, ap (λ (x : ℕ). current (row_set currents (t - 1) d v) x e) p ∙ current-other_depth currents t d e v inside ne ∙ ap (λ (x : ℕ). current currents x e) (sym p)))
+    (cases_eq e d))
     (λ (ne : u ≢ t). let apart : u - 1 ≢ t - 1 = omega arith in inr (λ h. ne h.0, current-other_thread currents t d u e v apart))
     (cases_eq u t)

@@ -1,5 +1,5 @@
 -- What placing an object keeps.
-use Rattle.std.proofs.Common.{◌≡◌, ◌≢◌, ◌↔◌, ℕ, zero, suc, ◌+◌, ◌-◌, ◌*◌, ◌≤◌, ◌<◌, List, [], ◌∷◌, length, get_or, set, refl, sym, ap, ◌∙◌, subst, arith, inl, inr, ◌⊎◌, ⊎_elim, length-set}
+use Rattle.std.proofs.Common.{◌≡◌, ◌≢◌, ℕ, zero, suc, ◌+◌, ◌-◌, ◌*◌, ◌≤◌, ◌<◌, List, [], length, get_or, set, refl, sym, ap, ◌∙◌, arith, ⊎_elim, length-set}
 use Rattle.std.specs.List.{Contains}
 use Rattle.std.proofs.lemmas.Bool.{cases_eq, cases_lt}
 use Rattle.std.proofs.lemmas.Bool.Decides.{nat_tests}
@@ -15,7 +15,7 @@ use Rattle.yak_model.specs.Placed.{space_word, used_mark}
 use Rattle.yak_model.specs.Stands.{free_pages, PoolStands, current, CurrentsStand}
 use Rattle.yak_model.specs.Packed.{IsSpaceOf}
 use Rattle.region_pages.specs.Pages.{TableFits, with_claimed}
-use Rattle.region_pages.specs.Placement.{IsOwn, depth_in, words_left_at, with_used, IsPlacedInCurrent, IsWithinPage}
+use Rattle.region_pages.specs.Placement.{IsOwn, depth_in, words_left_at, with_used, IsPlacedInCurrent, IsLastInPage}
 use Rattle.region_pages.proofs.Shapes.{Shape}
 use Rattle.region_pages.proofs.Entries.{entry-same, space-with_used, used-with_used, used-with_used_other, current-cases}
 use Rattle.region_pages.proofs.Claims.{entry}
@@ -64,14 +64,14 @@ table-used m table p u rows lt long small fits =
 pub not_current : (m : Areas) (currents table : List (List ℕ)) (page u e : ℕ) → CurrentsStand m currents table → space_word table page ≡ 0 → 1 ≤ u → u ≤ m.threads → current currents u e ≢ page + 1
 not_current m currents table page u e stands free hu le is =
     ⊎_elim (λ (lt : e < length (row currents (u - 1))).
-      let some : current currents u e ≢ 0 = omega arith in
-      let b = stands.belong u e hu le lt some in
-      let at : current currents u e - 1 ≡ page = omega arith in
-      absurd (omega (arith, free, b.1, ap (λ (q : ℕ). space_word table q) at)))
+    let some : current currents u e ≢ 0 = omega arith in
+    let b = stands.belong u e hu le lt some in
+    let at : current currents u e - 1 ≡ page = omega arith in
+    absurd (omega (arith, free, b.1, ap (λ (q : ℕ). space_word table q) at)))
     (λ (past : length (row currents (u - 1)) ≤ e). absurd (omega (arith, get_or_past (row currents (u - 1)) e 0 past, is)))
     (cases_lt e (length (row currents (u - 1))))
 
-length-slots_set : (currents : List (List ℕ)) (t d u v : ℕ) → 1 ≤ t → 1 ≤ u → t - 1 < length currents → length (row (row_set currents (t - 1) d v) (u - 1)) ≡ length (row currents (u - 1))
+pub length-slots_set : (currents : List (List ℕ)) (t d u v : ℕ) → 1 ≤ t → 1 ≤ u → t - 1 < length currents → length (row (row_set currents (t - 1) d v) (u - 1)) ≡ length (row currents (u - 1))
 length-slots_set currents t d u v ht hu inside =
     ⊎_elim (λ (e : u - 1 ≡ t - 1). ap (λ (k : ℕ). length (row (row_set currents (t - 1) d v) k)) e ∙ ap (λ (r : List ℕ). length r) (get_or-set_same currents (t - 1) (set (row currents (t - 1)) d v) [] inside) ∙ length-set (row currents (t - 1)) d v ∙ ap (λ (k : ℕ). length (row currents k)) (sym e))
     (λ (ne : u - 1 ≢ t - 1). ap (λ (r : List ℕ). length r) (get_or-set_other currents (t - 1) (u - 1) (set (row currents (t - 1)) d v) [] ne))
@@ -84,23 +84,23 @@ currents-moved m currents table t d page ht inside slot fresh lt word stands =
     record {
       belong = λ u e hu le he some.
           ⊎_elim (λ (w : (u ≡ t) × (e ≡ d) × (current new u e ≡ page + 1)).
-            let at : current new u e - 1 ≡ page = omega (arith, w.2) in
-            (omega (arith, w.2), ap (λ (q : ℕ). space_word table q) at ∙ word ∙ ap (λ (k : ℕ). space_index (inner_of k d) + 1) (sym w.0) ∙ ap (λ (k : ℕ). space_index (inner_of u k) + 1) (sym w.1)))
+          let at : current new u e - 1 ≡ page = omega (arith, w.2) in
+          (omega (arith, w.2), ap (λ (q : ℕ). space_word table q) at ∙ word ∙ ap (λ (k : ℕ). space_index (inner_of k d) + 1) (sym w.0) ∙ ap (λ (k : ℕ). space_index (inner_of u k) + 1) (sym w.1)))
           (λ (w : ((u ≡ t) × (e ≡ d) → ⊥) × (current new u e ≡ current currents u e)).
-            let inside_old : e < length (row currents (u - 1)) = omega (arith, length-slots_set currents t d u (page + 1) ht.0 hu inside) in
-            let some_old : current currents u e ≢ 0 = λ z. some (w.1 ∙ z) in
-            let b = stands.belong u e hu le inside_old some_old in
-            (omega (arith, w.1, b.0), ap (λ (k : ℕ). space_word table (k - 1)) w.1 ∙ b.1))
+          let inside_old : e < length (row currents (u - 1)) = omega (arith, length-slots_set currents t d u (page + 1) ht.0 hu inside) in
+          let some_old : current currents u e ≢ 0 = λ z. some (w.1 ∙ z) in
+          let b = stands.belong u e hu le inside_old some_old in
+          (omega (arith, w.1, b.0), ap (λ (k : ℕ). space_word table (k - 1)) w.1 ∙ b.1))
           (current-cases currents t d u e (page + 1) ht.0 hu inside slot);
       once = λ u e v f hu lu hv lv some same.
           ⊎_elim (λ (w : (u ≡ t) × (e ≡ d) × (current new u e ≡ page + 1)).
-            ⊎_elim (λ (z : (v ≡ t) × (f ≡ d) × (current new v f ≡ page + 1)). (w.0 ∙ sym z.0, w.1 ∙ sym z.1))
-            (λ (z : ((v ≡ t) × (f ≡ d) → ⊥) × (current new v f ≡ current currents v f)). absurd (fresh v f hv lv (sym z.1 ∙ sym same ∙ w.2)))
-            (current-cases currents t d v f (page + 1) ht.0 hv inside slot))
+          ⊎_elim (λ (z : (v ≡ t) × (f ≡ d) × (current new v f ≡ page + 1)). (w.0 ∙ sym z.0, w.1 ∙ sym z.1))
+          (λ (z : ((v ≡ t) × (f ≡ d) → ⊥) × (current new v f ≡ current currents v f)). absurd (fresh v f hv lv (sym z.1 ∙ sym same ∙ w.2)))
+          (current-cases currents t d v f (page + 1) ht.0 hv inside slot))
           (λ (w : ((u ≡ t) × (e ≡ d) → ⊥) × (current new u e ≡ current currents u e)).
-            ⊎_elim (λ (z : (v ≡ t) × (f ≡ d) × (current new v f ≡ page + 1)). absurd (fresh u e hu lu (sym w.1 ∙ same ∙ z.2)))
-            (λ (z : ((v ≡ t) × (f ≡ d) → ⊥) × (current new v f ≡ current currents v f)). stands.once u e v f hu lu hv lv (λ q. some (w.1 ∙ q)) (sym w.1 ∙ same ∙ z.1))
-            (current-cases currents t d v f (page + 1) ht.0 hv inside slot))
+          ⊎_elim (λ (z : (v ≡ t) × (f ≡ d) × (current new v f ≡ page + 1)). absurd (fresh u e hu lu (sym w.1 ∙ same ∙ z.2)))
+          (λ (z : ((v ≡ t) × (f ≡ d) → ⊥) × (current new v f ≡ current currents v f)). stands.once u e v f hu lu hv lv (λ q. some (w.1 ∙ q)) (sym w.1 ∙ same ∙ z.1))
+          (current-cases currents t d v f (page + 1) ht.0 hv inside slot))
           (current-cases currents t d u e (page + 1) ht.0 hu inside slot);
     }
 
@@ -120,17 +120,33 @@ enough_left m c t d size page e fits =
     let used = ap (λ (q : ℕ). used_mark c.table q) at in
     grind (arith, nat_tests)
 
--- words behind the used ones of a page lie within it
-within_page : (w p u n : ℕ) → u + n ≤ w → w * p + u + n ≤ w * (p + 1)
-within_page w p u n h = grind arith
+-- the words that were taken are the last ones in use
+pub is_last : (m : Areas) (table : List (List ℕ)) (x : Space) (p u n : ℕ) → length table ≡ m.pages → p < m.pages → length (row table p) ≡ 2 → space_word table p ≡ space_index x + 1 → u + n ≤ page_words m → IsLastInPage m (row_set table p 1 (u + n)) x (page_words m * p + u) n
+is_last m table x p u n rows lt long entered fits =
+    let within : p < length table = omega arith in
+    let mark = used-with_used table p (u + n) within long in
+    record {
+      page = p;
+      exists = lt;
+      entered = space-with_used table p p (u + n) ∙ entered;
+      from = omega arith;
+      ends = omega (arith, mark);
+      fits = omega (arith, mark);
+    }
 
-pub is_within : (m : Areas) (p u n : ℕ) → p < m.pages → u + n ≤ page_words m → IsWithinPage m (page_words m * p + u) n
-is_within m p u n lt h = record {
-  page = p;
-  exists = lt;
-  from = omega arith;
-  to = within_page (page_words m) p u n h;
-}
+-- the same of a page of which nothing was in use
+pub is_last_front : (m : Areas) (table : List (List ℕ)) (x : Space) (p n : ℕ) → length table ≡ m.pages → p < m.pages → length (row table p) ≡ 2 → space_word table p ≡ space_index x + 1 → n ≤ page_words m → IsLastInPage m (row_set table p 1 n) x (page_words m * p) n
+is_last_front m table x p n rows lt long entered fits =
+    let within : p < length table = omega arith in
+    let mark = used-with_used table p n within long in
+    record {
+      page = p;
+      exists = lt;
+      entered = space-with_used table p p n ∙ entered;
+      from = omega arith;
+      ends = omega (arith, mark);
+      fits = omega (arith, mark);
+    }
 
 pub is_placed : (m : Areas) (c after : Contents) (t d size page used : ℕ) → current c.currents t d ≡ page + 1 → used ≡ used_mark c.table page → used + size ≤ page_words m → after ≡ with_used c page (used + size) → IsPlacedInCurrent m c t d size (page_words m * page + used) after
 is_placed m c after t d size page used e hu fits changed =
@@ -141,6 +157,12 @@ is_placed m c after t d size page used e hu fits changed =
       address = ap (λ (q : ℕ). page_words m * q + used) at ∙ ap (λ (u : ℕ). page_words m * (current c.currents t d - 1) + u) mark;
       changed = changed ∙ ap (λ (q : ℕ). with_used c q (used + size)) at ∙ ap (λ (u : ℕ). with_used c (current c.currents t d - 1) (u + size)) mark;
     }
+
+-- the word of a claimed page's space
+pub claimed_word : (m : Areas) (c claimed : Contents) (x : Space) (page : ℕ) → Shape m c → page < m.pages → claimed ≡ with_claimed c x page → space_word claimed.table page ≡ space_index x + 1
+claimed_word m c claimed x page s lt is =
+    let within : page < length c.table = omega (arith, s.table) in
+    ap (λ (y : Contents). space_word y.table page) is ∙ ap (λ (r : List ℕ). get_or r 0 0) (entry-same c.table page (entry x) within)
 
 -- the current pages after an object is placed on a claimed page
 pub currents-placed : (m : Areas) (c claimed : Contents) (x : Space) (t page u : ℕ) → Shape m c → Shape m claimed → HasThread m t → IsSpaceOf m x → IsOwn t x → page < m.pages → space_word c.table page ≡ 0 → CurrentsStand m c.currents c.table → CurrentsStand m claimed.currents claimed.table → claimed ≡ with_claimed c x page → CurrentsStand m (row_set claimed.currents (t - 1) (depth_in x) (page + 1)) (row_set claimed.table page 1 u)

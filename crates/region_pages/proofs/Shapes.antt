@@ -1,10 +1,10 @@
 -- How long the lists of the contents are.
-use Rattle.std.proofs.Common.{◌≡◌, ℕ, ◌+◌, ◌-◌, ◌*◌, ◌≤◌, ◌<◌, List, length, drop, refl, sym, ap, ◌∙◌, arith, length-take, length-drop}
+use Rattle.std.proofs.Common.{◌≡◌, ℕ, ◌+◌, ◌-◌, ◌*◌, ◌≤◌, ◌<◌, List, length, drop, ap, ◌∙◌, arith, length-take, length-drop}
 use Rattle.heap_words.specs.declared.map.Areas.{Areas}
-use Rattle.heap_words.specs.declared.TheConstants.{HEAD_WORDS, CURRENT_PAGES}
+use Rattle.heap_words.specs.declared.TheConstants.{HEAD_WORDS}
 use Rattle.heap_words.specs.Map.{HasThread, total_of, table_at, max_depth, block_words}
-use Rattle.heap_words.specs.Cells.{Block, row, block, raw_block, block_of, cells}
-use Rattle.heap_words.specs.Contents.{Contents, contents, currents_of, Sound}
+use Rattle.heap_words.specs.Cells.{Block, row, raw_block, block_of, cells}
+use Rattle.heap_words.specs.Contents.{Contents, contents, Sound}
 use Rattle.heap_words.proofs.Rows.{length-row, length-rows}
 use Rattle.heap_words.proofs.Cells.{length-raw_block, cells-block}
 use Rattle.heap_words.proofs.Contents.{current-of_block, length-pool, length-currents}

@@ -2,9 +2,13 @@
 #![tactic(auto)]
 
 mod claim;
+mod counts;
+mod freeing;
 mod placement;
 
 pub use claim::claim_page;
+pub use counts::{census, packed, pages_of};
+pub use freeing::{rebuild_pool, release_space};
 pub use placement::place;
 
 /// Where the claim counter stands in the heads.

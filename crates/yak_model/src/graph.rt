@@ -5,13 +5,15 @@ ghost use Rattle.yak_model.specs.Graph.{Thread, Graph, Fields, Does, IsThread, a
 ghost use Rattle.yak_model.specs.declared.datum.Datum.TheVariants as datum;
 ghost use Rattle.object_layout.specs.declared.replies.Reply.TheVariants as said;
 ghost use Rattle.yak_model.specs.Names.{root_name};
-ghost use Rattle.yak_model.specs.Agreement.{MachinesAgree};
-ghost use Rattle.yak_model.specs.Private.{NamesStayMade, PrivacyIsKept};
-ghost use Rattle.yak_model.specs.Unique.{StatesAreUnique};
+ghost use Rattle.std.specs.FinMap.{from_entries};
+ghost use Rattle.object_layout.specs.Calls.{IsCall};
 
 use crate::datum::Datum;
 use crate::{ROOT_FIELDS, STACK_SLOTS};
-use object_layout::{Call, MAX_DEPTH, MAX_SERIAL, Name, OBJECT_WORDS, PAGE_WORDS, Refusal, Reply};
+use object_layout::{
+    Call, MAX_DEPTH, MAX_SERIAL, MAX_THREADS, Name, NoMemory, OBJECT_WORDS, PAGE_WORDS, Refusal,
+    Reply,
+};
 use std::alloc::{AllocError, Global};
 use std::collections::VecDeque;
 use std::marker::Model;
@@ -122,7 +124,7 @@ fn deeper(depth: u8, greatest: u8) -> u8
 
 /// An object as some write left it.
 #[derive(Drop)]
-struct Written {
+pub(crate) struct Written {
     name: Name,
     fields: Vec<Datum>,
 }
@@ -135,6 +137,15 @@ impl Model for Written {
     ghost Value = { Name × Content };
 
     ghost view = { λ a. (a.name, Fields a.fields.items) };
+}
+
+impl Written {
+    /// An object with these fields.
+    pub(crate) fn new(name: Name, fields: Vec<Datum>) -> Written
+        ensures { result ≡ (name, Fields fields.items) }
+    {
+        Written { name, fields }
+    }
 }
 
 /// The heap as a graph of objects: each write of an object, the newest first, and the threads.
@@ -188,7 +199,16 @@ fn first_states(alloc: Global, threads: u8) -> Result<Vec<ThreadState>, AllocErr
 
 impl GraphState {
     /// The graph of a heap of so many threads as it opens.
-    pub fn new(alloc: Global, threads: u8) -> Result<GraphState, AllocError>
+    pub fn new(alloc: Global, threads: u8) -> Result<GraphState, NoMemory>
+        requires first { 1 ≤ threads }
+        requires last { threads ≤ MAX_THREADS }
+        ensures { IfOk result (λ state. state ≡ opening standard_limits threads) }
+    {
+        GraphState::opened(alloc, threads).map_err(|_| NoMemory)
+    }
+
+    /// The graph as it opens.
+    pub(crate) fn opened(alloc: Global, threads: u8) -> Result<GraphState, AllocError>
         ensures { IfOk result (λ state. state ≡ opening standard_limits threads) }
     {
         let fields = vec![in alloc; Datum::Null; ROOT_FIELDS]?;
@@ -227,7 +247,7 @@ impl GraphState {
     }
 
     /// The fields of the object that a value refers to.
-    fn fields_at(&self, value: Datum) -> &[Datum]
+    pub(crate) fn fields_at(&self, value: Datum) -> &[Datum]
         ensures { result.now ≡ fields_at self.now value }
     {
         if let Datum::Object(name) = value {
@@ -241,7 +261,7 @@ impl GraphState {
     }
 
     /// Why a call is refused, other than for want of room in the heap.
-    fn refusal(&self, thread: u8, call: Call) -> Option<Refusal>
+    pub(crate) fn refusal(&self, thread: u8, call: Call) -> Option<Refusal>
         requires { IsThread self.now thread }
         ensures { result ≡ refusal_of self.now thread call }
     {
@@ -362,7 +382,7 @@ impl GraphState {
     }
 
     /// Makes an object of null fields, and pushes a reference to it.
-    fn make(&mut self, thread: u8, k: u32) -> Result<(), AllocError>
+    pub(crate) fn make(&mut self, thread: u8, k: u32) -> Result<(), AllocError>
         requires thread { IsThread self.old thread }
         requires room { (thread_of self.old thread).made < MAX_SERIAL }
         ensures ok { OnOk result (self.new ≡ make self.old thread k) }
@@ -407,7 +427,7 @@ impl GraphState {
     }
 
     /// Changes the depth of a thread.
-    fn set_depth(&mut self, thread: u8, depth: u8)
+    pub(crate) fn set_depth(&mut self, thread: u8, depth: u8)
         requires { IsThread self.old thread }
         ensures { self.new ≡ with_depth self.old thread depth }
     {
@@ -520,7 +540,7 @@ impl GraphState {
     }
 
     /// The depth of a thread's epochs.
-    fn depth_of(&self, thread: u8) -> u8
+    pub(crate) fn depth_of(&self, thread: u8) -> u8
         requires { IsThread self.now thread }
         ensures { result ≡ (thread_of self.now thread).depth }
     {
@@ -537,8 +557,47 @@ impl GraphState {
         }
     }
 
+    /// The threads, of which the first has the number 1.
+    pub(crate) fn threads(&self) -> &[ThreadState]
+        ensures { result.now ≡ self.now.threads }
+    {
+        &self.threads
+    }
+
+    /// The number of objects that a thread has made.
+    pub(crate) fn made_by(&self, thread: u8) -> u64
+        requires { IsThread self.now thread }
+        ensures { result ≡ (thread_of self.now thread).made }
+    {
+        self.threads[thread as usize - 1].made()
+    }
+
+    /// Puts these objects in the place of all others.
+    pub(crate) fn set_objects(&mut self, writes: VecDeque<Written>)
+        ensures { self.new ≡ record self.old { objects = from_entries writes.items } }
+    {
+        self.writes = writes;
+    }
+
+    /// Makes a call where the reply is allowed, and tells whether it is. Otherwise nothing changes.
+    pub fn step(&mut self, thread: u8, call: Call, reply: Reply) -> Result<bool, NoMemory>
+        requires thread { IsThread self.old thread }
+        requires number { IsCall call }
+        ensures allowed { IfOk result (λ done. done ≡ true → answers self.old thread call reply self.new) }
+        ensures denied { IfOk result (λ done. done ≡ false → ((h : Graph) → answers self.old thread call reply h → ⊥) × (self.new ≡ self.old)) }
+        ensures err { OnErr result (self.new ≡ self.old) }
+        ensures threads { length self.new.threads ≡ length self.old.threads }
+    {
+        self.answer(thread, call, reply).map_err(|_| NoMemory)
+    }
+
     /// Makes a call where the reply is allowed, and tells whether it is.
-    pub fn step(&mut self, thread: u8, call: Call, reply: Reply) -> Result<bool, AllocError>
+    pub(crate) fn answer(
+        &mut self,
+        thread: u8,
+        call: Call,
+        reply: Reply,
+    ) -> Result<bool, AllocError>
         requires { IsThread self.old thread }
         ensures allowed { IfOk result (λ done. done ≡ true → answers self.old thread call reply self.new) }
         ensures denied { IfOk result (λ done. done ≡ false → ((h : Graph) → answers self.old thread call reply h → ⊥) × (self.new ≡ self.old)) }
@@ -550,23 +609,3 @@ impl GraphState {
         }
     }
 }
-
-/// The graph and the spaces agree along every history.
-pub fn agreement()
-    ensures { MachinesAgree }
-{}
-
-/// The end of an epoch and a collection each lead to one state.
-pub fn uniqueness()
-    ensures { StatesAreUnique }
-{}
-
-/// What one thread alone knows stays so, whatever entry comes.
-pub fn privacy()
-    ensures { PrivacyIsKept }
-{}
-
-/// Each name in the graph stays that of an object that was made.
-pub fn freshness()
-    ensures { NamesStayMade }
-{}

@@ -4,7 +4,16 @@
 
 pub mod datum;
 pub mod graph;
-pub mod spaces;
+mod homes;
+pub mod laws;
+pub mod space_state;
+mod spaces;
+#[cfg(test)]
+mod tests;
+
+pub use datum::Datum;
+pub use graph::GraphState;
+pub use space_state::SpaceState;
 
 /// The greatest number of slots of a stack.
 pub const STACK_SLOTS: usize = 64;

@@ -6,7 +6,7 @@ use Rattle.mark_compact.specs.Marking.{Marking, GoesOn, IsFollowed, IsLead}
 use Rattle.mark_compact.proofs.Follows.{stays}
 use Rattle.mark_compact.proofs.Scans.{then_on}
 use Rattle.mark_compact.proofs.Stacks.{slot_lead, slot_more, stack_marked}
-use Rattle.relocation.proofs.Laid.{stack_size, slot_word}
+use Rattle.heap_walks.proofs.Stacks.{stack_size, slot_word}
 use Rattle.mark_compact.proofs.marking.mark_stack.Goals as goal
 
 pub get_stack-word-requires-clause-within : goal.get_stack-word-requires-clause-within
@@ -29,6 +29,7 @@ pub loop-s-init : goal.loop-s-init
 loop-s-init g c = record {
   sound = rw c.stack_length-length.ensures.words c.requires.sound;
   base = c.stack_length-length.ensures.base;
+  reads = omega (arith, c.stack_length-length.ensures.reads);
   marking = λ h mk. rw c.stack_length-length.ensures.words (stays _ h _ _ mk, λ j lt. absurd (omega (arith, lt)));
 }
 
@@ -36,6 +37,7 @@ pub loop-s-preserved : goal.loop-s-preserved
 loop-s-preserved g c = record {
   sound = c.mark_reference-count.ensures.sound;
   base = c.mark_reference-count.ensures.base ∙ c.get_stack-word.ensures.base ∙ c.loop-s.invariant.base;
+  reads = omega (arith, c.mark_reference-count.ensures.reads, c.get_stack-word.ensures.reads, c.loop-s.invariant.reads);
   marking = λ h mk.
       let m = c.args.map in
       let old = contents m (g.W.Words.words c.args.words.now) in
@@ -49,7 +51,7 @@ loop-s-preserved g c = record {
       let same : contents m (g.W.Words.words c.get_stack-word.new.words) ≡ mid = ap (contents m) c.get_stack-word.ensures.words in
       let next : GoesOn m h mid c.loop-s.count new c.mark_reference-count.result × IsFollowed h new c.get_stack-word.result =
       subst (λ x. Marking m h x c.loop-s.count → IsLead h c.get_stack-word.result → GoesOn m h x c.loop-s.count new c.mark_reference-count.result × IsFollowed h new c.get_stack-word.result) same (c.mark_reference-count.ensures.marking h) now.0.marking lead in
-      (then_on m h old mid new c.args.count c.loop-s.count c.mark_reference-count.result now.0 next.0, slot_more m h mid new _ _ (c.args.thread - 1) c.loop-s.s _ next.0.grows e now.1 next.1);
+      (then_on m h old mid new c.args.count c.loop-s.count c.mark_reference-count.result now.0 next.0, slot_more h mid new _ _ (c.args.thread - 1) c.loop-s.s _ next.0.grows e now.1 next.1);
 }
 
 pub returns-clause-marking : goal.returns-clause-marking
@@ -57,3 +59,6 @@ returns-clause-marking g c h mk =
     let now = c.loop-s.invariant.marking h mk in
     let n = stack_size _ h _ c.args.thread mk.among in
     (now.0, stack_marked h (contents c.args.map (g.W.Words.words c.loop-s.words)) (c.args.thread - 1) c.loop-s.s (omega (arith, n, c.stack_length-length.ensures.value)) now.1)
+
+pub returns-clause-reads : goal.returns-clause-reads
+returns-clause-reads g c = omega (arith, c.loop-s.invariant.reads, c.stack_length-length.ensures.value)

@@ -1,4 +1,4 @@
-use Rattle.std.proofs.Common.{◌≡◌, ℕ, ◌<◌, List, length, ap, ◌∙◌, arith}
+use Rattle.std.proofs.Common.{ℕ, ◌<◌, List, length, ap, ◌∙◌, arith}
 use Rattle.heap_words.specs.Contents.{Contents, contents, with_page}
 use Rattle.region_pages.proofs.Shapes.{Shape, shape}
 use Rattle.region_pages.proofs.Entries.{entry-both}

@@ -1,4 +1,4 @@
-use Rattle.std.proofs.Common.{◌≡◌, ℕ, ◌+◌, ◌<◌, ◌≤◌, List, ◌∷◌, get_or, ap, sym, ◌∙◌, arith}
+use Rattle.std.proofs.Common.{◌≡◌, ℕ, ◌+◌, List, ◌∷◌, get_or, ap, sym, ◌∙◌, arith}
 use Rattle.heap_words.specs.Contents.{Contents, contents, with_head}
 use Rattle.yak_model.specs.Stands.{claim_counter, pool_length, free_pages}
 use Rattle.region_pages.proofs.Shapes.{shape}

@@ -1,0 +1,10 @@
+pub mod Tells
+pub mod Counted
+pub mod Writes
+pub mod Owes
+pub mod Fields
+pub mod Pops
+pub mod Drains
+pub mod Settles
+pub mod Outside
+pub mod Ends

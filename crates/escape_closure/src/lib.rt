@@ -1,0 +1,13 @@
+//! The end of a region: the objects that escape from it, and their targets.
+#![tactic(auto)]
+
+mod ending;
+mod raising;
+mod sources;
+
+/// What the work word of an object counts more while it waits on the list.
+const WAITING: u64 = 128;
+/// Where the number of the recorded slots stands in the heads.
+const SET_ENTRIES: usize = 3;
+/// Where the work word stands in an object.
+const WORK_WORD: usize = 2;

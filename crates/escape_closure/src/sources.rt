@@ -1,0 +1,142 @@
+//! The references into a region from outside, which raise the targets of the objects to which they lead.
+
+ghost use Rattle.std.specs.Prelude.{◌≡◌, ◌≢◌, ◌≤◌, ◌<◌, ◌+◌, ◌-◌, ◌*◌, ◌/◌, ℕ, length, slice_index, [], slice_index_or};
+ghost use Rattle.std.specs.Int.{IsBitSet};
+ghost use Rattle.epoch_lattice.specs.declared.TheConstants.{MAX_DEPTH};
+ghost use Rattle.epoch_lattice.specs.declared.Space.TheVariants.{Control};
+ghost use Rattle.epoch_lattice.specs.Lattice.{IsValid, space_index};
+ghost use Rattle.heap_words.specs.Map.{HasThread, IsAreas, heap_length, page_words};
+ghost use Rattle.heap_words.specs.declared.TheConstants.{STACK_SLOTS};
+ghost use Rattle.heap_words.specs.Contents.{contents, Sound};
+ghost use Rattle.yak_model.specs.Stands.{set_entries};
+ghost use Rattle.yak_model.specs.Recorded.{RecordedAs};
+ghost use Rattle.escape_closure.specs.Raising.{Ended, Raising, RaisesOn, IsStackDue, IsStackPaid, IsSlotPaid, AreEntriesPaid};
+
+use crate::SET_ENTRIES;
+use crate::raising::{Tally, raise, target_of};
+use epoch_lattice::{Space, index_of};
+use heap_words::{Areas, Words, get_head, get_heap, get_page, get_set, get_stack, stack_length};
+
+/// Raises the targets of the objects of the region to which a thread's stack refers.
+pub(crate) fn raise_stack<W: Words>(
+    words: &mut W,
+    map: Areas,
+    tally: Tally,
+    region: u8,
+    thread: u8,
+    space: Space,
+) -> Tally
+    requires sound { Sound map (W.words words.old) }
+    requires thread { HasThread map thread }
+    requires valid { IsValid MAX_DEPTH space }
+    requires some { ∥ ((e : Ended) × (space_index e.region ≡ region) × Raising map e (contents map (W.words words.old)) tally × IsStackDue e (thread - 1) space) ∥₁ }
+    ensures raising { (e : Ended) → space_index e.region ≡ region → Raising map e (contents map (W.words words.old)) tally → IsStackDue e (thread - 1) space → RaisesOn map e (contents map (W.words words.old)) (contents map (W.words words.new)) result × IsStackPaid e (contents map (W.words words.new)) (thread - 1) space × (W.reads words.new ≤ W.reads words.old + (1 + 3 * length (slice_index_or e.laid.state.stacks (thread - 1) []))) }
+    ensures sound { Sound map (W.words words.new) }
+    ensures base { W.base words.new ≡ W.base words.old }
+{
+    let length = stack_length(words, map, thread);
+    let mut tally = tally;
+    for s in 0..length {
+        let word = get_stack(words, map, thread, s);
+        tally = raise(words, map, tally, region, word, space);
+    }
+    tally
+}
+
+/// The page in which a heap word stands.
+fn page_of(map: Areas, a: usize) -> u32
+    requires areas { IsAreas map }
+    requires within { a < heap_length map }
+    ensures { result ≡ a / page_words map }
+{
+    (a / map.page_words() as usize) as u32
+}
+
+/// Raises the target of the object of the region to which a recorded slot refers from outside.
+fn raise_slot<W: Words>(words: &mut W, map: Areas, tally: Tally, region: u8, i: usize) -> Tally
+    requires sound { Sound map (W.words words.old) }
+    requires within { i < set_entries (contents map (W.words words.old)).heads }
+    requires some { ∥ ((e : Ended) × (space_index e.region ≡ region) × Raising map e (contents map (W.words words.old)) tally × RecordedAs map e.laid.before e.laid.state e.laid.places.at) ∥₁ }
+    ensures raising { (e : Ended) → space_index e.region ≡ region → Raising map e (contents map (W.words words.old)) tally → RecordedAs map e.laid.before e.laid.state e.laid.places.at → RaisesOn map e (contents map (W.words words.old)) (contents map (W.words words.new)) result × IsSlotPaid e (contents map (W.words words.new)) (slice_index e.laid.before.sets i) }
+    ensures sound { Sound map (W.words words.new) }
+    ensures reads { W.reads words.new ≤ W.reads words.old + 5 }
+    ensures base { W.base words.new ≡ W.base words.old }
+{
+    let slot = get_set(words, map, i) as usize;
+    let told = get_page(words, map, page_of(map, slot), 0);
+    let Some(space) = target_of(told) else {
+        return tally;
+    };
+    if index_of(space) == region {
+        return tally;
+    }
+    let word = get_heap(words, map, slot);
+    raise(words, map, tally, region, word, space)
+}
+
+/// Raises the targets of the objects of the region to which recorded slots refer from outside.
+pub(crate) fn raise_slots<W: Words>(words: &mut W, map: Areas, tally: Tally, region: u8) -> Tally
+    requires sound { Sound map (W.words words.old) }
+    requires some { ∥ ((e : Ended) × (space_index e.region ≡ region) × Raising map e (contents map (W.words words.old)) tally × RecordedAs map e.laid.before e.laid.state e.laid.places.at) ∥₁ }
+    ensures raising { (e : Ended) → space_index e.region ≡ region → Raising map e (contents map (W.words words.old)) tally → RecordedAs map e.laid.before e.laid.state e.laid.places.at → RaisesOn map e (contents map (W.words words.old)) (contents map (W.words words.new)) result × AreEntriesPaid e (contents map (W.words words.new)) (set_entries e.laid.before.heads) × (W.reads words.new ≤ W.reads words.old + (1 + 5 * set_entries e.laid.before.heads)) }
+    ensures sound { Sound map (W.words words.new) }
+    ensures base { W.base words.new ≡ W.base words.old }
+{
+    let entries = get_head(words, map, SET_ENTRIES) as usize;
+    let mut tally = tally;
+    for i in 0..entries {
+        tally = raise_slot(words, map, tally, region, i);
+    }
+    tally
+}
+
+/// Raises to the control space the targets behind the stack of a thread that may read the region.
+fn raise_reader<W: Words>(
+    words: &mut W,
+    map: Areas,
+    tally: Tally,
+    region: u8,
+    thread: u8,
+    reader: u8,
+    readers: u64,
+) -> Tally
+    requires sound { Sound map (W.words words.old) }
+    requires reader { HasThread map reader }
+    requires thread { 1 ≤ thread }
+    requires some { ∥ ((e : Ended) × (space_index e.region ≡ region) × Raising map e (contents map (W.words words.old)) tally × (e.thread ≡ thread)) ∥₁ }
+    ensures raising { (e : Ended) → space_index e.region ≡ region → Raising map e (contents map (W.words words.old)) tally → e.thread ≡ thread → RaisesOn map e (contents map (W.words words.old)) (contents map (W.words words.new)) result × (reader ≢ thread → IsBitSet readers (reader - 1) → IsStackPaid e (contents map (W.words words.new)) (reader - 1) Control) × (W.reads words.new ≤ W.reads words.old + (1 + 3 * STACK_SLOTS)) }
+    ensures sound { Sound map (W.words words.new) }
+    ensures base { W.base words.new ≡ W.base words.old }
+{
+    if reader == thread {
+        return tally;
+    }
+    let bit = (readers >> (reader - 1)) & 1;
+    if bit == 0 {
+        return tally;
+    }
+    raise_stack(words, map, tally, region, reader, Space::Control)
+}
+
+/// Raises to the control space the targets behind the stacks of the region's readers.
+pub(crate) fn raise_readers<W: Words>(
+    words: &mut W,
+    map: Areas,
+    tally: Tally,
+    region: u8,
+    thread: u8,
+    readers: u64,
+) -> Tally
+    requires sound { Sound map (W.words words.old) }
+    requires thread { 1 ≤ thread }
+    requires some { ∥ ((e : Ended) × (space_index e.region ≡ region) × Raising map e (contents map (W.words words.old)) tally × (e.thread ≡ thread)) ∥₁ }
+    ensures raising { (e : Ended) → space_index e.region ≡ region → Raising map e (contents map (W.words words.old)) tally → e.thread ≡ thread → RaisesOn map e (contents map (W.words words.old)) (contents map (W.words words.new)) result × ((t : ℕ) → t < map.threads → t + 1 ≢ thread → IsBitSet readers t → IsStackPaid e (contents map (W.words words.new)) t Control) × (W.reads words.new ≤ W.reads words.old + (1 + 3 * STACK_SLOTS) * map.threads) }
+    ensures sound { Sound map (W.words words.new) }
+    ensures base { W.base words.new ≡ W.base words.old }
+{
+    let mut tally = tally;
+    for t in 0..map.threads {
+        tally = raise_reader(words, map, tally, region, thread, t + 1, readers);
+    }
+    tally
+}

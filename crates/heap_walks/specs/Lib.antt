@@ -1,0 +1,4 @@
+pub mod Laid
+pub mod Reach
+pub mod Listed
+pub mod Walked

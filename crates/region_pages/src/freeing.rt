@@ -1,0 +1,85 @@
+//! Pages that come back: the pool is made anew.
+
+ghost use Rattle.std.specs.Prelude.{◌≡◌, ◌≤◌, ◌<◌, ◌+◌, ◌*◌, ◌↔◌, ◌⊎◌, ℕ, length};
+ghost use Rattle.std.specs.List.{Contains};
+ghost use Rattle.epoch_lattice.specs.Lattice.{space_index};
+ghost use Rattle.heap_words.specs.Contents.{contents, Sound};
+ghost use Rattle.yak_model.specs.Placed.{space_word};
+ghost use Rattle.yak_model.specs.Stands.{CurrentsStand, PoolStands, free_pages};
+ghost use Rattle.region_pages.specs.Pages.{TableFits};
+ghost use Rattle.region_pages.specs.Freeing.{IsRegionOf, free_below, freed_table, pool_with, with_pool_rebuilt, with_released};
+
+use crate::claim::set_entry;
+use crate::{CLAIM_COUNTER, POOL_LENGTH, SPACE_WORD};
+use epoch_lattice::{Space, index_of};
+use heap_words::{Areas, Words, get_page, set_current, set_head, set_pool};
+
+/// Makes the pool anew: all free pages in ascending order, none of them claimed.
+pub fn rebuild_pool<W: Words>(words: &mut W, map: Areas)
+    requires { Sound map (W.words words.old) }
+    ensures rebuilt { contents map (W.words words.new) ≡ with_pool_rebuilt (contents map (W.words words.old)) }
+    ensures pool { let c = contents map (W.words words.new) in PoolStands map c.heads c.pool c.table }
+    ensures free { let c = contents map (W.words words.new) in free_pages c.heads c.pool ≡ free_below c.table map.pages }
+    ensures sound { Sound map (W.words words.new) }
+    ensures reads { W.reads words.new ≤ W.reads words.old + map.pages }
+    ensures base { W.base words.new ≡ W.base words.old }
+{
+    let length = fill_pool(words, map);
+    set_head(words, map, CLAIM_COUNTER, 0);
+    set_head(words, map, POOL_LENGTH, u64::from(length));
+}
+
+/// Gives all pages of a region back, so that it has no current page, and makes the pool anew.
+pub fn release_space<W: Words>(words: &mut W, map: Areas, space: Space)
+    requires sound { Sound map (W.words words.old) }
+    requires region { IsRegionOf map space }
+    ensures released { contents map (W.words words.new) ≡ with_released (contents map (W.words words.old)) space }
+    ensures free { let c = contents map (W.words words.old) in let after = contents map (W.words words.new) in (p : ℕ) → Contains (free_pages after.heads after.pool) p ↔ ((p < map.pages) × ((space_word c.table p ≡ 0) ⊎ (space_word c.table p ≡ space_index space + 1))) }
+    ensures sound { Sound map (W.words words.new) }
+    ensures table { TableFits map (contents map (W.words words.old)).table → TableFits map (contents map (W.words words.new)).table }
+    ensures pool { let c = contents map (W.words words.new) in PoolStands map c.heads c.pool c.table }
+    ensures currents { let c = contents map (W.words words.old) in let after = contents map (W.words words.new) in CurrentsStand map c.currents c.table → CurrentsStand map after.currents after.table }
+    ensures reads { W.reads words.new ≤ W.reads words.old + 2 * map.pages }
+    ensures base { W.base words.new ≡ W.base words.old }
+{
+    let Space::Region { thread, depth } = space else {
+        return;
+    };
+    free_entries(words, map, u64::from(index_of(space)) + 1);
+    set_current(words, map, thread, depth, 0);
+    rebuild_pool(words, map);
+}
+
+/// Writes the free pages into the pool from its first entry on, in ascending order, and counts them.
+fn fill_pool<W: Words>(words: &mut W, map: Areas) -> u32
+    requires { Sound map (W.words words.old) }
+    ensures count { result ≡ length (free_below (contents map (W.words words.old)).table map.pages) }
+    ensures filled { let c = contents map (W.words words.old) in contents map (W.words words.new) ≡ record c { pool = pool_with (free_below c.table map.pages) c.pool } }
+    ensures sound { Sound map (W.words words.new) }
+    ensures reads { W.reads words.new ≤ W.reads words.old + map.pages }
+    ensures base { W.base words.new ≡ W.base words.old }
+{
+    let mut count = 0;
+    for page in 0..map.pages {
+        if get_page(words, map, page, SPACE_WORD) == 0 {
+            set_pool(words, map, count as usize, u64::from(page));
+            count += 1;
+        }
+    }
+    count
+}
+
+/// Frees all pages that have this word of the space in their entries.
+fn free_entries<W: Words>(words: &mut W, map: Areas, word: u64)
+    requires { Sound map (W.words words.old) }
+    ensures freed { let c = contents map (W.words words.old) in contents map (W.words words.new) ≡ record c { table = freed_table word c.table } }
+    ensures sound { Sound map (W.words words.new) }
+    ensures reads { W.reads words.new ≤ W.reads words.old + map.pages }
+    ensures base { W.base words.new ≡ W.base words.old }
+{
+    for page in 0..map.pages {
+        if get_page(words, map, page, SPACE_WORD) == word {
+            set_entry(words, map, page, 0, 0);
+        }
+    }
+}
