@@ -18,7 +18,6 @@ use heap_words::{
     Areas, Words, get_heap, get_page, get_scratch, get_stack, set_heap, set_scratch, stack_length,
 };
 use object_layout::{MAX_SPACE, OBJECT_WORDS, address, decode_header, field_count};
-use relocation::page_start;
 
 /// Whether a header is that of an object of the control space.
 fn is_control(word: u64) -> bool

@@ -4,7 +4,6 @@ pub mod Moving
 pub mod Lawful
 pub mod Corrected
 pub mod Planned
-pub mod Laid
 pub mod SlidObjects
 pub mod SlidPages
 pub mod Slid
