@@ -9,3 +9,6 @@ pub mod SlidPages
 pub mod Slid
 pub mod FieldSteps
 pub mod SlidLawful
+pub mod SlidLaid
+pub mod Slidden
+pub mod Settled
