@@ -6,3 +6,4 @@ pub mod Pages
 pub mod Costs
 pub mod Lives
 pub mod Whole
+pub mod Tables

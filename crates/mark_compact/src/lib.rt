@@ -2,5 +2,7 @@
 #![tactic(auto)]
 
 mod marking;
+mod sliding;
 
 pub use marking::mark;
+pub use sliding::plan_slide;
