@@ -11,3 +11,4 @@ pub mod Named
 pub mod Told
 pub mod Places
 pub mod Makes
+pub mod Begins

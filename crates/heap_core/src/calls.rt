@@ -8,6 +8,7 @@ ghost use Rattle.yak_model.specs.Spaces.{SpaceState};
 ghost use Rattle.yak_model.specs.Stands.{Stands};
 ghost use Rattle.heap_core.specs.Steps.{IsBuilt, Turned};
 
+use crate::epochs::begin;
 use crate::fields::{load, store};
 use crate::objects::new_object;
 use crate::slots::{dup, get, int, null, pop_slot, same};
@@ -27,8 +28,9 @@ pub fn is_built(call: Call) -> bool
         | Call::Load(_, _)
         | Call::Store(_, _, _)
         | Call::Get(_)
-        | Call::Same(_, _) => true,
-        Call::Begin | Call::End | Call::Collect | Call::Census => false,
+        | Call::Same(_, _)
+        | Call::Begin => true,
+        Call::End | Call::Collect | Call::Census => false,
     }
 }
 
@@ -53,6 +55,7 @@ pub fn answer<W: Words>(words: &mut W, map: Areas, thread: u8, call: Call) -> Re
         Call::Store(s, f, x) => store(words, map, thread, s, f, x),
         Call::Get(s) => get(words, map, thread, s),
         Call::Same(s, x) => same(words, map, thread, s, x),
-        Call::Begin | Call::End | Call::Collect | Call::Census => unreachable!(),
+        Call::Begin => begin(words, map, thread),
+        Call::End | Call::Collect | Call::Census => unreachable!(),
     }
 }

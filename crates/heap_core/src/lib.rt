@@ -2,6 +2,7 @@
 #![tactic(auto)]
 
 mod calls;
+mod epochs;
 mod fields;
 mod made;
 mod objects;

@@ -26,3 +26,6 @@ returns-in-Same-clause-turns g c = rw c.in-Same.is c.same.ensures.turns
 
 pub returns-in-New-clause-turns : goal.returns-in-New-clause-turns
 returns-in-New-clause-turns g c = rw c.in-New.is c.new_object.ensures.turns
+
+pub returns-in-Begin-clause-turns : goal.returns-in-Begin-clause-turns
+returns-in-Begin-clause-turns g c = rw c.in-Begin.is c.begin.ensures.turns
