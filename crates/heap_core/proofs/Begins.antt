@@ -5,6 +5,7 @@ use Rattle.std.proofs.Math.Logic.{⊎_elim}
 use Rattle.std.proofs.Math.Seq.{map-set_same}
 use Rattle.std.proofs.lemmas.List.{map-set}
 use Rattle.std.proofs.lemmas.List.Elements.{All-set}
+use Rattle.object_layout.specs.declared.names.Name.{Name}
 use Rattle.object_layout.specs.declared.TheConstants.{MAX_DEPTH}
 use Rattle.object_layout.specs.declared.calls.Call.TheVariants as call
 use Rattle.object_layout.specs.declared.replies.Reply.TheVariants as reply
@@ -21,8 +22,12 @@ use Rattle.yak_model.specs.Spaces.{SpaceState}
 use Rattle.yak_model.specs.State.{IsOpen, State, view}
 use Rattle.yak_model.specs.Placed.{Places, space_word}
 use Rattle.yak_model.specs.Stands.{Stands, StandsAs}
+use Rattle.yak_model.specs.Recorded.{RecordedAs}
 use Rattle.heap_core.specs.Steps.{Turned}
 use Rattle.heap_core.specs.Room.{SameRoom}
+use Rattle.heap_core.specs.Records.{SameRecords}
+use Rattle.heap_core.proofs.Logged.{recorded-same}
+use Rattle.heap_core.proofs.Recorded.{same_records}
 use Rattle.heap_core.proofs.Named.{depth-shown}
 use Rattle.heap_core.proofs.Steps.{beyond, same_room, thread_in, within}
 
@@ -87,12 +92,25 @@ pub too_deep : (m : Areas) (c : Contents) (t : ℕ) → HasThread m t → MAX_DE
 too_deep m c t ht deep = record {
   turns = λ s h.
       let test : leb s.graph.limits.depth (thread_of s.graph t).depth ≡ true = ap (λ (x : Limits). leb x.depth (thread_of s.graph t).depth) h.whole.limits ∙ beyond MAX_DEPTH (thread_of s.graph t).depth (omega (arith, deep, depth_words m c s h t)) in
-      (s, (s, (thread_in m c s h t ht, rw test (refl, refl), refl, tt), refl), h);
+      (s, (s, (thread_in m c s h t ht, rw test (refl, refl), refl, tt), refl), h, λ r. r);
   room = same_room c;
+  records = λ s h. same_records c;
 }
 
 depth_room_same : (c d : Contents) (t k : ℕ) → d ≡ with_depth c t k → SameRoom c d
-depth_room_same c d t k e = subst (SameRoom c) (sym e) (record { heads = refl; pool = refl; table = refl; currents = refl })
+depth_room_same c d t k e = subst (SameRoom c) (sym e) (record { claims = refl; pooled = refl; pool = refl; table = refl; currents = refl })
+
+depth_records_same : (c d : Contents) (t k : ℕ) → d ≡ with_depth c t k → SameRecords c d
+depth_records_same c d t k e = subst (SameRecords c) (sym e) (record { filed = record { entries = refl; sets = refl }; buffers = refl; readers = refl })
+
+-- a region that isn't open wasn't before
+recorded-deepened : (m : Areas) (c : Contents) (s : State) (at : Name → ℕ) (t d : ℕ) → HasThread m t → get_or s.depths (t - 1) 0 ≤ d → length s.depths ≡ m.threads → RecordedAs m c s at → RecordedAs m c (deepened s t d) at
+recorded-deepened m c s at t d ht least long r = record {
+  crossing = r.crossing;
+  fields = r.fields;
+  read = r.read;
+  closed = λ u e hu hm he lt. r.closed u e hu hm he (omega (arith, lt, no_shallower s.depths (t - 1) d (u - 1) least (omega (arith, ht.0, ht.1, long))));
+}
 
 pub begin_turns : (m : Areas) (c d : Contents) (t : ℕ) → HasThread m t → depth_of c t < MAX_DEPTH → d ≡ with_depth c t (depth_of c t + 1) → Turned m c d t call.Begin reply.Ok
 begin_turns m c d t ht lt e = record {
@@ -107,6 +125,7 @@ begin_turns m c d t ht lt e = record {
         places = h.places;
         stands = subst (λ (x : Contents). StandsAs m x (view (deeper s t k)) h.places) (sym now) (subst (λ (w : State). StandsAs m (with_depth c t k) w h.places) (sym (view-deeper s t k)) stands);
       } in
-      (deeper s t k, (deeper s t k, (thread_in m c s h t ht, rw test (refl, refl), refl, tt), refl), later);
+      (deeper s t k, (deeper s t k, (thread_in m c s h t ht, rw test (refl, refl), refl, tt), refl), later, λ r. subst (λ (w : State). RecordedAs m d w h.places.at) (sym (view-deeper s t k)) (recorded-same m c d (deepened (view s) t k) h.places.at (depth_records_same c d t (depth_of c t + 1) e) (recorded-deepened m c (view s) h.places.at t k ht (omega (arith, depth-shown s t)) h.stands.threads r)));
   room = depth_room_same c d t (depth_of c t + 1) e;
+  records = λ s h. depth_records_same c d t (depth_of c t + 1) e;
 }

@@ -12,3 +12,10 @@ pub mod Told
 pub mod Places
 pub mod Makes
 pub mod Begins
+pub mod Recorded
+pub mod Homes
+pub mod Logged
+pub mod Stores
+pub mod Marks
+pub mod Loads
+pub mod Storing

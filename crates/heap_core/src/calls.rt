@@ -4,9 +4,8 @@ ghost use Rattle.std.specs.Prelude.{◌≡◌, ◌↔◌, IsTrue};
 ghost use Rattle.object_layout.specs.Calls.{IsCall};
 ghost use Rattle.heap_words.specs.Map.{HasThread};
 ghost use Rattle.heap_words.specs.Contents.{contents, Sound};
-ghost use Rattle.yak_model.specs.Spaces.{SpaceState};
-ghost use Rattle.yak_model.specs.Stands.{Stands};
 ghost use Rattle.heap_core.specs.Steps.{IsBuilt, Turned};
+ghost use Rattle.heap_core.specs.Records.{SomeRecorded};
 
 use crate::epochs::begin;
 use crate::fields::{load, store};
@@ -38,7 +37,7 @@ pub fn is_built(call: Call) -> bool
 pub fn answer<W: Words>(words: &mut W, map: Areas, thread: u8, call: Call) -> Reply
     requires sound { Sound map (W.words words.old) }
     requires thread { HasThread map thread }
-    requires stands { ∥ ((s : SpaceState) × Stands map (contents map (W.words words.old)) s) ∥₁ }
+    requires recorded { SomeRecorded map (contents map (W.words words.old)) }
     requires number { IsCall call }
     requires built { IsBuilt call }
     ensures turns { Turned map (contents map (W.words words.old)) (contents map (W.words words.new)) thread call result }

@@ -1,6 +1,7 @@
 //! All calls on the words of a heap, one at a time.
 #![tactic(auto)]
 
+mod barriers;
 mod calls;
 mod epochs;
 mod fields;
