@@ -19,3 +19,4 @@ pub mod Stores
 pub mod Marks
 pub mod Loads
 pub mod Storing
+pub mod OpeningRecords

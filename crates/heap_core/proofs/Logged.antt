@@ -62,7 +62,7 @@ more_back (b ∷ bs) (suc i) a x lt h = ⊎_elim
     (λ (e : x ≡ a). Contains-append_right b (entries_of (set bs i (get_or bs i [] ++ a ∷ []))) x (more_back bs i a x (omega (arith, lt)) (inr e)))
     h
 
-none_left : (n x : ℕ) → Contains (entries_of (replicate n [])) x → ⊥
+pub none_left : (n x : ℕ) → Contains (entries_of (replicate n [])) x → ⊥
 none_left zero x h = let lt : h.0 < 0 = h.1 in absurd (omega (arith, lt))
 none_left (suc n) x h = none_left n x h
 

@@ -126,6 +126,10 @@ pub record IsStored (m : Areas) (was now : Contents) (t slot word : ℕ) (from t
 abbrev pub LogsHold : Areas → Contents → Type 0
 LogsHold m c = SetsHold m c × BuffersHold m c
 
--- The words stand for some state whose crossing references are recorded.
+-- The words stand for a state, and its crossing references are recorded.
+abbrev pub StandsRecorded : Areas → Contents → SpaceState → Type 0
+StandsRecorded m c s = (h : Stands m c s) × Recorded m c s h
+
+-- The words stand so for some state.
 abbrev pub SomeRecorded : Areas → Contents → Type 0
 SomeRecorded m c = ∥ ((s : SpaceState) × (h : Stands m c s) × Recorded m c s h) ∥₁
