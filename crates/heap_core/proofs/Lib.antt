@@ -11,3 +11,12 @@ pub mod Named
 pub mod Told
 pub mod Places
 pub mod Makes
+pub mod Begins
+pub mod Recorded
+pub mod Homes
+pub mod Logged
+pub mod Stores
+pub mod Marks
+pub mod Loads
+pub mod Storing
+pub mod OpeningRecords

@@ -1,5 +1,5 @@
 -- An object that is made, over states.
-use Rattle.std.proofs.Common.{◌≡◌, ◌≢◌, ◌⊎◌, ℕ, ◌+◌, ◌-◌, ◌*◌, ◌^◌, ◌≤◌, ◌<◌, true, false, ltb, leb, List, [], ◌∷◌, ◌++◌, length, get_or, set, replicate, refl, sym, ap, subst, ◌∙◌, arith, inl, inr, length-set, get_or-set_same, get_or-set_other}
+use Rattle.std.proofs.Common.{◌≡◌, ◌≢◌, ◌⊎◌, ℕ, ◌+◌, ◌-◌, ◌*◌, ◌^◌, ◌≤◌, ◌<◌, true, false, None, ltb, leb, List, [], ◌∷◌, ◌++◌, length, get_or, set, replicate, zero, suc, refl, sym, ap, subst, ◌∙◌, arith, inl, inr, length-set, get_or-set_same, get_or-set_other}
 use Rattle.std.proofs.lemmas.Bool.{cases_eq}
 use Rattle.std.proofs.lemmas.Bool.Decides.{nat_tests}
 use Rattle.std.proofs.lemmas.List.{length-replicate, get_or-replicate}
@@ -24,17 +24,22 @@ use Rattle.yak_model.specs.Graph as graph
 use Rattle.yak_model.specs.Spaces.{SpaceState, innermost}
 use Rattle.yak_model.specs.State.{IsDatum, State, Thing, view}
 use Rattle.yak_model.specs.Placed.{ObjectAt, datum_word, with_object}
-use Rattle.yak_model.specs.Stands.{CurrentsStand, PoolStands, Stands, StandsAs}
+use Rattle.yak_model.specs.Stands.{CurrentsStand, PoolStands, Stands, StandsAs, claim_counter, pool_length, set_entries}
+use Rattle.yak_model.specs.Recorded.{RecordedAs}
 use Rattle.yak_model.proofs.Grown.{grown}
 use Rattle.yak_model.proofs.Placed.{same_name-self}
 use Rattle.yak_model.proofs.Stacks.{all-at, stack_length}
 use Rattle.region_pages.specs.Placement.{IsPlaced, IsPlacedInCurrent, IsPlacedOnClaimed, depth_in, words_left_at}
+use Rattle.region_pages.specs.declared.TheConstants.{CLAIM_COUNTER}
+use Rattle.heap_core.specs.Records.{SameRecords}
 use Rattle.heap_core.specs.Room.{HasNoRoom, TakesPlace}
+use Rattle.heap_core.proofs.Recorded.{same_records, stacks_shown}
+use Rattle.heap_core.proofs.Stores.{recorded-newly}
 use Rattle.region_pages.proofs.Shapes.{Shape}
 use Rattle.heap_core.specs.Steps.{IsPushed, Turned}
 use Rattle.heap_core.specs.Objects.{IsWritten}
 use Rattle.heap_core.proofs.Steps.{beyond, same_room, thread_in, within}
-use Rattle.heap_core.proofs.Newly.{stands-added, with_new}
+use Rattle.heap_core.proofs.Newly.{no_object-case, stands-added, with_new}
 use Rattle.heap_core.proofs.Named.{depth-shown, made-shown, named, new_thing, view-named, whole-named}
 use Rattle.heap_core.proofs.Places.{somewhere}
 
@@ -94,30 +99,34 @@ serial_left m c s h t lt = within MAX_SERIAL (thread_of s.graph t).made (omega (
 
 pub too_long : (m : Areas) (c : Contents) (t k : ℕ) → HasThread m t → MAX_FIELDS < k → Turned m c c t (call.New k) (reply.Refused refusal.TooLong)
 too_long m c t k ht lt = record {
-  turns = λ s h. (s, (s, (thread_in m c s h t ht, rw (too_many s m c h k lt) (refl, refl), refl, tt), refl), h);
+  turns = λ s h. (s, (s, (thread_in m c s h t ht, rw (too_many s m c h k lt) (refl, refl), refl, tt), refl), h, λ r. r);
   room = same_room c;
+  records = λ s h. same_records c;
 }
 
 pub new_stack_full : (m : Areas) (c : Contents) (t k : ℕ) → HasThread m t → k ≤ MAX_FIELDS → STACK_SLOTS ≤ length (stack_of c t) → Turned m c c t (call.New k) (reply.Refused refusal.StackFull)
 new_stack_full m c t k ht le full = record {
   turns = λ s h.
       let test : is_stack_full s.graph t ≡ true = beyond STACK_SLOTS (length (graph.stack_of s.graph t)) (omega (arith, full, stack_length m c s h t)) in
-      (s, (s, (thread_in m c s h t ht, rw (few_enough s m c h k le, test) (refl, refl), refl, tt), refl), h);
+      (s, (s, (thread_in m c s h t ht, rw (few_enough s m c h k le, test) (refl, refl), refl, tt), refl), h, λ r. r);
   room = same_room c;
+  records = λ s h. same_records c;
 }
 
 pub names_spent : (m : Areas) (c : Contents) (t k : ℕ) → HasThread m t → k ≤ MAX_FIELDS → length (stack_of c t) < STACK_SLOTS → MAX_SERIAL ≤ made_of c t → Turned m c c t (call.New k) (reply.Refused refusal.NamesSpent)
 names_spent m c t k ht le room spent = record {
   turns = λ s h.
       let test : leb (2 ^ 48 - 1) (thread_of s.graph t).made ≡ true = beyond MAX_SERIAL (thread_of s.graph t).made (omega (arith, spent, made_words m c s h t)) in
-      (s, (s, (thread_in m c s h t ht, rw (few_enough s m c h k le, stack_room m c s h t room, test) (refl, refl), refl, tt), refl), h);
+      (s, (s, (thread_in m c s h t ht, rw (few_enough s m c h k le, stack_room m c s h t room, test) (refl, refl), refl, tt), refl), h, λ r. r);
   room = same_room c;
+  records = λ s h. same_records c;
 }
 
 pub out_of_heap : (m : Areas) (c : Contents) (t k : ℕ) → HasThread m t → k ≤ MAX_FIELDS → length (stack_of c t) < STACK_SLOTS → made_of c t < MAX_SERIAL → HasNoRoom m c t (k + OBJECT_WORDS) → Turned m c c t (call.New k) reply.OutOfHeap
 out_of_heap m c t k ht le room left none = record {
-  turns = λ s h. (s, (s, (thread_in m c s h t ht, rw (few_enough s m c h k le, stack_room m c s h t room, serial_left m c s h t left) (inr (refl, refl)), refl, tt), refl), h);
+  turns = λ s h. (s, (s, (thread_in m c s h t ht, rw (few_enough s m c h k le, stack_room m c s h t room, serial_left m c s h t left) (inr (refl, refl)), refl, tt), refl), h, λ r. r);
   room = (none, same_room c);
+  records = λ s h. same_records c;
 }
 
 -- the words of the contents afterwards
@@ -148,12 +157,53 @@ made_room m c c1 c2 c3 d t k made a first second w placed written hm hd = record
   placed = c1;
   place = placed;
   rest = record {
-    heads = ap (λ (x : Contents). x.heads) hd ∙ ap (λ (x : Contents). x.heads) hm ∙ ap (λ (x : Contents). x.heads) written.rest;
+    claims = ap (λ (x : Contents). claim_counter x.heads) hd ∙ ap (λ (x : Contents). claim_counter x.heads) hm ∙ ap (λ (x : Contents). claim_counter x.heads) written.rest;
+    pooled = ap (λ (x : Contents). pool_length x.heads) hd ∙ ap (λ (x : Contents). pool_length x.heads) hm ∙ ap (λ (x : Contents). pool_length x.heads) written.rest;
     pool = ap (λ (x : Contents). x.pool) hd ∙ ap (λ (x : Contents). x.pool) hm ∙ ap (λ (x : Contents). x.pool) written.rest;
     table = ap (λ (x : Contents). x.table) hd ∙ ap (λ (x : Contents). x.table) hm ∙ ap (λ (x : Contents). x.table) written.rest;
     currents = ap (λ (x : Contents). x.currents) hd ∙ ap (λ (x : Contents). x.currents) hm ∙ ap (λ (x : Contents). x.currents) written.rest;
   };
 }
+
+-- and what it records: nothing
+placed_records : (m : Areas) (c c1 : Contents) (t : ℕ) (x : Space) (size a : ℕ) → IsPlaced m c t x size a c1 → SameRecords c c1
+placed_records m c c1 t x size a placed = ⊎_elim
+    (λ (o : IsPlacedInCurrent m c t (depth_in x) size a c1). record {
+      filed = record { entries = ap (λ (y : Contents). set_entries y.heads) o.changed; sets = ap (λ (y : Contents). y.sets) o.changed };
+      buffers = ap (λ (y : Contents). y.buffers) o.changed;
+      readers = ap (λ (y : Contents). y.readers) o.changed;
+    })
+    (λ (o : (words_left_at m c t (depth_in x) < size) × IsPlacedOnClaimed m c t x size a c1). record {
+      filed = record {
+        entries = ap (λ (y : Contents). set_entries y.heads) o.1.changed ∙ get_or-set_other c.heads CLAIM_COUNTER 3 (claim_counter c.heads + 1) 0 (λ e. omega (arith, e));
+        sets = ap (λ (y : Contents). y.sets) o.1.changed;
+      };
+      buffers = ap (λ (y : Contents). y.buffers) o.1.changed;
+      readers = ap (λ (y : Contents). y.readers) o.1.changed;
+    })
+    placed
+
+made_records : (m : Areas) (c c1 c2 c3 d : Contents) (t k made a first second w : ℕ) → IsPlaced m c t (inner_of t (depth_of c t)) (k + OBJECT_WORDS) a c1 → IsWritten c1 c2 a first second (k + OBJECT_WORDS) (k + OBJECT_WORDS) → c3 ≡ with_made c2 t (made + 1) → d ≡ with_stack c3 t (stack_of c3 t ++ w ∷ []) → SameRecords c d
+made_records m c c1 c2 c3 d t k made a first second w placed written hm hd =
+    let p = placed_records m c c1 t (inner_of t (depth_of c t)) (k + OBJECT_WORDS) a placed in
+    record {
+      filed = record {
+        entries = ap (λ (x : Contents). set_entries x.heads) hd ∙ ap (λ (x : Contents). set_entries x.heads) hm ∙ ap (λ (x : Contents). set_entries x.heads) written.rest ∙ p.filed.entries;
+        sets = ap (λ (x : Contents). x.sets) hd ∙ ap (λ (x : Contents). x.sets) hm ∙ ap (λ (x : Contents). x.sets) written.rest ∙ p.filed.sets;
+      };
+      buffers = ap (λ (x : Contents). x.buffers) hd ∙ ap (λ (x : Contents). x.buffers) hm ∙ ap (λ (x : Contents). x.buffers) written.rest ∙ p.buffers;
+      readers = ap (λ (x : Contents). x.readers) hd ∙ ap (λ (x : Contents). x.readers) hm ∙ ap (λ (x : Contents). x.readers) written.rest ∙ p.readers;
+    }
+
+-- no object has the name yet
+fresh-name : (m : Areas) (c : Contents) (s : SpaceState) (h : Stands m c s) (t : ℕ) → HasThread m t → (view s).objects (next_name s.graph t) ≡ None
+fresh-name m c s h t ht = no_object-case (view s) (next_name s.graph t) t ht.0 (ap (λ i. record { thread = t; serial = i + 1 }) (sym (made-shown s t))) m c h.places h.stands ((view s).objects (next_name s.graph t)) refl
+
+-- the new object's fields are null
+null_fields : (k f : ℕ) → get_or (replicate k datum.Null) f datum.Null ≡ datum.Null
+null_fields zero f = refl
+null_fields (suc k) zero = refl
+null_fields (suc k) (suc f) = null_fields k f
 
 -- an object that is made
 pub made_turns : (m : Areas) (c c1 c2 c3 d : Contents) (t k made a first second w : ℕ) (r : Reply) → IsAreas m → HasThread m t → k ≤ MAX_FIELDS → length (stack_of c t) < STACK_SLOTS → made ≡ made_of c t → made < MAX_SERIAL → Shape m c → length c.made ≡ m.threads → PoolStands m c1.heads c1.pool c1.table → CurrentsStand m c1.currents c1.table → first ≡ header_word (record { fields = k; space = space_index (inner_of t (depth_of c t)) }) → second ≡ name_word (record { thread = t; serial = made + 1 }) → w ≡ 2 * (a + 1) → IsPlaced m c t (inner_of t (depth_of c t)) (k + OBJECT_WORDS) a c1 → IsWritten c1 c2 a first second (k + OBJECT_WORDS) (k + OBJECT_WORDS) → c3 ≡ with_made c2 t (made + 1) → d ≡ with_stack c3 t (stack_of c3 t ++ w ∷ []) → Turned m c d t (call.New k) reply.Ok
@@ -186,8 +236,11 @@ made_turns m c c1 c2 c3 d t k made a first second w r areas ht few room is_made 
         places = grown h.places p n a;
         stands = subst (λ (x : Contents). StandsAs m x (view after) (grown h.places p n a)) (sym now) (subst (λ (w' : State). StandsAs m (with_new c1 c2.heap t (get_or (view s).made (t - 1) 0 + 1) a) w' (grown h.places p n a)) (sym (view-named s t k)) stands);
       } in
-      (after, (after, (thread_in m c s h t ht, rw (few_enough s m c h k few, stack_room m c s h t room, serial_left m c s h t (subst (λ i. i < MAX_SERIAL) is_made left)) (inl (refl, refl)), refl, tt), refl), result);
+      (after, (after, (thread_in m c s h t ht, rw (few_enough s m c h k few, stack_room m c s h t room, serial_left m c s h t (subst (λ i. i < MAX_SERIAL) is_made left)) (inl (refl, refl)), refl, tt), refl), result, λ r.
+          subst (λ (w' : State). RecordedAs m d w' (grown h.places p n a).at) (sym (view-named s t k))
+          (recorded-newly m c d (view s) h.places n o t dep p a ht (omega (arith, ht.0, ht.1, stacks_shown m c s h)) (fresh-name m c s h t ht) h.stands.closed home (null_fields k) (made_records m c c1 c2 c3 d t k made a first second w placed written hm hd) r));
   room = made_room m c c1 c2 c3 d t k made a first second w placed written hm hd;
+  records = λ s h. made_records m c c1 c2 c3 d t k made a first second w placed written hm hd;
 }
 
 placed-stacks : (m : Areas) (c c1 : Contents) (t : ℕ) (x : Space) (size a : ℕ) → IsPlaced m c t x size a c1 → c1.stacks ≡ c.stacks

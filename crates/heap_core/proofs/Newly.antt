@@ -37,7 +37,7 @@ abbrev pub newly : State → Name → Thing → ℕ → State
 newly s n o t = record s { objects = with_object s.objects n o; stacks = set s.stacks (t - 1) (stack s t ++ Object n ∷ []); made = set s.made (t - 1) (get_or s.made (t - 1) 0 + 1) }
 
 -- no object has the name of the next one
-no_object-case : (s : State) (n : Name) (t : ℕ) → 1 ≤ t → n ≡ record { thread = t; serial = get_or s.made (t - 1) 0 + 1 } → (m : Areas) (c : Contents) (l : Places) → StandsAs m c s l → (x : Option Thing) → s.objects n ≡ x → s.objects n ≡ None
+pub no_object-case : (s : State) (n : Name) (t : ℕ) → 1 ≤ t → n ≡ record { thread = t; serial = get_or s.made (t - 1) 0 + 1 } → (m : Areas) (c : Contents) (l : Places) → StandsAs m c s l → (x : Option Thing) → s.objects n ≡ x → s.objects n ≡ None
 no_object-case s n t ht is m c l h None e = e
 no_object-case s n t ht is m c l h (Some o) e =
     let a : n.thread ≡ t = ap (λ (y : Name). y.thread) is in

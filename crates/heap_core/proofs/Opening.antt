@@ -31,14 +31,14 @@ use Rattle.heap_core.specs.Opening.{opened, Counts}
 use Rattle.std.specs.Prelude.{◌==◌}
 
 -- the root as it lies in the heap
-abbrev root : Thing
+abbrev pub root : Thing
 root = record { home = Control; fields = replicate 16 Null }
 
-abbrev is_root : Name → Bool
+abbrev pub is_root : Name → Bool
 is_root n = nat_eq n.thread 0 && nat_eq n.serial 0
 
 -- what is shown of the opening state: the root alone, to which each stack refers
-abbrev opening : Areas → State
+abbrev pub opening : Areas → State
 opening m =
     record {
       objects = λ n. cond (is_root n) (Some root) None;
@@ -70,7 +70,7 @@ some_from true o h = (refl, cc)
 some_from false o h = cc
 
 -- the root alone is present
-only_root : (n : Name) (o : Thing) → cond (is_root n) (Some root) None ≡ Some o → (n ≡ root_name) × (root ≡ o)
+pub only_root : (n : Name) (o : Thing) → cond (is_root n) (Some root) None ≡ Some o → (n ≡ root_name) × (root ≡ o)
 only_root n o h =
     let p = some_from (is_root n) o h in
     (is_root-true n p.0, p.1)
@@ -86,12 +86,12 @@ no_names zero q = refl
 no_names (suc n) zero = refl
 no_names (suc n) (suc q) = no_names n q
 
-zeros : (n i : ℕ) → get_or (replicate n (let z : ℕ = 0 in z)) i 0 ≡ 0
+pub zeros : (n i : ℕ) → get_or (replicate n (let z : ℕ = 0 in z)) i 0 ≡ 0
 zeros zero i = refl
 zeros (suc n) zero = refl
 zeros (suc n) (suc i) = zeros n i
 
-nulls : (n i : ℕ) → get_or (replicate n Null) i Null ≡ Null
+pub nulls : (n i : ℕ) → get_or (replicate n Null) i Null ≡ Null
 nulls zero i = refl
 nulls (suc n) zero = refl
 nulls (suc n) (suc i) = nulls n i
@@ -318,7 +318,7 @@ root_shown threads x =
           rw (other_root x ne) (ap (λ h. thing_of h (content_at (opening_spaces standard_limits threads).graph x)) (get-other finite.empty root_name Control x ne ∙ finite.get-empty name_cmp x))
     ]
 
-view-opening : (m : Areas) → view (opening_spaces standard_limits m.threads) ≡ opening m
+pub view-opening : (m : Areas) → view (opening_spaces standard_limits m.threads) ≡ opening m
 view-opening m =
     let th : Thread = record { stack = Object root_name ∷ []; depth = 0; made = 0 } in
     rw (

@@ -58,15 +58,15 @@ currents-told m c some = record {
 }
 
 -- an open space is one of the heap
-open-space : (m : Areas) (depths : List ℕ) (x : Space) → length depths ≡ m.threads → ((t : ℕ) → get_or depths (t - 1) 0 ≤ max_depth m) → IsOpen depths x → IsSpaceOf m x
+pub open-space : (m : Areas) (depths : List ℕ) (x : Space) → length depths ≡ m.threads → ((t : ℕ) → get_or depths (t - 1) 0 ≤ max_depth m) → IsOpen depths x → IsSpaceOf m x
 open-space m depths Control long deep h = tt
 open-space m depths (Region t d) long deep h = (h.0, omega (arith, h.1, long), h.2, omega (arith, h.3, deep t))
 
-space-valid : (m : Areas) (x : Space) → IsAreas m → IsSpaceOf m x → IsValid MAX_DEPTH x
+pub space-valid : (m : Areas) (x : Space) → IsAreas m → IsSpaceOf m x → IsValid MAX_DEPTH x
 space-valid m Control areas h = tt
 space-valid m (Region t d) areas h = (h.0, omega (arith, h.1, areas.3), h.2, h.3)
 
-space-prop : (m : Areas) (x : Space) → IsProp (IsSpaceOf m x)
+pub space-prop : (m : Areas) (x : Space) → IsProp (IsSpaceOf m x)
 space-prop m Control = hlevel props
 space-prop m (Region t d) = hlevel props
 

@@ -3,3 +3,4 @@ pub mod Fields
 pub mod Objects
 pub mod Room
 pub mod Opening
+pub mod Records

@@ -8,12 +8,13 @@ use Rattle.object_layout.specs.declared.TheConstants.{OBJECT_WORDS}
 use Rattle.heap_words.specs.declared.map.Areas.{Areas}
 use Rattle.heap_words.specs.Contents.{Contents, depth_of}
 use Rattle.epoch_lattice.specs.Lattice.{inner_of}
-use Rattle.yak_model.specs.Stands.{free_pages}
+use Rattle.yak_model.specs.Stands.{claim_counter, free_pages, pool_length}
 use Rattle.region_pages.specs.Placement.{IsPlaced, words_left_at}
 
 -- The page table, the pool and the current pages are as they were.
 pub record SameRoom (was now : Contents) : Type 0 where
-  pub heads : now.heads ≡ was.heads
+  pub claims : claim_counter now.heads ≡ claim_counter was.heads
+  pub pooled : pool_length now.heads ≡ pool_length was.heads
   pub pool : now.pool ≡ was.pool
   pub table : now.table ≡ was.table
   pub currents : now.currents ≡ was.currents

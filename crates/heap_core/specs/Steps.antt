@@ -11,8 +11,10 @@ use Rattle.heap_words.specs.Contents.{Contents, stack_of, with_stack}
 use Rattle.yak_model.specs.History.{Entry, Said, Collected}
 use Rattle.yak_model.specs.Spaces.{SpaceState, TurnsAll}
 use Rattle.yak_model.specs.Stands.{Stands}
+use Rattle.yak_model.specs.Recorded.{Recorded}
 use Rattle.heap_core.specs.declared.owned.Stepped.{Stepped}
 use Rattle.heap_core.specs.Room.{TakesRoom}
+use Rattle.heap_core.specs.Records.{Records}
 
 -- The calls that the heap answers.
 abbrev pub IsBuilt : Call → Type 0
@@ -25,7 +27,7 @@ IsBuilt (Load s f) = Unit {0}
 IsBuilt (Store s f x) = Unit {0}
 IsBuilt (Get s) = Unit {0}
 IsBuilt (Same s x) = Unit {0}
-IsBuilt Begin = ⊥
+IsBuilt Begin = Unit {0}
 IsBuilt End = ⊥
 IsBuilt Collect = ⊥
 IsBuilt Census = ⊥
@@ -34,11 +36,18 @@ IsBuilt Census = ⊥
 abbrev pub entries : ℕ → Call → Stepped → List Entry
 entries thread call stepped = cond stepped.collected (Collected thread ∷ Said thread call stepped.reply ∷ []) (Said thread call stepped.reply ∷ [])
 
+-- The state turns by the entries to one that the words stand for now. Where the references that cross into regions were
+-- recorded, they are recorded again.
+abbrev pub TurnsTo : (m : Areas) (was now : Contents) (s : SpaceState) → Stands m was s → List Entry → Type 0
+TurnsTo m was now s h done =
+    (after : SpaceState) × TurnsAll s done after × (later : Stands m now after) × (Recorded m was s h → Recorded m now after later)
+
 -- Each state that the words stood for turns, by a call with its reply, to one that they stand for now, and the call takes
--- the room that it has to.
+-- the room and records the slots and readers that it has to.
 pub record Turned (m : Areas) (was now : Contents) (thread : ℕ) (asked : Call) (said : Reply) : Type 0 where
-  pub turns : (s : SpaceState) → Stands m was s → (after : SpaceState) × TurnsAll s (Said thread asked said ∷ []) after × Stands m now after
+  pub turns : (s : SpaceState) (h : Stands m was s) → TurnsTo m was now s h (Said thread asked said ∷ [])
   pub room : TakesRoom m was now thread asked said
+  pub records : (s : SpaceState) (h : Stands m was s) → Records m s h.places.at was now thread asked said
 
 -- A word was put on a thread's stack, or the stack was full and nothing has changed.
 abbrev pub IsPushed : Contents → Contents → ℕ → ℕ → Reply → Type 0

@@ -4,10 +4,10 @@ ghost use Rattle.std.specs.Prelude.{◌≡◌, ◌↔◌, IsTrue};
 ghost use Rattle.object_layout.specs.Calls.{IsCall};
 ghost use Rattle.heap_words.specs.Map.{HasThread};
 ghost use Rattle.heap_words.specs.Contents.{contents, Sound};
-ghost use Rattle.yak_model.specs.Spaces.{SpaceState};
-ghost use Rattle.yak_model.specs.Stands.{Stands};
 ghost use Rattle.heap_core.specs.Steps.{IsBuilt, Turned};
+ghost use Rattle.heap_core.specs.Records.{SomeRecorded};
 
+use crate::epochs::begin;
 use crate::fields::{load, store};
 use crate::objects::new_object;
 use crate::slots::{dup, get, int, null, pop_slot, same};
@@ -27,8 +27,9 @@ pub fn is_built(call: Call) -> bool
         | Call::Load(_, _)
         | Call::Store(_, _, _)
         | Call::Get(_)
-        | Call::Same(_, _) => true,
-        Call::Begin | Call::End | Call::Collect | Call::Census => false,
+        | Call::Same(_, _)
+        | Call::Begin => true,
+        Call::End | Call::Collect | Call::Census => false,
     }
 }
 
@@ -36,7 +37,7 @@ pub fn is_built(call: Call) -> bool
 pub fn answer<W: Words>(words: &mut W, map: Areas, thread: u8, call: Call) -> Reply
     requires sound { Sound map (W.words words.old) }
     requires thread { HasThread map thread }
-    requires stands { ∥ ((s : SpaceState) × Stands map (contents map (W.words words.old)) s) ∥₁ }
+    requires recorded { SomeRecorded map (contents map (W.words words.old)) }
     requires number { IsCall call }
     requires built { IsBuilt call }
     ensures turns { Turned map (contents map (W.words words.old)) (contents map (W.words words.new)) thread call result }
@@ -53,6 +54,7 @@ pub fn answer<W: Words>(words: &mut W, map: Areas, thread: u8, call: Call) -> Re
         Call::Store(s, f, x) => store(words, map, thread, s, f, x),
         Call::Get(s) => get(words, map, thread, s),
         Call::Same(s, x) => same(words, map, thread, s, x),
-        Call::Begin | Call::End | Call::Collect | Call::Census => unreachable!(),
+        Call::Begin => begin(words, map, thread),
+        Call::End | Call::Collect | Call::Census => unreachable!(),
     }
 }

@@ -1,17 +1,20 @@
 //! Calls on the fields of a slot's object.
 
-ghost use Rattle.std.specs.Prelude.{◌≡◌, ◌≤◌, ◌<◌, ◌+◌, ◌-◌, ◌*◌, ◌^◌, ◌%◌, ℕ, length, IfOk, MatchResult};
+ghost use Rattle.std.specs.Prelude.{◌≡◌, ◌≤◌, ◌<◌, ◌+◌, ◌-◌, ◌*◌, ◌^◌, ◌%◌, ℕ, length, IfOk, IfSome, MatchResult};
 ghost use Rattle.heap_words.specs.Map.{HasThread, heap_length};
 ghost use Rattle.heap_words.specs.Contents.{contents, Sound};
 ghost use Rattle.yak_model.specs.Spaces.{SpaceState};
 ghost use Rattle.yak_model.specs.Stands.{Stands};
 ghost use Rattle.heap_core.specs.Steps.{Turned};
 ghost use Rattle.heap_core.specs.Fields.{IsFieldOf, no_field};
+ghost use Rattle.heap_core.specs.Records.{IsLoaded, IsStored, LogsHold, SomeRecorded};
+ghost use Rattle.yak_model.specs.Packed.{IsSpaceOf};
 
-use crate::slots::push_word;
+use crate::barriers::{mark_reader, record_slot, space_of_slot, space_of_word};
+use epoch_lattice::Space;
 use heap_words::{Areas, Words, get_heap, set_heap};
 use object_layout::{Call, OBJECT_WORDS, Refusal, Reply, address, field_count};
-use thread_stacks::slot;
+use thread_stacks::{push, slot};
 
 /// The heap word of a field of the object that a slot refers to, or why there is none.
 pub fn field_of<W: Words>(
@@ -42,6 +45,30 @@ pub fn field_of<W: Words>(
     Ok(object + OBJECT_WORDS as usize + f as usize)
 }
 
+/// Pushes a loaded word, and makes the thread a reader of the space that it enters, where that is a region of another thread.
+fn push_loaded<W: Words>(
+    words: &mut W,
+    map: Areas,
+    thread: u8,
+    word: u64,
+    space: Option<Space>,
+) -> Reply
+    requires sound { Sound map (W.words words.old) }
+    requires thread { HasThread map thread }
+    requires space { IfSome space (λ x. IsSpaceOf map x) }
+    ensures loaded { IsLoaded (contents map (W.words words.old)) (contents map (W.words words.new)) thread word space result }
+    ensures sound { Sound map (W.words words.new) }
+    ensures base { W.base words.new ≡ W.base words.old }
+{
+    match push(words, map, thread, word) {
+        Ok(()) => {
+            mark_reader(words, map, thread, space);
+            Reply::Ok
+        }
+        Err(_) => Reply::Refused(Refusal::StackFull),
+    }
+}
+
 /// Pushes a field of a slot's object.
 pub fn load<W: Words>(words: &mut W, map: Areas, thread: u8, s: u32, f: u32) -> Reply
     requires sound { Sound map (W.words words.old) }
@@ -54,17 +81,40 @@ pub fn load<W: Words>(words: &mut W, map: Areas, thread: u8, s: u32, f: u32) -> 
     match field_of(words, map, thread, s, f) {
         Ok(a) => {
             let word = get_heap(words, map, a);
-            push_word(words, map, thread, word)
+            let space = space_of_word(words, map, word);
+            push_loaded(words, map, thread, word, space)
         }
         Err(why) => Reply::Refused(why),
     }
+}
+
+/// Stores a word into a field, after its slot is recorded where a reference from the one space to the other crosses.
+fn store_word<W: Words>(
+    words: &mut W,
+    map: Areas,
+    thread: u8,
+    slot: usize,
+    word: u64,
+    from: Option<Space>,
+    to: Option<Space>,
+)
+    requires sound { Sound map (W.words words.old) }
+    requires thread { HasThread map thread }
+    requires hold { LogsHold map (contents map (W.words words.old)) }
+    requires within { slot < heap_length map }
+    ensures stored { IsStored map (contents map (W.words words.old)) (contents map (W.words words.new)) thread slot word from to }
+    ensures sound { Sound map (W.words words.new) }
+    ensures base { W.base words.new ≡ W.base words.old }
+{
+    record_slot(words, map, thread, slot, from, to);
+    set_heap(words, map, slot, word);
 }
 
 /// Puts the value of slot x into a field of the object of slot s.
 pub fn store<W: Words>(words: &mut W, map: Areas, thread: u8, s: u32, f: u32, x: u32) -> Reply
     requires sound { Sound map (W.words words.old) }
     requires thread { HasThread map thread }
-    requires stands { ∥ ((state : SpaceState) × Stands map (contents map (W.words words.old)) state) ∥₁ }
+    requires recorded { SomeRecorded map (contents map (W.words words.old)) }
     ensures turns { Turned map (contents map (W.words words.old)) (contents map (W.words words.new)) thread (Call.Store s f x) result }
     ensures sound { Sound map (W.words words.new) }
     ensures base { W.base words.new ≡ W.base words.old }
@@ -74,7 +124,9 @@ pub fn store<W: Words>(words: &mut W, map: Areas, thread: u8, s: u32, f: u32, x:
     };
     match field_of(words, map, thread, s, f) {
         Ok(a) => {
-            set_heap(words, map, a, word);
+            let from = space_of_slot(words, map, thread, s);
+            let to = space_of_slot(words, map, thread, x);
+            store_word(words, map, thread, a, word, from, to);
             Reply::Ok
         }
         Err(why) => Reply::Refused(why),

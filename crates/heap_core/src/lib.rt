@@ -1,7 +1,9 @@
 //! All calls on the words of a heap, one at a time.
 #![tactic(auto)]
 
+mod barriers;
 mod calls;
+mod epochs;
 mod fields;
 mod made;
 mod objects;
@@ -19,8 +21,34 @@ pub const ROOT_WORDS: u64 = 19;
 #[cfg(test)]
 mod tests {
     use super::*;
+    use heap_words::{Image, buffer_length};
     use object_layout::{Call, Refusal, Reply};
+    use remember_sets::entries;
     use std::test::Fail;
+
+    // How many slots are recorded, where thread 1 makes all the calls.
+    fn recorded_slots(core: Core<Image>) -> usize {
+        let mut image = core.into_words();
+        let map = image.map();
+        entries(&mut image, map) as usize + buffer_length(&mut image, map, 1)
+    }
+
+    #[test]
+    fn a_slot_that_crosses_is_recorded(rt: HostRuntime) -> Result<(), Fail> {
+        for into_control in [false, true] {
+            let Ok(mut core) = Core::new(rt.alloc(), 4, 1) else {
+                return Ok(());
+            };
+            assert_eq!(rt; core.step(1, Call::Begin).reply, Reply::Ok);
+            assert_eq!(rt; core.step(1, Call::New(0)).reply, Reply::Ok);
+            assert_eq!(rt; core.step(1, Call::Store(0, 0, 1)).reply, Reply::Ok);
+            if into_control {
+                assert_eq!(rt; core.step(1, Call::Store(0, 1, 0)).reply, Reply::Ok);
+            }
+            assert_eq!(rt; recorded_slots(core), 1);
+        }
+        Ok(())
+    }
 
     #[test]
     fn a_new_heap_answers(rt: HostRuntime) -> Result<(), Fail> {

@@ -5,8 +5,8 @@ ghost use Rattle.heap_words.specs.Map.{IsAreas, HasThread, total_of};
 ghost use Rattle.heap_words.specs.Contents.{contents, Sound};
 ghost use Rattle.yak_model.specs.Graph.{standard_limits};
 ghost use Rattle.yak_model.specs.Spaces.{opening_spaces};
-ghost use Rattle.yak_model.specs.Stands.{Stands};
 ghost use Rattle.heap_core.specs.Opening.{Counts};
+ghost use Rattle.heap_core.specs.Records.{StandsRecorded};
 
 use crate::{ROOT_FIELDS, ROOT_WORDS};
 use heap_words::{Areas, Words, set_current, set_head, set_heap, set_page, set_pool};
@@ -45,7 +45,7 @@ fn push_roots<W: Words>(words: &mut W, map: Areas)
 pub fn open_words<W: Words>(words: &mut W, map: Areas)
     requires areas { IsAreas map }
     requires zero { W.words words.old ≡ replicate (total_of map) 0 }
-    ensures stands { Stands map (contents map (W.words words.new)) (opening_spaces standard_limits map.threads) }
+    ensures stands { StandsRecorded map (contents map (W.words words.new)) (opening_spaces standard_limits map.threads) }
     ensures sound { Sound map (W.words words.new) }
     ensures base { W.base words.new ≡ W.base words.old }
 {

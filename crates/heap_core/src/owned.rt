@@ -7,6 +7,8 @@ ghost use Rattle.heap_words.specs.Contents.{contents, Sound};
 ghost use Rattle.yak_model.specs.Graph.{standard_limits};
 ghost use Rattle.yak_model.specs.Spaces.{SpaceState, TurnsAll, opening_spaces};
 ghost use Rattle.yak_model.specs.Stands.{Stands};
+ghost use Rattle.yak_model.specs.Recorded.{Recorded};
+ghost use Rattle.heap_core.specs.Records.{Records, SomeRecorded, StandsRecorded};
 ghost use Rattle.heap_core.specs.Room.{TakesRoom};
 ghost use Rattle.heap_core.specs.Steps.{IsBuilt, entries};
 
@@ -28,19 +30,19 @@ pub struct Stepped {
     pub shortage: Option<Shortage>,
 }
 
-/// A heap, of which one call is made at a time. Its words stand for a state of the model.
+/// A heap, of which one call is made at a time. Its words stand for a state of the model, and record its crossing references.
 #[derive(Drop)]
 pub struct Core<W: Words> {
     words: W,
     map: Areas,
     ghost own: { map ≡ W.map (W.base words) },
-    ghost stands: { ∥ ((s : SpaceState) × Stands map (contents map (W.words words)) s) ∥₁ },
+    ghost stands: { SomeRecorded map (contents map (W.words words)) },
 }
 
 impl Core<Image> {
     /// A new heap of so many pages and threads, in the opening state.
     pub fn new(alloc: Global, pages: u32, threads: u8) -> Result<Core<Image>, MakeError>
-        ensures opening { IfOk result (λ core. Stands core.map (contents core.map (⟦<Image as Words>⟧.words core.words)) (opening_spaces standard_limits threads)) }
+        ensures opening { IfOk result (λ core. StandsRecorded core.map (contents core.map (⟦<Image as Words>⟧.words core.words)) (opening_spaces standard_limits threads)) }
         ensures map { IfOk result (λ core. core.map ≡ record { pages = pages; threads = threads }) }
         ensures within_limits { IfOk result (λ _. IsAreas (record { pages = pages; threads = threads })) }
         ensures refused { IfErr result (λ e. (e ≡ MakeError.BadConfig) ↔ ¬ IsAreas (record { pages = pages; threads = threads })) }
@@ -53,10 +55,10 @@ impl Core<Image> {
 }
 
 impl<W: Words> Core<W> {
-    /// A heap over words that stand for a state.
+    /// A heap over words that stand for a state, with the crossing references recorded.
     pub fn over(words: W, map: Areas) -> Core<W>
         requires own { map ≡ W.map (W.base words) }
-        requires stands { ∥ ((s : SpaceState) × Stands map (contents map (W.words words)) s) ∥₁ }
+        requires stands { SomeRecorded map (contents map (W.words words)) }
         ensures words { result.words ≡ words }
         ensures map { result.map ≡ map }
     {
@@ -68,7 +70,8 @@ impl<W: Words> Core<W> {
         requires thread { HasThread self.old.map thread }
         requires number { IsCall call }
         requires built { IsBuilt call }
-        ensures turns { (s : SpaceState) → Stands self.old.map (contents self.old.map (W.words self.old.words)) s → (after : SpaceState) × TurnsAll s (entries thread call result) after × Stands self.new.map (contents self.new.map (W.words self.new.words)) after }
+        ensures turns { (s : SpaceState) (h : Stands self.old.map (contents self.old.map (W.words self.old.words)) s) → (after : SpaceState) × TurnsAll s (entries thread call result) after × (later : Stands self.new.map (contents self.new.map (W.words self.new.words)) after) × (Recorded self.old.map (contents self.old.map (W.words self.old.words)) s h → Recorded self.new.map (contents self.new.map (W.words self.new.words)) after later) }
+        ensures records { (s : SpaceState) (h : Stands self.old.map (contents self.old.map (W.words self.old.words)) s) → Records self.old.map s h.places.at (contents self.old.map (W.words self.old.words)) (contents self.new.map (W.words self.new.words)) thread call result.reply }
         ensures room { TakesRoom self.old.map (contents self.old.map (W.words self.old.words)) (contents self.new.map (W.words self.new.words)) thread call result.reply }
         ensures collected { result.collected ≡ false }
         ensures full { result.full ≡ None }

@@ -10,6 +10,8 @@ use Rattle.heap_words.specs.Contents.{contents}
 use Rattle.heap_core.specs.declared.owned.Stepped.{Stepped}
 use Rattle.heap_core.specs.Steps.{entries}
 use Rattle.yak_model.specs.Stands.{Stands}
+use Rattle.yak_model.specs.Recorded.{Recorded}
+use Rattle.heap_core.specs.Records.{StandsRecorded}
 use Rattle.script_text.specs.declared.scripts.Line.{Line}
 use Rattle.script_text.specs.Contents.{Heap}
 use Rattle.script_text.specs.Replies.{reply_line}
@@ -34,7 +36,7 @@ replies_more (first ∷ answered) one = rw (replies_more answered one) (sym (app
 
 -- before the first line
 pub run_opened : MachinesAgree → (size : Heap) (map : Areas) (words : List ℕ) → map.pages ≡ size.pages → map.threads ≡ size.threads
-    → Stands map (contents map words) (opening_spaces standard_limits size.threads) → IsRun size [] [] (held_of map words)
+    → StandsRecorded map (contents map words) (opening_spaces standard_limits size.threads) → IsRun size [] [] (held_of map words)
 run_opened agree size map words pages threads stands =
     let agreed = agree standard_limits size.threads [] (opening_spaces standard_limits size.threads) refl in
     record {
@@ -46,7 +48,7 @@ run_opened agree size map words pages threads stands =
       written = refl;
       legal = (agreed.0, agreed.1);
       leaves = refl;
-      heap = record { pages = pages; threads = threads; stands = stands };
+      heap = record { pages = pages; threads = threads; stands = stands.0; recorded = stands.1 };
     }
 
 -- after one more line
@@ -71,13 +73,14 @@ run_more agree size lines text after heap next line same run adds =
         pages = ap (λ (m : Areas). m.pages) same ∙ run.heap.pages;
         threads = ap (λ (m : Areas). m.threads) same ∙ run.heap.threads;
         stands = turned.2;
+        recorded = turned.3 run.heap.recorded;
       };
     }
 
 -- the line of a step that was written
 pub added : (line : Line) (stepped : Stepped) (before after : List ℕ) (heap next : Held) (result : Result (Unit {0}) NoMemory)
     → OnOk result (after ≡ before ++ reply_line line.number stepped.reply)
-    → ((state : SpaceState) → Stands heap.map (contents heap.map heap.words) state → (later : SpaceState) × TurnsAll state (entries line.thread line.call stepped) later × Stands next.map (contents next.map next.words) later)
+    → ((state : SpaceState) (stands : Stands heap.map (contents heap.map heap.words) state) → (later : SpaceState) × TurnsAll state (entries line.thread line.call stepped) later × (then_stands : Stands next.map (contents next.map next.words) later) × (Recorded heap.map (contents heap.map heap.words) state stands → Recorded next.map (contents next.map next.words) later then_stands))
     → OnOk result (Adds line before after heap next)
 added line stepped before after heap next (Ok done) written turns =
     record { reply = stepped.reply; entries = entries line.thread line.call stepped; told = calls_of_step line.thread line.call stepped; written = written; turns = turns }

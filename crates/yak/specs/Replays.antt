@@ -6,6 +6,7 @@ use Rattle.heap_words.specs.declared.map.Areas.{Areas}
 use Rattle.heap_words.specs.Contents.{contents}
 use Rattle.heap_core.specs.Steps.{IsBuilt}
 use Rattle.yak_model.specs.Stands.{Stands}
+use Rattle.yak_model.specs.Recorded.{Recorded}
 use Rattle.yak_model.specs.Graph.{standard_limits}
 use Rattle.yak_model.specs.History.{Entry, Said, Collected, IsLegal}
 use Rattle.yak_model.specs.Spaces.{SpaceState, TurnsAll, spaces}
@@ -49,14 +50,16 @@ pub record Held : Type 0 where
 abbrev pub held_of : Areas → List ℕ → Held
 held_of map words = record { map = map; words = words }
 
--- a heap of so many pages and threads, whose words stand for a state
+-- a heap of so many pages and threads, whose words stand for a state, with its crossing references recorded
 pub record IsHeapOf (size : Heap) (held : Held) (state : SpaceState) : Type 0 where
   pub pages : held.map.pages ≡ size.pages
   pub threads : held.map.threads ≡ size.threads
   pub stands : Stands held.map (contents held.map held.words) state
+  pub recorded : Recorded held.map (contents held.map held.words) state stands
 
 -- Running the lines on a new heap of this size wrote the text and left the heap: there is one legal history whose calls are
--- the lines in order with the replies that the text gives, and the heap's words stand for the state that it leaves.
+-- the lines in order with the replies that the text gives, and the heap's words stand for the state that it leaves, with the
+-- references that cross into regions recorded.
 pub record IsRun (size : Heap) (lines : List Line) (text : List ℕ) (held : Held) : Type 0 where
   pub answered : List Answered
   pub history : List Entry
@@ -74,7 +77,7 @@ pub record Adds (line : Line) (before after : List ℕ) (heap next : Held) : Typ
   pub entries : List Entry
   pub told : calls_of entries ≡ entry_of (record { line = line; reply = reply }) ∷ []
   pub written : after ≡ before ++ reply_line line.number reply
-  pub turns : (state : SpaceState) → Stands heap.map (contents heap.map heap.words) state → (later : SpaceState) × TurnsAll state entries later × Stands next.map (contents next.map next.words) later
+  pub turns : (state : SpaceState) (stands : Stands heap.map (contents heap.map heap.words) state) → (later : SpaceState) × TurnsAll state entries later × (after : Stands next.map (contents next.map next.words) later) × (Recorded heap.map (contents heap.map heap.words) state stands → Recorded next.map (contents next.map next.words) later after)
 
 -- a command that a heap of so many threads can run
 pub record IsRunnable (threads : ℕ) (line : Line) : Type 0 where

@@ -99,6 +99,11 @@ fn scripts_are_replayed_or_refused(rt: HostRuntime) -> Result<(), Fail> {
             "line 2: bad number\n",
         ),
         ("heap 4 1\n1 int 07", 2, "line 2: bad number\n"),
+        (
+            "heap 4 1\n1 begin\n1 begin\n1 begin\n1 begin\n1 begin\n1 begin\n1 begin\n1 begin\n1 begin",
+            0,
+            "2 ok\n3 ok\n4 ok\n5 ok\n6 ok\n7 ok\n8 ok\n9 ok\n10 too deep\n",
+        ),
         ("heap 4 1\n1 collect", 2, "line 2: bad command\n"),
         ("heap 4 1\n1 collect 1", 2, "line 2: bad command\n"),
         ("heap 4 1\n2 collect", 2, "line 2: bad thread\n"),

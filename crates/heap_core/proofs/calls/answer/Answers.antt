@@ -1,3 +1,4 @@
+use Rattle.std.proofs.Math.Logic.{∥∥₁_map}
 use Rattle.heap_core.proofs.calls.answer.Goals as goal
 
 pub returns-in-Int-clause-turns : goal.returns-in-Int-clause-turns
@@ -26,3 +27,15 @@ returns-in-Same-clause-turns g c = rw c.in-Same.is c.same.ensures.turns
 
 pub returns-in-New-clause-turns : goal.returns-in-New-clause-turns
 returns-in-New-clause-turns g c = rw c.in-New.is c.new_object.ensures.turns
+
+pub returns-in-Begin-clause-turns : goal.returns-in-Begin-clause-turns
+returns-in-Begin-clause-turns g c = rw c.in-Begin.is c.begin.ensures.turns
+
+pub load-requires-clause-stands : goal.load-requires-clause-stands
+load-requires-clause-stands g c = ∥∥₁_map c.requires.recorded (λ q. (q.0, q.1))
+
+pub new_object-requires-clause-stands : goal.new_object-requires-clause-stands
+new_object-requires-clause-stands g c = ∥∥₁_map c.requires.recorded (λ q. (q.0, q.1))
+
+pub get-requires-clause-stands : goal.get-requires-clause-stands
+get-requires-clause-stands g c = ∥∥₁_map c.requires.recorded (λ q. (q.0, q.1))

@@ -4,7 +4,7 @@ use Rattle.heap_words.proofs.Zero.{contents-zero, sound-zero}
 use Rattle.heap_words.proofs.Contents.{length-pool}
 use Rattle.heap_core.specs.Opening.{opened}
 use Rattle.object_layout.specs.Layout.{header_word}
-use Rattle.heap_core.proofs.Opening.{opening_stands}
+use Rattle.heap_core.proofs.OpeningRecords.{opening_recorded}
 use Rattle.heap_core.proofs.made.open_words.Goals as goal
 
 pub set_head-requires-clause-sound : goal.set_head-requires-clause-sound
@@ -27,4 +27,4 @@ returns-clause-stands g c =
     c.push_roots.ensures.pushed ∙ ap (λ (x : Contents). record x { stacks = replicate m.threads (2 ∷ []) }) (c.fill_pool.ensures.others ∙ ap (λ (x : Contents). record x { pool = filled.pool }) e)
     in
     let long : length filled.pool ≡ m.pages = length-pool m (g.W.Words.words c.fill_pool.new.words) c.fill_pool.ensures.sound.whole in
-    rw f (opening_stands m filled.pool c.requires.areas long c.fill_pool.ensures.counts)
+    rw f (opening_recorded m filled.pool c.requires.areas long c.fill_pool.ensures.counts)

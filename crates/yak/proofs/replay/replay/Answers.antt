@@ -3,7 +3,7 @@ use Rattle.std.proofs.lemmas.List.{take_more}
 use Rattle.heap_words.specs.declared.map.Areas.{Areas}
 use Rattle.object_layout.specs.declared.calls.Call.TheVariants.{Int}
 use Rattle.heap_words.specs.Contents.{contents}
-use Rattle.yak_model.specs.Stands.{Stands}
+use Rattle.heap_core.specs.Records.{StandsRecorded}
 use Rattle.script_text.specs.Contents.{Contents}
 use Rattle.yak_model.specs.Graph.{standard_limits}
 use Rattle.yak_model.specs.Spaces.{opening_spaces}
@@ -16,7 +16,7 @@ lines-init c =
     rw c.new-text.ensures.items (run_opened c.agreement.ensures c.args.script.now.heap c.in-Ok.core.map c.in-Ok.core.words.words.items
     (ap (λ (m : Areas). m.pages) c.in-Ok.ensures.map ∙ ap (λ (s : Contents). s.heap.pages) c.script.view_is)
     (ap (λ (m : Areas). m.threads) c.in-Ok.ensures.map ∙ ap (λ (s : Contents). s.heap.threads) c.script.view_is)
-    (subst (λ (n : ℕ). Stands c.in-Ok.core.map (contents c.in-Ok.core.map c.in-Ok.core.words.words.items) (opening_spaces standard_limits n)) (ap (λ (s : Contents). s.heap.threads) c.script.view_is) c.in-Ok.ensures.opening))
+    (subst (λ (n : ℕ). StandsRecorded c.in-Ok.core.map (contents c.in-Ok.core.map c.in-Ok.core.words.words.items) (opening_spaces standard_limits n)) (ap (λ (s : Contents). s.heap.threads) c.script.view_is) c.in-Ok.ensures.opening))
 
 pub lines-preserved : goal.lines-preserved
 lines-preserved c =
