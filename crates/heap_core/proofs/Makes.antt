@@ -235,10 +235,14 @@ made_turns m c c1 c2 c3 d t k made a first second w r areas ht few room is_made 
         whole = whole-named m c s h t k areas ht;
         places = grown h.places p n a;
         stands = subst (λ (x : Contents). StandsAs m x (view after) (grown h.places p n a)) (sym now) (subst (λ (w' : State). StandsAs m (with_new c1 c2.heap t (get_or (view s).made (t - 1) 0 + 1) a) w' (grown h.places p n a)) (sym (view-named s t k)) stands);
-      } in
-      (after, (after, (thread_in m c s h t ht, rw (few_enough s m c h k few, stack_room m c s h t room, serial_left m c s h t (subst (λ i. i < MAX_SERIAL) is_made left)) (inl (refl, refl)), refl, tt), refl), result, λ r.
-          subst (λ (w' : State). RecordedAs m d w' (grown h.places p n a).at) (sym (view-named s t k))
-          (recorded-newly m c d (view s) h.places n o t dep p a ht (omega (arith, ht.0, ht.1, stacks_shown m c s h)) (fresh-name m c s h t ht) h.stands.closed home (null_fields k) (made_records m c c1 c2 c3 d t k made a first second w placed written hm hd) r));
+      } in (
+        after,
+        (after, (thread_in m c s h t ht, rw (few_enough s m c h k few, stack_room m c s h t room, serial_left m c s h t (subst (λ i. i < MAX_SERIAL) is_made left)) (inl (refl, refl)), refl, tt), refl),
+        result,
+        λ r.
+            subst (λ (w' : State). RecordedAs m d w' (grown h.places p n a).at) (sym (view-named s t k))
+            (recorded-newly m c d (view s) h.places n o t dep p a ht (omega (arith, ht.0, ht.1, stacks_shown m c s h)) (fresh-name m c s h t ht) h.stands.closed home (null_fields k) (made_records m c c1 c2 c3 d t k made a first second w placed written hm hd) r),
+      );
   room = made_room m c c1 c2 c3 d t k made a first second w placed written hm hd;
   records = λ s h. made_records m c c1 c2 c3 d t k made a first second w placed written hm hd;
 }
