@@ -1,5 +1,5 @@
 -- A field that is loaded, over states.
-use Rattle.std.proofs.Common.{◌≡◌, ◌≢◌, ◌⊎◌, ℕ, ◌+◌, ◌-◌, ◌≤◌, ◌<◌, true, cond, not, Option, Some, None, List, [], ◌∷◌, ◌++◌, length, get_or, refl, sym, ap, subst, ◌∙◌, arith, inl, inr, IsSome}
+use Rattle.std.proofs.Common.{◌≡◌, ◌≢◌, ◌⊎◌, ℕ, ◌<◌, true, cond, not, Option, Some, None, List, [], ◌∷◌, ◌++◌, length, get_or, refl, sym, ap, subst, ◌∙◌, arith, inl}
 use Rattle.std.specs.Prelude.{MatchOption}
 use Rattle.std.proofs.lemmas.List.Elements.{All-get_or}
 use Rattle.std.proofs.Math.Logic.{⊎_elim}
@@ -24,14 +24,14 @@ use Rattle.yak_model.specs.Spaces.{SpaceState}
 use Rattle.yak_model.specs.State.{IsDatum, IsOpen, Thing, object_of, view}
 use Rattle.yak_model.specs.Placed.{datum_word}
 use Rattle.yak_model.specs.Stands.{Stands, set_entries}
-use Rattle.yak_model.specs.Recorded.{IsReader, Recorded, RecordedAs}
+use Rattle.yak_model.specs.Recorded.{IsReader, RecordedAs}
 use Rattle.yak_model.proofs.Data.{object_fields, some-of}
 use Rattle.yak_model.proofs.Stacks.{stack_length}
-use Rattle.heap_core.specs.Steps.{IsPushed, Turned}
+use Rattle.heap_core.specs.Steps.{Turned}
 use Rattle.heap_core.specs.Fields.{IsFieldOf}
-use Rattle.heap_core.specs.Records.{IsLoaded, IsOther, IsWordOf, MarksReader, SetsBit, home_at}
+use Rattle.heap_core.specs.Records.{IsLoaded, IsOther, IsWordOf, MarksReader, home_at}
 use Rattle.heap_core.specs.Room.{SameRoom}
-use Rattle.heap_core.proofs.Homes.{SomeWord, home-open, home-shown}
+use Rattle.heap_core.proofs.Homes.{home-open, home-shown}
 use Rattle.heap_core.proofs.Marks.{ReadersFit, marked, now_reader, recorded-marked, stands-reread}
 use Rattle.heap_core.proofs.Reached.{no_more}
 use Rattle.heap_core.proofs.Recorded.{IsRead, same_records}

@@ -1,5 +1,5 @@
 -- Slots that are recorded, over what is shown of states.
-use Rattle.std.proofs.Common.{◌≡◌, ◌≢◌, ◌⊎◌, ◌↔◌, inl, inr, ℕ, zero, suc, ◌+◌, ◌-◌, ◌≤◌, ◌<◌, Some, Result, Ok, Err, List, [], ◌∷◌, ◌++◌, drop, take, length, get_or, set, replicate, refl, sym, ap, subst, ◌∙◌, arith, get_or-set_other}
+use Rattle.std.proofs.Common.{◌≡◌, ◌⊎◌, ◌↔◌, inl, inr, ℕ, zero, suc, ◌+◌, ◌-◌, ◌≤◌, ◌<◌, Result, Ok, Err, List, [], ◌∷◌, ◌++◌, take, length, get_or, set, replicate, refl, sym, ap, subst, ◌∙◌, arith, get_or-set_other}
 use Rattle.std.specs.Prelude.{MatchResult}
 use Rattle.std.specs.List.{All, Contains, flat_map}
 use Rattle.std.proofs.Props.{props}
@@ -10,17 +10,16 @@ use Rattle.object_layout.specs.declared.names.Name.{Name}
 use Rattle.heap_words.specs.declared.map.Areas.{Areas}
 use Rattle.heap_words.specs.declared.TheConstants.{BUFFER_ENTRIES}
 use Rattle.heap_words.specs.Map.{HasThread, heap_length}
-use Rattle.heap_words.specs.Contents.{Contents, InLimits, buffer_of, with_buffer}
-use Rattle.yak_model.specs.Spaces.{SpaceState}
+use Rattle.heap_words.specs.Contents.{Contents, buffer_of, with_buffer}
 use Rattle.yak_model.specs.State.{State, view}
 use Rattle.yak_model.specs.Placed.{Places}
-use Rattle.yak_model.specs.Stands.{PoolStands, RestsZero, SetsStand, Stands, StandsAs, claim_counter, free_pages, pool_length, set_entries, unused_heads}
-use Rattle.yak_model.specs.Recorded.{IsField, IsReader, IsRecorded, Recorded, RecordedAs}
+use Rattle.yak_model.specs.Stands.{SetsStand, StandsAs, claim_counter, free_pages, pool_length, set_entries, unused_heads}
+use Rattle.yak_model.specs.Recorded.{IsField, IsReader, IsRecorded, RecordedAs}
 use Rattle.yak_model.proofs.Data.{in_heap}
 use Rattle.remember_sets.specs.declared.TheConstants.{SET_ENTRIES}
 use Rattle.remember_sets.specs.Filed.{IsFiled, logged, with_no_logs, with_sets}
-use Rattle.region_pages.proofs.Claims.{Contains-behind, Contains-cases, Contains-front}
-use Rattle.heap_core.specs.Records.{FilesBefore, Logs, LogsHold, LogsInto, SameRecords, SomeRecorded, with_logs}
+use Rattle.region_pages.proofs.Claims.{Contains-cases, Contains-front}
+use Rattle.heap_core.specs.Records.{FilesBefore, Logs, LogsHold, LogsInto, SameRecords, SomeRecorded}
 
 -- ---- entries of buffers
 

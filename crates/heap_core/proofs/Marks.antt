@@ -1,5 +1,5 @@
 -- A reader's bit that is set, over what is shown of states.
-use Rattle.std.proofs.Common.{◌≡◌, ◌≢◌, ◌⊎◌, ℕ, ◌+◌, ◌-◌, ◌*◌, ◌^◌, ◌≤◌, ◌<◌, Some, List, [], length, drop, get_or, set, refl, sym, ap, subst, ◌∙◌, arith, bit_and, bit_or, IsBitSet, length-drop, get_or-set_same, get_or-set_other}
+use Rattle.std.proofs.Common.{◌≡◌, ◌≢◌, ℕ, ◌-◌, ◌*◌, ◌^◌, ◌≤◌, ◌<◌, List, [], length, drop, get_or, set, sym, ap, subst, ◌∙◌, arith, bit_or, IsBitSet, length-drop, get_or-set_same, get_or-set_other}
 use Rattle.std.proofs.lemmas.Bool.{cases_eq}
 use Rattle.std.proofs.lemmas.Nat.{and_or_apart, and_or_self, pow_apart}
 use Rattle.std.proofs.Math.Pow.{pow-sub-lt}
@@ -8,7 +8,7 @@ use Rattle.object_layout.specs.declared.names.Name.{Name}
 use Rattle.heap_words.specs.declared.map.Areas.{Areas}
 use Rattle.heap_words.specs.Map.{HasRegion, all_readers_at, max_depth, total_of}
 use Rattle.heap_words.specs.Cells.{cells, row, row_set}
-use Rattle.heap_words.specs.Contents.{Contents, contents, readers_of}
+use Rattle.heap_words.specs.Contents.{Contents, contents}
 use Rattle.heap_words.proofs.Rows.{length-row, length-rows}
 use Rattle.yak_model.specs.State.{State, depth}
 use Rattle.yak_model.specs.Placed.{Places}

@@ -1,25 +1,20 @@
 -- No reference crosses in the opening state, and nothing is recorded.
-use Rattle.std.proofs.Common.{◌≡◌, ◌⊎◌, ℕ, zero, suc, ◌+◌, ◌-◌, ◌≤◌, ◌<◌, List, [], ◌∷◌, length, get_or, replicate, refl, sym, ap, subst, ◌∙◌, arith}
+use Rattle.std.proofs.Common.{◌≡◌, ℕ, zero, suc, ◌-◌, ◌<◌, List, [], length, get_or, replicate, refl, sym, ap, subst, ◌∙◌, arith}
 use Rattle.std.specs.List.{Contains}
 use Rattle.std.proofs.Math.Logic.{⊎_elim}
 use Rattle.object_layout.specs.declared.names.Name.{Name}
 use Rattle.heap_words.specs.declared.map.Areas.{Areas}
-use Rattle.heap_words.specs.Map.{IsAreas, max_depth}
-use Rattle.heap_words.specs.Cells.{row}
-use Rattle.heap_words.specs.Contents.{Contents}
-use Rattle.epoch_lattice.specs.declared.Space.{Space}
+use Rattle.heap_words.specs.Map.{IsAreas}
 use Rattle.epoch_lattice.specs.declared.Space.TheVariants.{Control, Region}
-use Rattle.yak_model.specs.declared.datum.Datum.{Datum}
 use Rattle.yak_model.specs.declared.datum.Datum.TheVariants.{Null, Object}
 use Rattle.yak_model.specs.Graph.{standard_limits}
 use Rattle.yak_model.specs.Spaces.{opening_spaces}
 use Rattle.yak_model.specs.State.{State, Thing}
-use Rattle.yak_model.specs.Stands.{set_entries}
-use Rattle.yak_model.specs.Recorded.{IsField, RecordedAs}
+use Rattle.yak_model.specs.Recorded.{RecordedAs}
 use Rattle.heap_core.specs.Opening.{Counts, opened}
 use Rattle.heap_core.specs.Records.{StandsRecorded}
 use Rattle.heap_core.proofs.Logged.{entries_of, none_left}
-use Rattle.heap_core.proofs.Opening.{nulls, only_root, opening, opening_stands, root, view-opening, zeros}
+use Rattle.heap_core.proofs.Opening.{nulls, only_root, opening, opening_stands, view-opening, zeros}
 
 no_readers : (k q d : ℕ) → get_or (get_or (replicate k (replicate 8 (let z : ℕ = 0 in z))) q []) d 0 ≡ 0
 no_readers zero q d = refl

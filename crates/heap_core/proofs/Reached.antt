@@ -1,31 +1,26 @@
 -- The calls on fields, over states.
-use Rattle.std.proofs.Common.{◌≡◌, ℕ, ◌+◌, ◌*◌, ◌≤◌, ◌<◌, Bool, true, false, cond, not, Option, Some, None, List, length, get_or, set, refl, sym, ap, subst, ◌∙◌, arith}
-use Rattle.std.specs.Prelude.{MatchOption}
-use Rattle.std.proofs.lemmas.List.Elements.{All-get_or}
+use Rattle.std.proofs.Common.{◌≡◌, ℕ, ◌+◌, ◌*◌, ◌≤◌, ◌<◌, Bool, true, false, cond, not, Option, Some, None, List, length, get_or, refl, sym, ap, subst, ◌∙◌, arith}
 use Rattle.object_layout.specs.declared.names.Name.{Name}
 use Rattle.object_layout.specs.declared.TheConstants.{MAX_ADDRESS, OBJECT_WORDS}
 use Rattle.object_layout.specs.declared.calls.Call.TheVariants as call
-use Rattle.object_layout.specs.declared.replies.Reply.{Reply}
 use Rattle.object_layout.specs.declared.replies.Reply.TheVariants as reply
 use Rattle.object_layout.specs.declared.replies.Refusal.{Refusal}
 use Rattle.object_layout.specs.declared.replies.Refusal.TheVariants as refusal
 use Rattle.heap_words.specs.declared.map.Areas.{Areas}
 use Rattle.heap_words.specs.Map.{HasThread, IsAreas, heap_length}
-use Rattle.heap_words.specs.Contents.{Contents, stack_of, with_heap}
+use Rattle.heap_words.specs.Contents.{Contents, stack_of}
 use Rattle.yak_model.specs.declared.datum.Datum.{Datum}
 use Rattle.yak_model.specs.declared.datum.Datum.TheVariants as datum
-use Rattle.yak_model.specs.Graph.{Fields, fields_at, is_bad_field, is_bad_slot, is_reference, is_stack_full, put_field, push, slot_of, with_object}
+use Rattle.yak_model.specs.Graph.{fields_at, is_bad_field, is_bad_slot, is_reference, is_stack_full, slot_of}
 use Rattle.yak_model.specs.Spaces.{SpaceState}
-use Rattle.yak_model.specs.State.{IsDatum, Thing, object_of, view}
-use Rattle.yak_model.specs.Placed.{datum_word}
+use Rattle.yak_model.specs.State.{Thing, object_of, view}
 use Rattle.yak_model.specs.Stands.{Stands}
 use Rattle.yak_model.proofs.Data.{Tells, counted, in_heap, no_reference, object_fields, refers}
-use Rattle.yak_model.proofs.Joined.{stands_stored, stored}
 use Rattle.yak_model.proofs.Stacks.{slot-fits, slot-word}
-use Rattle.heap_core.specs.Steps.{IsPushed, Turned}
+use Rattle.heap_core.specs.Steps.{Turned}
 use Rattle.heap_core.specs.Fields.{IsFieldOf, no_field}
 use Rattle.heap_core.proofs.Recorded.{same_records}
-use Rattle.heap_core.proofs.Steps.{bad_slot, beyond, good_slot, heap_room_same, pushed_room, pushes, same_room, thread_in, within}
+use Rattle.heap_core.proofs.Steps.{bad_slot, beyond, good_slot, same_room, thread_in, within}
 
 not_reference : (d : Datum) → ((n : Name) → d ≡ datum.Object n → ⊥) → is_reference d ≡ false
 not_reference datum.Null never = refl

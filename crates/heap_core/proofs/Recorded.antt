@@ -1,5 +1,5 @@
 -- Crossing references stay recorded, over what is shown of states.
-use Rattle.std.proofs.Common.{◌≡◌, ◌≢◌, ◌⊎◌, ℕ, ◌+◌, ◌-◌, ◌≤◌, ◌<◌, Some, List, [], ◌∷◌, length, get_or, map, refl, sym, ap, subst, ◌∙◌, arith, get_or-set_same, get_or-set_other}
+use Rattle.std.proofs.Common.{◌≡◌, ◌≢◌, ℕ, ◌-◌, ◌≤◌, ◌<◌, Some, List, [], length, get_or, map, refl, sym, ap, subst, ◌∙◌, arith, get_or-set_same, get_or-set_other}
 use Rattle.std.specs.List.{All}
 use Rattle.std.proofs.lemmas.Bool.{cases_eq}
 use Rattle.std.proofs.lemmas.List.{get_or_default, length-map}
@@ -7,21 +7,20 @@ use Rattle.std.proofs.Math.Logic.{⊎_elim}
 use Rattle.object_layout.specs.declared.names.Name.{Name}
 use Rattle.heap_words.specs.declared.map.Areas.{Areas}
 use Rattle.heap_words.specs.declared.TheConstants.{STACK_SLOTS}
-use Rattle.heap_words.specs.Map.{HasThread, max_depth}
-use Rattle.heap_words.specs.Cells.{row}
-use Rattle.heap_words.specs.Contents.{Contents, with_depth, with_stack}
+use Rattle.heap_words.specs.Map.{HasThread}
+use Rattle.heap_words.specs.Contents.{Contents, with_stack}
 use Rattle.epoch_lattice.specs.declared.Space.TheVariants.{Region}
 use Rattle.yak_model.specs.declared.datum.Datum.{Datum}
 use Rattle.yak_model.specs.declared.datum.Datum.TheVariants.{Null, Object}
 use Rattle.yak_model.specs.Graph.{Thread}
 use Rattle.yak_model.specs.Graph as graph
 use Rattle.yak_model.specs.Spaces.{SpaceState}
-use Rattle.yak_model.specs.State.{IsDatum, State, Thing, depth, object_of, stack, view}
+use Rattle.yak_model.specs.State.{IsDatum, State, Thing, object_of, stack, view}
 use Rattle.yak_model.specs.Placed.{datum_word}
 use Rattle.yak_model.specs.Stands.{Stands, StandsAs}
 use Rattle.yak_model.specs.Recorded.{IsReader, Recorded, RecordedAs}
 use Rattle.yak_model.proofs.Stacks.{is_thread, restacked, stack-shown, stacked, stands-stacked, view-restacked}
-use Rattle.heap_core.specs.Records.{SameFiled, SameRecords}
+use Rattle.heap_core.specs.Records.{SameRecords}
 
 -- nothing is recorded anew
 pub same_records : (c : Contents) → SameRecords c c

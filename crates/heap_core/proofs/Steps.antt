@@ -25,7 +25,7 @@ use Rattle.yak_model.specs.Placed.{datum_word}
 use Rattle.yak_model.specs.Stands.{Stands}
 use Rattle.yak_model.specs.Recorded.{Recorded}
 use Rattle.yak_model.proofs.Data.{Tells, counted, in_heap, is_integer, is_null, is_word, object_fields, refers, same-datum}
-use Rattle.yak_model.proofs.Stacks.{is_thread, restacked, slot-fits, slot-word, stack-fits, stack_length, stack_words, stands_restacked}
+use Rattle.yak_model.proofs.Stacks.{is_thread, restacked, slot-fits, slot-word, stack-fits, stack_length, stack_words}
 use Rattle.heap_core.specs.Room.{SameRoom}
 use Rattle.heap_core.specs.Records.{SameRecords}
 use Rattle.heap_core.specs.Steps.{IsPushed, Turned}

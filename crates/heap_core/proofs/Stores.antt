@@ -1,5 +1,5 @@
 -- A field that is stored, and an object that is made: crossing references stay recorded.
-use Rattle.std.proofs.Common.{◌≡◌, ◌≢◌, ◌⊎◌, ℕ, ◌+◌, ◌-◌, ◌≤◌, ◌<◌, Bool, true, false, cond, Option, Some, None, List, [], ◌∷◌, ◌++◌, length, get_or, set, zero, suc, refl, sym, ap, subst, ◌∙◌, arith, is_some, IsSome, length-set, get_or-set_same, get_or-set_other}
+use Rattle.std.proofs.Common.{◌≡◌, ◌≢◌, ℕ, ◌+◌, ◌-◌, ◌<◌, Bool, true, false, cond, Option, Some, None, List, [], ◌∷◌, ◌++◌, length, get_or, set, zero, suc, refl, sym, ap, subst, ◌∙◌, arith, is_some, IsSome, length-set, get_or-set_same, get_or-set_other}
 use Rattle.std.specs.List.{All}
 use Rattle.std.proofs.lemmas.Bool.{cases_eq}
 use Rattle.std.proofs.lemmas.List.Elements.{All-nil, All-push}
@@ -10,16 +10,16 @@ use Rattle.heap_words.specs.declared.map.Areas.{Areas}
 use Rattle.heap_words.specs.Map.{HasThread}
 use Rattle.heap_words.specs.Contents.{Contents, with_stack}
 use Rattle.epoch_lattice.specs.declared.Space.{Space}
-use Rattle.epoch_lattice.specs.declared.Space.TheVariants.{Control, Region}
+use Rattle.epoch_lattice.specs.declared.Space.TheVariants.{Region}
 use Rattle.epoch_lattice.specs.Lattice.{inner_of}
 use Rattle.yak_model.specs.declared.datum.Datum.{Datum}
 use Rattle.yak_model.specs.declared.datum.Datum.TheVariants.{Null, Object}
 use Rattle.yak_model.specs.State.{IsClosed, IsDatum, State, Thing, stack}
 use Rattle.yak_model.specs.Placed.{Places, same_name, with_field, with_object}
-use Rattle.yak_model.specs.Recorded.{Enters, IsField, IsRecorded, RecordedAs}
+use Rattle.yak_model.specs.Recorded.{Enters, IsRecorded, RecordedAs}
 use Rattle.yak_model.proofs.Grown.{grown}
 use Rattle.yak_model.proofs.Placed.{same_name-self, same_name-true}
-use Rattle.yak_model.proofs.Stacks.{all-at, stacked}
+use Rattle.yak_model.proofs.Stacks.{all-at}
 use Rattle.yak_model.proofs.Stored.{after_object}
 use Rattle.heap_core.specs.Records.{SameRecords}
 use Rattle.heap_core.proofs.Logged.{recorded-same}

@@ -1,4 +1,4 @@
-use Rattle.std.proofs.Common.{◌≡◌, inr}
+use Rattle.std.proofs.Common.{inr}
 use Rattle.heap_words.specs.Contents.{contents}
 use Rattle.heap_core.proofs.Logged.{after_filing}
 use Rattle.heap_core.proofs.barriers.log_slot.Goals as goal

@@ -1,10 +1,5 @@
-use Rattle.std.proofs.Common.{◌≡◌, ◌∙◌, sym, ap, Option}
 use Rattle.std.proofs.Math.Logic.{∥∥₁_map}
-use Rattle.epoch_lattice.specs.declared.Space.{Space}
 use Rattle.heap_words.specs.Contents.{contents}
-use Rattle.yak_model.specs.declared.datum.Datum.{Datum}
-use Rattle.yak_model.specs.Spaces.{SpaceState}
-use Rattle.heap_core.specs.Records.{home_at}
 use Rattle.heap_core.proofs.Homes.{no_slot_home, slot_value}
 use Rattle.heap_core.proofs.barriers.space_of_slot.Goals as goal
 

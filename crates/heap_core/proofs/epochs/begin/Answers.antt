@@ -1,6 +1,6 @@
-use Rattle.std.proofs.Common.{◌≡◌, ◌≤◌, ◌<◌, ◌+◌, ap, sym, subst, ◌∙◌}
+use Rattle.std.proofs.Common.{◌≡◌, ◌≤◌, ◌<◌, ◌+◌, ap, subst, ◌∙◌}
 use Rattle.object_layout.specs.declared.TheConstants.{MAX_DEPTH}
-use Rattle.heap_words.specs.Contents.{Contents, contents, depth_of, with_depth}
+use Rattle.heap_words.specs.Contents.{Contents, contents, with_depth}
 use Rattle.heap_core.proofs.Begins.{begin_turns, too_deep}
 use Rattle.heap_core.proofs.epochs.begin.Goals as goal
 

@@ -1,6 +1,5 @@
-use Rattle.std.proofs.Common.{◌≡◌, ap, ◌∙◌, refl}
 use Rattle.std.proofs.Math.Logic.{∥∥₁_map}
-use Rattle.heap_words.specs.Contents.{Contents, contents}
+use Rattle.heap_words.specs.Contents.{contents}
 use Rattle.heap_words.proofs.Contents.{length-buffers, length-heap}
 use Rattle.heap_core.proofs.Logged.{hold-told}
 use Rattle.heap_core.proofs.Reached.{store_refused, store_refused_value}
