@@ -36,8 +36,9 @@ mod tests {
     #[test]
     fn a_slot_that_crosses_is_recorded(rt: HostRuntime) -> Result<(), Fail> {
         for into_control in [false, true] {
-            let Ok(mut core) = Core::new(rt.alloc(), 4, 1) else {
-                return Ok(());
+            let mut core = match Core::new(rt.alloc(), 4, 1) {
+                Ok(core) => core,
+                Err(error) => panic!(rt; "no heap: {error}"),
             };
             assert_eq!(rt; core.step(1, Call::Begin).reply, Reply::Ok);
             assert_eq!(rt; core.step(1, Call::New(0)).reply, Reply::Ok);
