@@ -10,3 +10,4 @@ pub mod Outside
 pub mod Ends
 pub mod Reaches
 pub mod Written
+pub mod Rolls

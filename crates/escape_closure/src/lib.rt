@@ -3,6 +3,7 @@
 
 mod ending;
 mod raising;
+mod rolling;
 mod sources;
 
 pub use ending::targets;

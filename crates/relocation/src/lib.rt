@@ -13,4 +13,4 @@ mod tests;
 
 pub use corrections::correct;
 pub use moves::move_all;
-pub use plans::{Move, Plan, add_move, empty_plan, read_move};
+pub use plans::{MOVE_WORDS, Move, Plan, add_move, empty_plan, read_move};
