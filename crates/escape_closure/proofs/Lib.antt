@@ -11,3 +11,4 @@ pub mod Ends
 pub mod Reaches
 pub mod Written
 pub mod Rolls
+pub mod Placing

@@ -9,6 +9,7 @@ use Rattle.heap_words.specs.Contents.{Contents}
 use Rattle.yak_model.specs.State.{Thing}
 use Rattle.heap_walks.specs.Laid.{Laid, IsAmong, IsThing, work_of}
 use Rattle.heap_walks.specs.Walked.{IsPagePassed}
+use Rattle.escape_closure.specs.Words.{settled_word}
 use Rattle.relocation.specs.declared.plans.TheConstants.{MOVE_WORDS}
 
 -- An end whose targets stand in the work words: how the objects lie, the region, and what the words hold with the targets.
@@ -21,11 +22,12 @@ pub record Aimed : Type 0 where
 abbrev pub IsAimed : Aimed → Name → Type 0
 IsAimed q n = work_of q.laid q.words n ≢ 0
 
--- Only objects of the region have a target.
+-- Only objects of the region have a target, and the work word of each tells a space.
 pub record AimsInside (m : Areas) (q : Aimed) : Type 0 where
   pub among : IsAmong m q.laid q.words
   pub region : IsValid MAX_DEPTH q.region
   pub homes : (n : Name) (o : Thing) → IsThing q.laid n o → IsValid MAX_DEPTH o.home
+  pub tells : (n : Name) (o : Thing) → IsThing q.laid n o → IsAimed q n → (x : Space) × IsValid MAX_DEPTH x × (work_of q.laid q.words n ≡ settled_word x)
   pub inside : (n : Name) (o : Thing) → IsThing q.laid n o → IsAimed q n → o.home ≡ q.region
 
 -- Objects below an address that have a target are on the roll, by ascending address: every third word of the scratch area is

@@ -2,6 +2,7 @@
 #![tactic(auto)]
 
 mod ending;
+mod needing;
 mod raising;
 mod rolling;
 mod sources;
