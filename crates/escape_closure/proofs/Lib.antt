@@ -12,3 +12,4 @@ pub mod Reaches
 pub mod Written
 pub mod Rolls
 pub mod Placing
+pub mod Weighed

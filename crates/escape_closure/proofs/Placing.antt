@@ -1,13 +1,12 @@
 -- The pages that placing the objects of a roll claims.
-use Rattle.std.proofs.Common.{◌≡◌, ◌≢◌, ℕ, zero, suc, ◌+◌, ◌-◌, ◌*◌, ◌≤◌, ◌<◌, ◌==◌, cond, nat_le, List, [], Option, Some, None, set, get_or, length, refl, sym, ap, subst, ◌∙◌, arith, inl, inr, true, false, add-one, length-set, get_or-set_same, get_or-set_other}
+use Rattle.std.proofs.Common.{◌≡◌, ◌≢◌, ℕ, ◌+◌, ◌-◌, ◌*◌, ◌≤◌, ◌<◌, ◌==◌, cond, nat_le, List, [], Option, Some, None, set, get_or, length, refl, sym, ap, ◌∙◌, arith, inl, inr, true, false, add-one, get_or-set_same, get_or-set_other}
 use Rattle.std.proofs.lemmas.Bool.{cases_eq}
 use Rattle.std.proofs.lemmas.Bool.Decides.{nat_tests}
 use Rattle.std.proofs.lemmas.List.{get_or_past}
-use Rattle.object_layout.specs.declared.names.Name.{Name}
-use Rattle.object_layout.specs.declared.TheConstants.{MAX_FIELDS, MAX_SPACE, OBJECT_WORDS}
+use Rattle.object_layout.specs.declared.TheConstants.{MAX_SPACE, OBJECT_WORDS}
 use Rattle.epoch_lattice.specs.declared.Space.{Space}
 use Rattle.epoch_lattice.specs.declared.Space.TheVariants.{Control, Region}
-use Rattle.epoch_lattice.specs.Lattice.{space_index, space_of}
+use Rattle.epoch_lattice.specs.Lattice.{space_of}
 use Rattle.epoch_lattice.proofs.Numbers.{number-most}
 use Rattle.heap_words.specs.declared.map.Areas.{Areas}
 use Rattle.heap_words.specs.Map.{heap_length, page_words, scratch_length}
@@ -15,13 +14,13 @@ use Rattle.heap_words.specs.Cells.{row}
 use Rattle.heap_words.specs.Contents.{Contents, with_scratch}
 use Rattle.yak_model.specs.State.{Thing}
 use Rattle.yak_model.specs.Stands.{current}
-use Rattle.yak_model.specs.Placed.{size_by}
 use Rattle.yak_model.proofs.Data.{Tells}
 use Rattle.region_pages.specs.Placement.{words_left_at}
 use Rattle.heap_walks.specs.Laid.{IsThing, work_of}
 use Rattle.heap_walks.proofs.Objects.{counted, in_heap, size_is}
 use Rattle.relocation.specs.declared.plans.TheConstants.{MOVE_WORDS}
-use Rattle.escape_closure.specs.Rolls.{Aimed, AimsInside, IsAimed, Rolled}
+use Rattle.std.proofs.Math.Path.{fun_ext}
+use Rattle.escape_closure.specs.Rolls.{OnlyScratch, Aimed, AimsInside, Rolled}
 use Rattle.escape_closure.specs.Placing.{Filling, OnlyRooms, RoomsStand, claims, filled, filling, index_on, left, room_in, rooms_at, size_on}
 use Rattle.escape_closure.proofs.Rolls.{among_now, same_is, work_now}
 
@@ -147,3 +146,10 @@ rooms_more m c d f index size low long stand made i le =
       | inr ne ↦
           ap (λ (x : Contents). get_or x.scratch (heap_length m + i) 0) made ∙ get_or-set_other c.scratch place (heap_length m + i) v 0 (omega (arith, ne)) ∙ stand i le ∙ sym (other_is i index (left m size (f.rooms index)) (f.rooms i) ne)
     ]
+
+pub rooms_scratch : (m : Areas) (c d : Contents) (t i : ℕ) → OnlyScratch c d → rooms_at m d t i ≡ rooms_at m c t i
+rooms_scratch m c d t i only = ap (λ (x : Contents). room_in m x t (space_of i)) only ∙ room_still m c d.scratch t (space_of i)
+
+-- from the same rooms the same is claimed
+pub filling_rooms : (m : Areas) (rooms others index size : ℕ → ℕ) (k : ℕ) → ((i : ℕ) → rooms i ≡ others i) → filling m rooms index size k ≡ filling m others index size k
+filling_rooms m rooms others index size k same = ap (λ (f : ℕ → ℕ). filling m f index size k) (fun_ext same)

@@ -20,10 +20,16 @@ use Rattle.heap_walks.specs.Walked.{IsPagePassed}
 use Rattle.heap_walks.proofs.Objects.{in_heap}
 use Rattle.region_pages.specs.Counts.{used_by, used_of}
 use Rattle.relocation.specs.declared.plans.TheConstants.{MOVE_WORDS}
-use Rattle.escape_closure.specs.Rolls.{Aimed, AimsInside, IsAimed, Rolled, IsOnRoll, Grows, ArePagesRolled}
+use Rattle.escape_closure.specs.Rolls.{OnlyScratch, Aimed, AimsInside, IsAimed, Rolled, IsOnRoll, Grows, ArePagesRolled}
 
 pub same_is : (a b x y : ℕ) → a ≡ b → cond (a == b) x y ≡ x
 same_is a b x y e = rw (eq-eqb a b e) refl
+
+pub scratch_then : (c d after : Contents) → OnlyScratch c d → OnlyScratch d after → OnlyScratch c after
+scratch_then c d after a b = b ∙ ap (λ (x : Contents). record x { scratch = after.scratch }) a
+
+pub scratch_written : (c d : Contents) (k v : ℕ) → d ≡ with_scratch c k v → OnlyScratch c d
+scratch_written c d k v made = made ∙ ap (λ (s : List ℕ). record c { scratch = s }) (sym (ap (λ (x : Contents). x.scratch) made))
 
 -- what a roll leaves
 module _ (m : Areas) (q : Aimed) (c : Contents) (limit count : ℕ) (ready : AimsInside m q) (r : Rolled q c limit count) where

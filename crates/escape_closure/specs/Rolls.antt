@@ -12,6 +12,10 @@ use Rattle.heap_walks.specs.Walked.{IsPagePassed}
 use Rattle.escape_closure.specs.Words.{settled_word}
 use Rattle.relocation.specs.declared.plans.TheConstants.{MOVE_WORDS}
 
+-- No word has changed but those of the scratch area.
+abbrev pub OnlyScratch : Contents → Contents → Type 0
+OnlyScratch c d = d ≡ record c { scratch = d.scratch }
+
 -- An end whose targets stand in the work words: how the objects lie, the region, and what the words hold with the targets.
 pub record Aimed : Type 0 where
   pub laid : Laid

@@ -6,6 +6,7 @@ mod needing;
 mod raising;
 mod rolling;
 mod sources;
+mod weighing;
 
 pub use ending::targets;
 

@@ -12,7 +12,7 @@ ghost use Rattle.heap_walks.specs.Walked.{IsPagePassed};
 ghost use Rattle.yak_model.specs.State.{Thing};
 ghost use Rattle.yak_model.specs.Placed.{used_mark};
 ghost use Rattle.region_pages.specs.Counts.{used_by, used_of};
-ghost use Rattle.escape_closure.specs.Rolls.{Aimed, AimsInside, Rolled, IsOnRoll, Grows};
+ghost use Rattle.escape_closure.specs.Rolls.{Aimed, AimsInside, Rolled, IsOnRoll, Grows, OnlyScratch};
 
 use crate::WORK_WORD;
 use heap_words::{Areas, Words, get_heap, get_page, set_scratch};
@@ -24,6 +24,7 @@ fn roll_object<W: Words>(words: &mut W, map: Areas, count: usize, a: usize) -> u
     requires sound { Sound map (W.words words.old) }
     requires some { ∥ ((q : Aimed) × AimsInside map q × (n : Name) × (o : Thing) × IsThing q.laid n o × (a ≡ q.laid.places.at n) × Rolled q (contents map (W.words words.old)) a count) ∥₁ }
     ensures rolled { (q : Aimed) → AimsInside map q → (n : Name) (o : Thing) → IsThing q.laid n o → a ≡ q.laid.places.at n → (r : Rolled q (contents map (W.words words.old)) a count) → (limit : ℕ) → limit ≡ a + (length o.fields + OBJECT_WORDS) → (s : Grows q (contents map (W.words words.new)) limit result r.name count) × IsOnRoll q s.roll.name result n }
+    ensures frame { OnlyScratch (contents map (W.words words.old)) (contents map (W.words words.new)) }
     ensures sound { Sound map (W.words words.new) }
     ensures reads { W.reads words.new ≤ W.reads words.old + 1 }
     ensures base { W.base words.new ≡ W.base words.old }
@@ -42,6 +43,7 @@ fn roll_page<W: Words>(words: &mut W, map: Areas, count: usize, page: u32) -> us
     requires page { HasPage map page }
     requires some { ∥ ((q : Aimed) × AimsInside map q × Rolled q (contents map (W.words words.old)) (page_words map * page) count) ∥₁ }
     ensures rolled { (q : Aimed) → AimsInside map q → (r : Rolled q (contents map (W.words words.old)) (page_words map * page) count) → (s : Grows q (contents map (W.words words.new)) (page_words map * (page + 1)) result r.name count) × IsPagePassed q.laid (IsOnRoll q s.roll.name result) page }
+    ensures frame { OnlyScratch (contents map (W.words words.old)) (contents map (W.words words.new)) }
     ensures sound { Sound map (W.words words.new) }
     ensures reads { W.reads words.new ≤ W.reads words.old + (1 + used_mark (contents map (W.words words.old)).table page) }
     ensures base { W.base words.new ≡ W.base words.old }
@@ -64,6 +66,7 @@ fn roll_where_in<W: Words>(words: &mut W, map: Areas, count: usize, page: u32, r
     requires page { HasPage map page }
     requires some { ∥ ((q : Aimed) × (space_index q.region ≡ region) × AimsInside map q × Rolled q (contents map (W.words words.old)) (page_words map * page) count) ∥₁ }
     ensures rolled { (q : Aimed) → space_index q.region ≡ region → AimsInside map q → (r : Rolled q (contents map (W.words words.old)) (page_words map * page) count) → (s : Grows q (contents map (W.words words.new)) (page_words map * (page + 1)) result r.name count) × IsPagePassed q.laid (IsOnRoll q s.roll.name result) page × (W.reads words.new ≤ W.reads words.old + (2 + used_by q.region (row (contents map (W.words words.old)).table page))) }
+    ensures frame { OnlyScratch (contents map (W.words words.old)) (contents map (W.words words.new)) }
     ensures sound { Sound map (W.words words.new) }
     ensures base { W.base words.new ≡ W.base words.old }
 {
@@ -80,6 +83,7 @@ pub(crate) fn roll_region<W: Words>(words: &mut W, map: Areas, region: u8) -> us
     requires sound { Sound map (W.words words.old) }
     requires some { ∥ ((q : Aimed) × (space_index q.region ≡ region) × AimsInside map q × (q.words ≡ contents map (W.words words.old))) ∥₁ }
     ensures rolled { (q : Aimed) → space_index q.region ≡ region → AimsInside map q → q.words ≡ contents map (W.words words.old) → (s : Rolled q (contents map (W.words words.new)) (heap_length map) result) × ((n : Name) (o : Thing) → IsThing q.laid n o → IsOnRoll q s.name result n) × (W.reads words.new ≤ W.reads words.old + (2 * map.pages + used_of q.words.table q.region)) }
+    ensures frame { OnlyScratch (contents map (W.words words.old)) (contents map (W.words words.new)) }
     ensures sound { Sound map (W.words words.new) }
     ensures base { W.base words.new ≡ W.base words.old }
 {

@@ -1,13 +1,10 @@
 use Rattle.std.proofs.Props.{props}
 use Rattle.std.proofs.Math.Logic.{∥∥₁_elim, ∥∥₁_map}
-use Rattle.std.proofs.Common.{◌≡◌, ◌≢◌, ◌≤◌, ◌<◌, ◌+◌, ◌-◌, ◌*◌, ℕ, List, [], Some, None, arith, refl, sym, ap, ◌∙◌, subst, get_or, set, length}
-use Rattle.object_layout.specs.declared.TheConstants.{MAX_SPACE, OBJECT_WORDS}
-use Rattle.heap_words.specs.Map.{heap_length, page_words}
-use Rattle.heap_words.specs.Contents.{Contents, contents, with_scratch, Sound}
-use Rattle.heap_words.proofs.Contents.{length-currents, length-scratch}
-use Rattle.yak_model.specs.Stands.{CurrentsStand}
-use Rattle.escape_closure.specs.Rolls.{Aimed, AimsInside, Rolled}
-use Rattle.escape_closure.specs.Placing.{Filling, OnlyRooms, RoomsStand, claims, filled, filling, index_on, left, rooms_at, size_on}
+use Rattle.std.proofs.Common.{◌≡◌, ◌+◌, ℕ, List, arith, refl, sym, ap, ◌∙◌, subst, get_or, length}
+use Rattle.heap_words.specs.Map.{heap_length}
+use Rattle.heap_words.specs.Contents.{contents, with_scratch}
+use Rattle.heap_words.proofs.Contents.{length-scratch}
+use Rattle.escape_closure.specs.Placing.{Filling, RoomsStand, claims, filled, filling, index_on, left, size_on}
 use Rattle.escape_closure.proofs.Placing.{claims_most, filling_more, filling_none, only_first, only_more, roll_still, rooms_more}
 use Rattle.escape_closure.proofs.needing.claims_of.Goals as goal
 

@@ -1,13 +1,6 @@
-use Rattle.std.proofs.Props.{props}
-use Rattle.std.proofs.Math.Logic.{∥∥₁_elim, ∥∥₁_map}
-use Rattle.std.proofs.Common.{◌≡◌, ◌≢◌, ◌≤◌, ◌<◌, ◌+◌, ◌-◌, ◌*◌, ℕ, List, [], Some, None, arith, refl, sym, ap, ◌∙◌, subst, get_or, set, length}
-use Rattle.object_layout.specs.declared.TheConstants.{MAX_SPACE, OBJECT_WORDS}
-use Rattle.heap_words.specs.Map.{heap_length, page_words}
-use Rattle.heap_words.specs.Contents.{Contents, contents, with_scratch, Sound}
-use Rattle.heap_words.proofs.Contents.{length-currents, length-scratch}
-use Rattle.yak_model.specs.Stands.{CurrentsStand}
-use Rattle.escape_closure.specs.Rolls.{Aimed, AimsInside, Rolled}
-use Rattle.escape_closure.specs.Placing.{Filling, OnlyRooms, RoomsStand, claims, filled, filling, index_on, left, rooms_at, size_on}
+use Rattle.std.proofs.Common.{Some, arith, sym, ap, ◌∙◌}
+use Rattle.heap_words.specs.Contents.{contents}
+use Rattle.heap_words.proofs.Contents.{length-currents}
 use Rattle.epoch_lattice.specs.declared.Space.{Space}
 use Rattle.escape_closure.specs.Placing.{room_in}
 use Rattle.escape_closure.proofs.Placing.{no_thread}

@@ -1,3 +1,5 @@
+use Rattle.std.proofs.Common.{refl}
+use Rattle.escape_closure.proofs.Rolls.{scratch_written}
 use Rattle.std.proofs.Props.{props}
 use Rattle.std.proofs.Math.Logic.{∥∥₁_elim}
 use Rattle.std.proofs.Common.{◌≡◌, ◌*◌, ℕ, List, arith, sym, ap, ◌∙◌}
@@ -39,3 +41,12 @@ returns-clause-rolled g c q ready n o present at r limit is =
     let a = c.args.a in
     let made : contents m (g.W.Words.words c.set_scratch.new.words) ≡ rolled m q old a c.args.count n o ready r present at = c.set_scratch.ensures.set ∙ ap (λ (x : List ℕ). with_scratch (contents m x) (3 * c.args.count) a) c.get_heap-work.ensures.words in
     rw made (goes_on m q old a c.args.count n o ready r present at (λ z. c.if-work-eq0.false (c.get_heap-work.ensures.value ∙ z)) limit is)
+
+pub returns-then-work-eq0-clause-frame : goal.returns-then-work-eq0-clause-frame
+returns-then-work-eq0-clause-frame g c = rw c.get_heap-work.ensures.words refl
+
+pub returns-clause-frame : goal.returns-clause-frame
+returns-clause-frame g c =
+    let m = c.args.map in
+    let old = contents m (g.W.Words.words c.args.words.now) in
+    scratch_written old (contents m (g.W.Words.words c.set_scratch.new.words)) (3 * c.args.count) c.args.a (c.set_scratch.ensures.set ∙ ap (λ (x : List ℕ). with_scratch (contents m x) (3 * c.args.count) c.args.a) c.get_heap-work.ensures.words)

@@ -1,3 +1,6 @@
+use Rattle.std.proofs.Common.{refl, List}
+use Rattle.escape_closure.proofs.Rolls.{scratch_then}
+use Rattle.escape_closure.specs.Rolls.{OnlyScratch}
 use Rattle.std.proofs.Props.{props}
 use Rattle.std.proofs.Math.Logic.{∥∥₁_elim, ∥∥₁_map}
 use Rattle.std.proofs.Common.{◌≡◌, ◌+◌, ◌*◌, ℕ, arith, sym, ap, ◌∙◌, subst, length}
@@ -80,6 +83,7 @@ loop-offset-init g c = record {
   sound = rw c.get_page-used.ensures.words c.requires.sound;
   base = c.get_page-used.ensures.base;
   reads = omega (arith, c.get_page-used.ensures.reads);
+  frame = rw c.get_page-used.ensures.words refl;
   within = omega arith;
   rolled = λ q ready r.
       let m = c.args.map in
@@ -92,6 +96,7 @@ loop-offset-preserved g c = record {
   sound = c.roll_object-count.ensures.sound;
   base = c.roll_object-count.ensures.base ∙ c.get_heap.ensures.base ∙ c.loop-offset.invariant.base;
   reads = omega (arith, c.roll_object-count.ensures.reads, c.get_heap.ensures.reads, c.loop-offset.invariant.reads);
+  frame = scratch_then (contents c.args.map (g.W.Words.words c.args.words.now)) (contents c.args.map (g.W.Words.words c.loop-offset.words)) (contents c.args.map (g.W.Words.words c.roll_object-count.new.words)) c.loop-offset.invariant.frame (subst (λ (x : List ℕ). OnlyScratch (contents c.args.map x) (contents c.args.map (g.W.Words.words c.roll_object-count.new.words))) c.get_heap.ensures.words c.roll_object-count.ensures.frame);
   within = ∥∥₁_elim c.requires.some (hlevel props) (λ z.
       let m = c.args.map in
       let q = z.0 in
@@ -149,3 +154,6 @@ returns-clause-rolled g c q ready r =
 
 pub returns-clause-reads : goal.returns-clause-reads
 returns-clause-reads g c = omega (arith, c.loop-offset.invariant.reads, c.loop-offset.invariant.within, c.get_page-used.ensures.value)
+
+pub returns-clause-frame : goal.returns-clause-frame
+returns-clause-frame g c = c.loop-offset.invariant.frame

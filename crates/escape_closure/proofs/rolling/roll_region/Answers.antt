@@ -1,3 +1,4 @@
+use Rattle.escape_closure.proofs.Rolls.{scratch_then}
 use Rattle.std.proofs.Math.Logic.{∥∥₁_map}
 use Rattle.std.proofs.Common.{◌≡◌, ◌*◌, ℕ, List, arith, refl, ap, ◌∙◌, subst}
 use Rattle.heap_words.specs.Map.{page_words}
@@ -17,6 +18,7 @@ pub loop-page-init : goal.loop-page-init
 loop-page-init g c = record {
   sound = c.requires.sound;
   base = refl;
+  frame = refl;
   rolled = λ q index ready same. (first_roll q (contents c.args.map (g.W.Words.words c.args.words.now)) same, λ p lt. absurd (omega (arith, lt)), omega arith);
 }
 
@@ -24,6 +26,7 @@ pub loop-page-preserved : goal.loop-page-preserved
 loop-page-preserved g c = record {
   sound = c.roll_where_in-count.ensures.sound;
   base = c.roll_where_in-count.ensures.base ∙ c.loop-page.invariant.base;
+  frame = scratch_then (contents c.args.map (g.W.Words.words c.args.words.now)) (contents c.args.map (g.W.Words.words c.loop-page.words)) (contents c.args.map (g.W.Words.words c.roll_where_in-count.new.words)) c.loop-page.invariant.frame c.roll_where_in-count.ensures.frame;
   rolled = λ q index ready same.
       let m = c.args.map in
       let page = c.loop-page.page in

@@ -1,3 +1,5 @@
+use Rattle.std.proofs.Common.{refl}
+use Rattle.escape_closure.specs.Rolls.{OnlyScratch}
 use Rattle.std.proofs.Math.Logic.{∥∥₁_map}
 use Rattle.std.proofs.Common.{◌≡◌, ◌≢◌, ◌+◌, ◌*◌, ℕ, List, arith, sym, ap, ◌∙◌, subst}
 use Rattle.epoch_lattice.specs.Lattice.{space_index}
@@ -42,3 +44,9 @@ returns-clause-rolled g c q index ready r =
       other_page m q r.name c.args.count page c.get_page-space.result ready word other,
       omega (arith, c.get_page-space.ensures.reads),
     )
+
+pub returns-then-space-own-clause-frame : goal.returns-then-space-own-clause-frame
+returns-then-space-own-clause-frame g c = subst (λ (x : List ℕ). OnlyScratch (contents c.args.map x) (contents c.args.map (g.W.Words.words c.roll_page.new.words))) c.get_page-space.ensures.words c.roll_page.ensures.frame
+
+pub returns-clause-frame : goal.returns-clause-frame
+returns-clause-frame g c = rw c.get_page-space.ensures.words refl
