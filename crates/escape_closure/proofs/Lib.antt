@@ -13,3 +13,4 @@ pub mod Written
 pub mod Rolls
 pub mod Placing
 pub mod Weighed
+pub mod Follows
