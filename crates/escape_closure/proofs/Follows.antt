@@ -1,5 +1,5 @@
 -- The words left in the current pages and the free pages follow an object that is placed.
-use Rattle.std.proofs.Common.{◌≡◌, ◌≢◌, ◌⊎◌, ℕ, zero, suc, ◌+◌, ◌-◌, ◌*◌, ◌≤◌, ◌<◌, ◌==◌, cond, List, [], ◌∷◌, Some, set, get_or, length, length-set, refl, sym, ap, subst, ◌∙◌, arith, inl, inr}
+use Rattle.std.proofs.Common.{◌≡◌, ◌≢◌, ◌⊎◌, ℕ, ◌+◌, ◌-◌, ◌≤◌, ◌<◌, List, Some, set, get_or, length, length-set, refl, sym, ap, ◌∙◌, arith, inl, inr}
 use Rattle.std.proofs.lemmas.Bool.{cases_eq}
 use Rattle.epoch_lattice.specs.declared.Space.{Space}
 use Rattle.epoch_lattice.specs.declared.Space.TheVariants.{Control, Region}
@@ -7,28 +7,22 @@ use Rattle.epoch_lattice.specs.declared.TheConstants.{MAX_DEPTH}
 use Rattle.epoch_lattice.specs.Lattice.{IsValid, space_index}
 use Rattle.epoch_lattice.proofs.Numbers.{number-own}
 use Rattle.heap_words.specs.declared.map.Areas.{Areas}
-use Rattle.heap_words.specs.Map.{HasThread, IsAreas, max_depth, page_words}
+use Rattle.heap_words.specs.Map.{HasThread, IsAreas, page_words}
 use Rattle.heap_words.specs.Cells.{row, row_set}
 use Rattle.heap_words.specs.Contents.{Contents}
 use Rattle.yak_model.specs.Packed.{IsSpaceOf}
 use Rattle.yak_model.specs.Placed.{space_word, used_mark}
 use Rattle.yak_model.specs.Stands.{CurrentsStand, PoolStands, current, free_pages}
-use Rattle.region_pages.specs.Pages.{with_claimed, with_entry}
-use Rattle.region_pages.specs.Placement.{IsPlaced, IsPlacedInCurrent, IsPlacedOnClaimed, depth_in, with_used, words_left_at}
+use Rattle.region_pages.specs.Placement.{IsPlaced, IsPlacedInCurrent, IsPlacedOnClaimed, depth_in, words_left_at}
 use Rattle.region_pages.proofs.Shapes.{Shape}
 use Rattle.region_pages.proofs.Entries.{entry-same, entry-other, used-with_used, used-with_used_other, current-cases}
 use Rattle.region_pages.proofs.Claims.{entry, free_page}
 use Rattle.region_pages.proofs.Placing.{current_within, depth_fits, not_current}
-use Rattle.escape_closure.specs.Placing.{Filling, claims, filled, left, room_in}
+use Rattle.escape_closure.specs.Placing.{owner, Filling, claims, filled, left, room_in}
 use Rattle.escape_closure.proofs.Rolls.{same_is}
 use Rattle.escape_closure.proofs.Placing.{claims_none, claims_one, left_claims, left_fits, other_is}
 
--- whose current page it is
-abbrev pub owner : ℕ → Space → ℕ
-owner t Control = t
-owner t (Region u d) = u
-
-room_is : (m : Areas) (c : Contents) (t : ℕ) (x : Space) → room_in m c t (Some x) ≡ words_left_at m c (owner t x) (depth_in x)
+pub room_is : (m : Areas) (c : Contents) (t : ℕ) (x : Space) → room_in m c t (Some x) ≡ words_left_at m c (owner t x) (depth_in x)
 room_is m c t Control = refl
 room_is m c t (Region u d) = refl
 
@@ -42,7 +36,7 @@ same_space m t Control (Region v e) hx hy o d = absurd (omega (arith, hy, d))
 same_space m t (Region u d') Control hx hy o d = absurd (omega (arith, hx, d))
 same_space m t (Region u d') (Region v e) hx hy o d = rw (o, d) refl
 
-is_valid : (m : Areas) (x : Space) → IsAreas m → IsSpaceOf m x → IsValid MAX_DEPTH x
+pub is_valid : (m : Areas) (x : Space) → IsAreas m → IsSpaceOf m x → IsValid MAX_DEPTH x
 is_valid m Control areas of = tt
 is_valid m (Region u d) areas of = (of.0, omega (arith, of, areas), of.2, of.3)
 
@@ -183,3 +177,12 @@ module _ (m : Areas) (c after : Contents) (t size : ℕ) (x : Space) (s : Shape 
         let fewer : length (free_pages c.heads c.pool) ≡ length (free_pages after.heads after.pool) + claims size (room_in m c t (Some x)) = elim p [ inl w ↦ free_in_current a w | inr w ↦ free_on_claimed a w.0 pool w.1 ] in
         let room : claims size (room_in m c t (Some x)) ≡ claims size (f.rooms (space_index x)) = ap (claims size) (rooms x of) in
         omega (arith, fewer, room)
+
+-- placing touches neither the heap nor the scratch area
+pub placed_scratch : (m : Areas) (c after : Contents) (t size a : ℕ) (x : Space) → IsPlaced m c t x size a after → after.scratch ≡ c.scratch
+placed_scratch m c after t size a x (inl p) = ap (λ (y : Contents). y.scratch) p.changed
+placed_scratch m c after t size a x (inr p) = ap (λ (y : Contents). y.scratch) p.1.changed
+
+pub placed_heap : (m : Areas) (c after : Contents) (t size a : ℕ) (x : Space) → IsPlaced m c t x size a after → after.heap ≡ c.heap
+placed_heap m c after t size a x (inl p) = ap (λ (y : Contents). y.heap) p.changed
+placed_heap m c after t size a x (inr p) = ap (λ (y : Contents). y.heap) p.1.changed

@@ -14,3 +14,4 @@ pub mod Rolls
 pub mod Placing
 pub mod Weighed
 pub mod Follows
+pub mod Underway

@@ -1,8 +1,9 @@
 -- The pages that placing the objects of a roll claims.
-use Rattle.std.proofs.Common.{◌≡◌, ◌≢◌, ℕ, ◌+◌, ◌-◌, ◌*◌, ◌≤◌, ◌<◌, ◌==◌, cond, nat_le, List, [], Option, Some, None, set, get_or, length, refl, sym, ap, ◌∙◌, arith, inl, inr, true, false, add-one, get_or-set_same, get_or-set_other}
+use Rattle.std.proofs.Common.{◌≡◌, ◌≢◌, ℕ, ◌+◌, ◌-◌, ◌*◌, ◌≤◌, ◌<◌, ◌==◌, cond, nat_le, List, [], Option, Some, None, set, get_or, length, refl, sym, ap, subst, ◌∙◌, arith, inl, inr, true, false, add-one, get_or-set_same, get_or-set_other}
 use Rattle.std.proofs.lemmas.Bool.{cases_eq}
 use Rattle.std.proofs.lemmas.Bool.Decides.{nat_tests}
 use Rattle.std.proofs.lemmas.List.{get_or_past}
+use Rattle.object_layout.specs.declared.names.Name.{Name}
 use Rattle.object_layout.specs.declared.TheConstants.{MAX_SPACE, OBJECT_WORDS}
 use Rattle.epoch_lattice.specs.declared.Space.{Space}
 use Rattle.epoch_lattice.specs.declared.Space.TheVariants.{Control, Region}
@@ -12,17 +13,17 @@ use Rattle.heap_words.specs.declared.map.Areas.{Areas}
 use Rattle.heap_words.specs.Map.{heap_length, page_words, scratch_length}
 use Rattle.heap_words.specs.Cells.{row}
 use Rattle.heap_words.specs.Contents.{Contents, with_scratch}
-use Rattle.yak_model.specs.State.{Thing}
 use Rattle.yak_model.specs.Stands.{current}
+use Rattle.yak_model.specs.Placed.{size_by}
 use Rattle.yak_model.proofs.Data.{Tells}
 use Rattle.region_pages.specs.Placement.{words_left_at}
-use Rattle.heap_walks.specs.Laid.{IsThing, work_of}
+use Rattle.heap_walks.specs.Laid.{work_of}
 use Rattle.heap_walks.proofs.Objects.{counted, in_heap, size_is}
 use Rattle.relocation.specs.declared.plans.TheConstants.{MOVE_WORDS}
 use Rattle.std.proofs.Math.Path.{fun_ext}
 use Rattle.escape_closure.specs.Rolls.{OnlyScratch, Aimed, AimsInside, Rolled}
-use Rattle.escape_closure.specs.Placing.{Filling, OnlyRooms, RoomsStand, claims, filled, filling, index_on, left, room_in, rooms_at, size_on}
-use Rattle.escape_closure.proofs.Rolls.{among_now, same_is, work_now}
+use Rattle.escape_closure.specs.Placing.{EntryAt, Filling, OnlyRooms, RoomsStand, claims, filled, filling, left, room_in, rooms_at}
+use Rattle.escape_closure.proofs.Rolls.{same_is}
 
 pub other_is : (a b x y : ℕ) → a ≢ b → cond (a == b) x y ≡ y
 other_is a b x y ne = grind (arith, nat_tests)
@@ -90,40 +91,39 @@ roll_still m q c d count size only r = record {
 }
 
 -- an object of the roll
-module _ (m : Areas) (q : Aimed) (c : Contents) (count : ℕ) (ready : AimsInside m q) (r : Rolled q c (heap_length m) count) (k : ℕ) (lt : k < count) where
-  object : Thing
-  object = (r.aimed k lt).0
+pub entry_of_roll : (m : Areas) (q : Aimed) (c : Contents) (count k : ℕ) → (r : Rolled q c (heap_length m) count) → k < count → EntryAt m q c (r.name k) k
+entry_of_roll m q c count k r lt =
+    let a = r.aimed k lt in
+    record {
+      object = a.0;
+      present = a.1;
+      aimed = a.2;
+      place = r.stands k lt;
+      room = omega (arith, r.room, lt);
+      header = ap (λ (x : Contents). get_or x.heap (q.laid.places.at (r.name k)) 0) r.frame;
+      work = ap (λ (x : Contents). get_or x.heap (q.laid.places.at (r.name k) + 2) 0) r.frame;
+    }
 
-  present : IsThing q.laid (r.name k) object
-  unfolding object
-  present = (r.aimed k lt).1
-
-  pub at_is : get_or c.scratch (MOVE_WORDS * k) 0 ≡ q.laid.places.at (r.name k)
-  at_is = r.stands k lt
-
-  pub in_roll : MOVE_WORDS * k + MOVE_WORDS ≤ heap_length m
-  in_roll = omega (arith, r.room, lt)
-
+module _ (m : Areas) (q : Aimed) (c : Contents) (n : Name) (k : ℕ) (ready : AimsInside m q) (e : EntryAt m q c n k) where
   pub object_fits : get_or c.scratch (MOVE_WORDS * k) 0 + OBJECT_WORDS ≤ heap_length m
-  object_fits = let b = in_heap m q.laid (r.name k) object ready.among.stands present in omega (arith, b, at_is)
+  object_fits = let b = in_heap m q.laid n e.object ready.among.stands e.present in omega (arith, b, e.place)
 
-  pub size_told : (fields : ℕ) → Tells (get_or c.heap (get_or c.scratch (MOVE_WORDS * k) 0) 0) fields → fields + OBJECT_WORDS ≡ size_on q c (heap_length m) count r k
+  pub size_told : (fields : ℕ) → Tells (get_or c.heap (get_or c.scratch (MOVE_WORDS * k) 0) 0) fields → fields + OBJECT_WORDS ≡ size_by q.laid.state.objects n
   size_told fields tells =
-      let n = counted m q.laid c (r.name k) object (get_or c.scratch (MOVE_WORDS * k) 0) fields (among_now m q c (heap_length m) count ready r) present at_is tells in
-      omega (arith, n, size_is q.laid (r.name k) object present)
+      let header : get_or c.heap (get_or c.scratch (MOVE_WORDS * k) 0) 0 ≡ get_or q.words.heap (q.laid.places.at n) 0 = ap (λ a. get_or c.heap a 0) e.place ∙ e.header in
+      let told : Tells (get_or q.words.heap (q.laid.places.at n) 0) fields = subst (λ w. Tells w fields) header tells in
+      let size = counted m q.laid q.words n e.object (q.laid.places.at n) fields ready.among e.present refl told in
+      omega (arith, size, size_is q.laid n e.object e.present)
 
-  work_is : get_or c.heap (get_or c.scratch (MOVE_WORDS * k) 0 + 2) 0 ≡ work_of q.laid q.words (r.name k)
-  work_is = ap (λ a. get_or c.heap (a + 2) 0) at_is ∙ work_now m q c (heap_length m) count ready r (r.name k)
-
-  pub index_told : get_or c.heap (get_or c.scratch (MOVE_WORDS * k) 0 + 2) 0 ≡ index_on q c (heap_length m) count r k + 1
+  pub index_told : get_or c.heap (get_or c.scratch (MOVE_WORDS * k) 0 + 2) 0 ≡ (work_of q.laid q.words n - 1) + 1
   index_told =
-      let some = (r.aimed k lt).2 in
-      let word = work_is in
+      let some = e.aimed in
+      let word : get_or c.heap (get_or c.scratch (MOVE_WORDS * k) 0 + 2) 0 ≡ work_of q.laid q.words n = ap (λ a. get_or c.heap (a + 2) 0) e.place ∙ e.work in
       omega (arith, word, some)
 
-  pub index_low : index_on q c (heap_length m) count r k ≤ MAX_SPACE
+  pub index_low : work_of q.laid q.words n - 1 ≤ MAX_SPACE
   index_low =
-      let t = ready.tells (r.name k) object present (r.aimed k lt).2 in
+      let t = ready.tells n e.object e.present e.aimed in
       omega (arith, t.2, number-most t.0 t.1)
 
 -- no object, and one more

@@ -1,5 +1,5 @@
 -- Objects that are placed one after another, and the pages that this claims.
-use Rattle.std.specs.Prelude.{◌≡◌, ℕ, ◌+◌, ◌-◌, ◌≤◌, ◌<◌, ◌==◌, nat_le, cond, Option, Some, None, slice_index, zero, suc}
+use Rattle.std.specs.Prelude.{◌≡◌, ℕ, ◌+◌, ◌-◌, ◌*◌, ◌≤◌, ◌<◌, ◌==◌, nat_le, cond, Option, Some, None, slice_index, zero, suc}
 use Rattle.object_layout.specs.declared.TheConstants.{MAX_SPACE}
 use Rattle.epoch_lattice.specs.declared.Space.{Space}
 use Rattle.epoch_lattice.specs.declared.Space.TheVariants.{Control, Region}
@@ -9,8 +9,16 @@ use Rattle.heap_words.specs.Map.{heap_length, page_words}
 use Rattle.heap_words.specs.Contents.{Contents}
 use Rattle.yak_model.specs.Placed.{size_by}
 use Rattle.region_pages.specs.Placement.{words_left_at}
-use Rattle.heap_walks.specs.Laid.{work_of}
-use Rattle.escape_closure.specs.Rolls.{Aimed, Rolled}
+use Rattle.object_layout.specs.declared.names.Name.{Name}
+use Rattle.yak_model.specs.State.{Thing}
+use Rattle.heap_walks.specs.Laid.{IsThing, work_of}
+use Rattle.relocation.specs.declared.plans.TheConstants.{MOVE_WORDS}
+use Rattle.escape_closure.specs.Rolls.{Aimed, IsAimed, Rolled}
+
+-- The thread whose current page takes an object in a space: in Control it is that of a thread.
+abbrev pub owner : ℕ → Space → ℕ
+owner t Control = t
+owner t (Region u d) = u
 
 -- The words left in the current page of a space, where Control's is that of a thread.
 abbrev pub room_in : Areas → Contents → ℕ → Option Space → ℕ
@@ -53,6 +61,16 @@ index_on q now limit count r k = work_of q.laid q.words (r.name k) - 1
 
 abbrev pub size_on : (q : Aimed) (now : Contents) (limit count : ℕ) → Rolled q now limit count → ℕ → ℕ
 size_on q now limit count r k = size_by q.laid.state.objects (r.name k)
+
+-- An object that has a target is the one of the roll with a number, and its words are as the targets left them.
+pub record EntryAt (m : Areas) (q : Aimed) (now : Contents) (n : Name) (k : ℕ) : Type 0 where
+  pub object : Thing
+  pub present : IsThing q.laid n object
+  pub aimed : IsAimed q n
+  pub place : slice_index now.scratch (MOVE_WORDS * k) ≡ q.laid.places.at n
+  pub room : MOVE_WORDS * k + MOVE_WORDS ≤ heap_length m
+  pub header : slice_index now.heap (q.laid.places.at n) ≡ slice_index q.words.heap (q.laid.places.at n)
+  pub work : slice_index now.heap (q.laid.places.at n + 2) ≡ slice_index q.words.heap (q.laid.places.at n + 2)
 
 -- The last words of the scratch area are the words left in the current pages.
 abbrev pub RoomsStand : Areas → Contents → (ℕ → ℕ) → Type 0

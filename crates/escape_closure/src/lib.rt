@@ -3,6 +3,7 @@
 
 mod ending;
 mod needing;
+mod planning;
 mod raising;
 mod rolling;
 mod sources;

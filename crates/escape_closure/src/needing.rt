@@ -1,6 +1,9 @@
 //! The pages that placing the escaping objects would claim.
 
 ghost use Rattle.std.specs.Prelude.{◌≡◌, ◌≤◌, ◌<◌, ◌+◌, ◌-◌, ◌*◌, ℕ, slice_index, Some};
+ghost use Rattle.object_layout.specs.declared.names.Name.{Name};
+ghost use Rattle.yak_model.specs.Placed.{size_by};
+ghost use Rattle.heap_walks.specs.Laid.{work_of};
 ghost use Rattle.object_layout.specs.declared.TheConstants.{MAX_SPACE, OBJECT_WORDS};
 ghost use Rattle.epoch_lattice.specs.declared.TheConstants.{MAX_DEPTH};
 ghost use Rattle.epoch_lattice.specs.Lattice.{IsValid};
@@ -9,7 +12,7 @@ ghost use Rattle.heap_words.specs.Contents.{contents, with_scratch, Sound};
 ghost use Rattle.yak_model.specs.Stands.{CurrentsStand};
 ghost use Rattle.region_pages.specs.Placement.{words_left_at};
 ghost use Rattle.escape_closure.specs.Rolls.{Aimed, AimsInside, Rolled};
-ghost use Rattle.escape_closure.specs.Placing.{OnlyRooms, RoomsStand, claims, filling, index_on, left, room_in, rooms_at, size_on};
+ghost use Rattle.escape_closure.specs.Placing.{EntryAt, OnlyRooms, RoomsStand, claims, filling, index_on, left, room_in, rooms_at, size_on};
 
 use crate::WORK_WORD;
 use epoch_lattice::{Space, space_at};
@@ -113,11 +116,11 @@ pub(crate) struct Entry {
 }
 
 /// The object of the roll with a number.
-pub(crate) fn read_entry<W: Words>(words: &mut W, map: Areas, k: usize, count: usize) -> Entry
+pub(crate) fn read_entry<W: Words>(words: &mut W, map: Areas, k: usize) -> Entry
     requires sound { Sound map (W.words words.old) }
-    requires within { k < count }
-    requires some { ∥ ((q : Aimed) × AimsInside map q × Rolled q (contents map (W.words words.old)) (heap_length map) count) ∥₁ }
-    ensures read { (q : Aimed) → AimsInside map q → (r : Rolled q (contents map (W.words words.old)) (heap_length map) count) → (result.old ≡ q.laid.places.at (r.name k)) × (result.size ≡ size_on q (contents map (W.words words.old)) (heap_length map) count r k) × (result.index ≡ index_on q (contents map (W.words words.old)) (heap_length map) count r k) }
+    requires some { ∥ ((q : Aimed) × AimsInside map q × (n : Name) × EntryAt map q (contents map (W.words words.old)) n k) ∥₁ }
+    ensures read { (q : Aimed) → AimsInside map q → (n : Name) → EntryAt map q (contents map (W.words words.old)) n k → (result.old ≡ q.laid.places.at n) × (result.size ≡ size_by q.laid.state.objects n) × (result.index ≡ work_of q.laid q.words n - 1) }
+    ensures within { result.old + OBJECT_WORDS ≤ heap_length map }
     ensures index { result.index ≤ MAX_SPACE }
     ensures size { (OBJECT_WORDS ≤ result.size) × (result.size ≤ page_words map) }
     ensures words { W.words words.new ≡ W.words words.old }
@@ -169,7 +172,7 @@ fn claims_of<W: Words>(words: &mut W, map: Areas, count: usize) -> u32
 {
     let mut needed = 0;
     for k in 0..count {
-        let entry = read_entry(words, map, k, count);
+        let entry = read_entry(words, map, k);
         needed += use_room(words, map, entry.index, entry.size);
     }
     needed

@@ -5,7 +5,7 @@ use Rattle.heap_words.specs.Map.{heap_length}
 use Rattle.heap_words.specs.Contents.{contents, with_scratch}
 use Rattle.heap_words.proofs.Contents.{length-scratch}
 use Rattle.escape_closure.specs.Placing.{Filling, RoomsStand, claims, filled, filling, index_on, left, size_on}
-use Rattle.escape_closure.proofs.Placing.{claims_most, filling_more, filling_none, only_first, only_more, roll_still, rooms_more}
+use Rattle.escape_closure.proofs.Placing.{entry_of_roll, claims_most, filling_more, filling_none, only_first, only_more, roll_still, rooms_more}
 use Rattle.escape_closure.proofs.needing.claims_of.Goals as goal
 
 pub read_entry-entry-requires-clause-some : goal.read_entry-entry-requires-clause-some
@@ -14,7 +14,7 @@ read_entry-entry-requires-clause-some g c =
     let old = contents m (g.W.Words.words c.args.words.now) in
     let mid = contents m (g.W.Words.words c.loop-k.words) in
     let size : length mid.scratch ≡ length old.scratch = length-scratch m _ c.loop-k.invariant.sound.whole ∙ sym (length-scratch m _ c.requires.sound.whole) in
-    ∥∥₁_map c.requires.some (λ z. (z.0, z.1, roll_still m z.0 old mid c.args.count size c.loop-k.invariant.others z.2))
+    ∥∥₁_map c.requires.some (λ z. (z.0, z.1, z.2.name c.loop-k.k, entry_of_roll m z.0 mid c.args.count c.loop-k.k (roll_still m z.0 old mid c.args.count size c.loop-k.invariant.others z.2) (omega arith)))
 
 pub overflow_add-needed : goal.overflow_add-needed
 overflow_add-needed g c =
@@ -54,7 +54,7 @@ loop-k-preserved g c =
       filled = λ q ready r rooms stand.
           let now = c.loop-k.invariant.filled q ready r rooms stand in
           let same : length mid.scratch ≡ length old.scratch = long ∙ sym (length-scratch m _ c.requires.sound.whole) in
-          let told = c.read_entry-entry.ensures.read q ready (roll_still m q old mid c.args.count same c.loop-k.invariant.others r) in
+          let told = c.read_entry-entry.ensures.read q ready (r.name k) (entry_of_roll m q mid c.args.count k (roll_still m q old mid c.args.count same c.loop-k.invariant.others r) (omega arith)) in
           let indices : ℕ → ℕ = index_on q old (heap_length m) c.args.count r in
           let sizes : ℕ → ℕ = size_on q old (heap_length m) c.args.count r in
           let f : Filling = filling m rooms indices sizes k in
