@@ -6,7 +6,7 @@ use Rattle.heap_words.specs.declared.map.Areas.{Areas}
 use Rattle.heap_words.specs.Contents.{Contents}
 use Rattle.yak_model.specs.Packed.{IsSpaceOf}
 use Rattle.yak_model.specs.Stands.{free_pages}
-use Rattle.region_pages.specs.Placement.{IsPlaced, IsWithinPage, depth_in, words_left_at}
+use Rattle.region_pages.specs.Placement.{IsPlaced, IsLastInPage, depth_in, words_left_at}
 use Rattle.relocation.specs.Moves.{move_at}
 use Rattle.relocation.specs.declared.plans.TheConstants.{MOVE_WORDS}
 use Rattle.escape_closure.specs.declared.needing.Entry.{Entry}
@@ -31,7 +31,7 @@ pub record PlacedNext (m : Areas) (c after : Contents) (t k : ℕ) (entry : Entr
   pub new : ℕ
   pub between : Contents
   pub placed : IsPlaced m c (owner t space) space entry.size new between
-  pub within : IsWithinPage m new entry.size
+  pub within : IsLastInPage m between.table space new entry.size
   pub move : move_at after.scratch k ≡ record { old = entry.old; new = new; space = space }
   pub former : (j : ℕ) → j < k → move_at after.scratch j ≡ move_at c.scratch j
   pub behind : (i : ℕ) → MOVE_WORDS * (k + 1) ≤ i → slice_index after.scratch i ≡ slice_index c.scratch i

@@ -3,3 +3,11 @@ pub mod Opening
 pub mod Steps
 pub mod Reached
 pub mod Sound
+pub mod Sums
+pub mod Entered
+pub mod Added
+pub mod Newly
+pub mod Named
+pub mod Told
+pub mod Places
+pub mod Makes

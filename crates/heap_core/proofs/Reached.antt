@@ -24,7 +24,7 @@ use Rattle.yak_model.proofs.Joined.{stands_stored, stored}
 use Rattle.yak_model.proofs.Stacks.{slot-fits, slot-word}
 use Rattle.heap_core.specs.Steps.{IsPushed, Turned}
 use Rattle.heap_core.specs.Fields.{IsFieldOf, no_field}
-use Rattle.heap_core.proofs.Steps.{bad_slot, beyond, good_slot, pushes, thread_in, within}
+use Rattle.heap_core.proofs.Steps.{bad_slot, beyond, good_slot, heap_room_same, pushed_room, pushes, same_room, thread_in, within}
 
 not_reference : (d : Datum) → ((n : Name) → d ≡ datum.Object n → ⊥) → is_reference d ≡ false
 not_reference datum.Null never = refl
@@ -102,42 +102,57 @@ first_of_them false false true x y z why rest e = e
 first_of_them false false false x y z why rest e = cc
 
 pub load_refused : (m : Areas) (c : Contents) (t k f : ℕ) (why : Refusal) → HasThread m t → ((s : SpaceState) → Stands m c s → no_field s.graph t k f ≡ Some why) → Turned m c c t (call.Load k f) (reply.Refused why)
-load_refused m c t k f why ht none s h =
-    let e = first_of_them (is_bad_slot s.graph t k) (not (is_reference (slot_of s.graph t k))) (is_bad_field s.graph t k f) refusal.BadSlot refusal.NotAReference refusal.BadField why (cond (is_stack_full s.graph t) (Some refusal.StackFull) None) (none s h) in
-    (s, (s, (thread_in m c s h t ht, rw e (refl, refl), refl, tt), refl), h)
+load_refused m c t k f why ht none = record {
+  turns = λ s h.
+      let e = first_of_them (is_bad_slot s.graph t k) (not (is_reference (slot_of s.graph t k))) (is_bad_field s.graph t k f) refusal.BadSlot refusal.NotAReference refusal.BadField why (cond (is_stack_full s.graph t) (Some refusal.StackFull) None) (none s h) in
+      (s, (s, (thread_in m c s h t ht, rw e (refl, refl), refl, tt), refl), h);
+  room = same_room c;
+}
 
 pub load_turns : (m : Areas) (c d : Contents) (t k f a w : ℕ) (r : Reply) → HasThread m t → ((s : SpaceState) (h : Stands m c s) → IsFieldOf s h.places.at t k f a) → w ≡ get_or c.heap a 0 → IsPushed c d t w r → Turned m c d t (call.Load k f) r
-load_turns m c d t k f a w r ht field is done s h =
-    let p = field s h in
-    let values : fields_at s.graph (slot_of s.graph t k) ≡ p.thing.fields = ap (fields_at s.graph) p.refers ∙ object_fields s p.name p.thing p.present in
-    let v : Datum = get_or (fields_at s.graph (slot_of s.graph t k)) f datum.Null in
-    let same : v ≡ get_or p.thing.fields f datum.Null = ap (λ (vs : List Datum). get_or vs f datum.Null) values in
-    let word : w ≡ datum_word h.places.at v = is ∙ ap (λ x. get_or c.heap x 0) p.place ∙ (h.stands.heap.held p.name p.thing p.present).fields f p.within ∙ ap (datum_word h.places.at) (sym same) in
-    let fits : IsDatum (object_of s) v = subst (IsDatum (object_of s)) (sym same) (All-get_or (IsDatum (object_of s)) p.thing.fields f datum.Null p.within (h.stands.closed.fields p.name p.thing p.present).0) in
-    let q = pushes m c d s h t w v r fits word done in
-    let e = no_more (is_bad_slot s.graph t k) (not (is_reference (slot_of s.graph t k))) (is_bad_field s.graph t k f) refusal.BadSlot refusal.NotAReference refusal.BadField (cond (is_stack_full s.graph t) (Some refusal.StackFull) None) p.reached in
-    (q.0, (q.0, (thread_in m c s h t ht, subst (λ (o : Option Refusal). MatchOption o ((r ≡ reply.Ok) × (q.0.graph ≡ push s.graph t v)) (λ why. (r ≡ reply.Refused why) × (q.0.graph ≡ s.graph))) (sym e) q.1, q.2, tt), refl), q.3)
+load_turns m c d t k f a w r ht field is done = record {
+  turns = λ s h.
+      let p = field s h in
+      let values : fields_at s.graph (slot_of s.graph t k) ≡ p.thing.fields = ap (fields_at s.graph) p.refers ∙ object_fields s p.name p.thing p.present in
+      let v : Datum = get_or (fields_at s.graph (slot_of s.graph t k)) f datum.Null in
+      let same : v ≡ get_or p.thing.fields f datum.Null = ap (λ (vs : List Datum). get_or vs f datum.Null) values in
+      let word : w ≡ datum_word h.places.at v = is ∙ ap (λ x. get_or c.heap x 0) p.place ∙ (h.stands.heap.held p.name p.thing p.present).fields f p.within ∙ ap (datum_word h.places.at) (sym same) in
+      let fits : IsDatum (object_of s) v = subst (IsDatum (object_of s)) (sym same) (All-get_or (IsDatum (object_of s)) p.thing.fields f datum.Null p.within (h.stands.closed.fields p.name p.thing p.present).0) in
+      let q = pushes m c d s h t w v r fits word done in
+      let e = no_more (is_bad_slot s.graph t k) (not (is_reference (slot_of s.graph t k))) (is_bad_field s.graph t k f) refusal.BadSlot refusal.NotAReference refusal.BadField (cond (is_stack_full s.graph t) (Some refusal.StackFull) None) p.reached in
+      (q.0, (q.0, (thread_in m c s h t ht, subst (λ (o : Option Refusal). MatchOption o ((r ≡ reply.Ok) × (q.0.graph ≡ push s.graph t v)) (λ why. (r ≡ reply.Refused why) × (q.0.graph ≡ s.graph))) (sym e) q.1, q.2, tt), refl), q.3);
+  room = pushed_room c d t w r done;
+}
 
 same_both : (a : Bool) (x : Option Refusal) → cond a x x ≡ x
 same_both true x = refl
 same_both false x = refl
 
 pub store_refused_value : (m : Areas) (c : Contents) (t k f x : ℕ) → HasThread m t → length (stack_of c t) ≤ x → Turned m c c t (call.Store k f x) (reply.Refused refusal.BadSlot)
-store_refused_value m c t k f x ht le s h =
-    let e = same_both (is_bad_slot s.graph t k) (Some refusal.BadSlot) in
-    (s, (s, (thread_in m c s h t ht, rw (bad_slot m c s h t x le, e) (refl, refl), refl, tt), refl), h)
+store_refused_value m c t k f x ht le = record {
+  turns = λ s h.
+      let e = same_both (is_bad_slot s.graph t k) (Some refusal.BadSlot) in
+      (s, (s, (thread_in m c s h t ht, rw (bad_slot m c s h t x le, e) (refl, refl), refl, tt), refl), h);
+  room = same_room c;
+}
 
 pub store_refused : (m : Areas) (c : Contents) (t k f x : ℕ) (why : Refusal) → HasThread m t → x < length (stack_of c t) → ((s : SpaceState) → Stands m c s → no_field s.graph t k f ≡ Some why) → Turned m c c t (call.Store k f x) (reply.Refused why)
-store_refused m c t k f x why ht lt none s h = (s, (s, (thread_in m c s h t ht, rw (good_slot m c s h t x lt, none s h) (refl, refl), refl, tt), refl), h)
+store_refused m c t k f x why ht lt none = record {
+  turns = λ s h. (s, (s, (thread_in m c s h t ht, rw (good_slot m c s h t x lt, none s h) (refl, refl), refl, tt), refl), h);
+  room = same_room c;
+}
 
 pub store_turns : (m : Areas) (c d : Contents) (t k f x a w : ℕ) → HasThread m t → length c.heap ≡ heap_length m → x < length (stack_of c t) → ((s : SpaceState) (h : Stands m c s) → IsFieldOf s h.places.at t k f a) → w ≡ get_or (stack_of c t) x 0 → d ≡ with_heap c a w → Turned m c d t (call.Store k f x) reply.Ok
-store_turns m c d t k f x a w ht long lt field is new s h =
-    let p = field s h in
-    let v : Datum = slot_of s.graph t x in
-    let word : w ≡ datum_word h.places.at v = is ∙ slot-word m c s h t x in
-    let inside : h.places.at p.name + OBJECT_WORDS + f < length c.heap = omega (arith, long, p.place, field_within m c s h t k f a p) in
-    let after = stands_stored m c s h p.name p.thing f v p.present p.within (slot-fits m c s h t x) inside in
-    let there : d ≡ with_heap c (h.places.at p.name + OBJECT_WORDS + f) (datum_word h.places.at v) = new ∙ ap (λ i. with_heap c i w) p.place ∙ ap (with_heap c (h.places.at p.name + OBJECT_WORDS + f)) word in
-    let next : SpaceState = stored s p.name (set p.thing.fields f v) in
-    let put : next.graph ≡ put_field s.graph (slot_of s.graph t k) f v = ap (λ (vs : List Datum). with_object s.graph p.name (Fields (set vs f v))) (sym (object_fields s p.name p.thing p.present)) ∙ ap (λ (o : Datum). put_field s.graph o f v) (sym p.refers) in
-    (next, (next, (thread_in m c s h t ht, rw (good_slot m c s h t x lt, p.reached) (refl, put), refl, tt), refl), subst (λ y. Stands m y next) (sym there) after)
+store_turns m c d t k f x a w ht long lt field is new = record {
+  turns = λ s h.
+      let p = field s h in
+      let v : Datum = slot_of s.graph t x in
+      let word : w ≡ datum_word h.places.at v = is ∙ slot-word m c s h t x in
+      let inside : h.places.at p.name + OBJECT_WORDS + f < length c.heap = omega (arith, long, p.place, field_within m c s h t k f a p) in
+      let after = stands_stored m c s h p.name p.thing f v p.present p.within (slot-fits m c s h t x) inside in
+      let there : d ≡ with_heap c (h.places.at p.name + OBJECT_WORDS + f) (datum_word h.places.at v) = new ∙ ap (λ i. with_heap c i w) p.place ∙ ap (with_heap c (h.places.at p.name + OBJECT_WORDS + f)) word in
+      let next : SpaceState = stored s p.name (set p.thing.fields f v) in
+      let put : next.graph ≡ put_field s.graph (slot_of s.graph t k) f v = ap (λ (vs : List Datum). with_object s.graph p.name (Fields (set vs f v))) (sym (object_fields s p.name p.thing p.present)) ∙ ap (λ (o : Datum). put_field s.graph o f v) (sym p.refers) in
+      (next, (next, (thread_in m c s h t ht, rw (good_slot m c s h t x lt, p.reached) (refl, put), refl, tt), refl), subst (λ y. Stands m y next) (sym there) after);
+  room = heap_room_same c d a w new;
+}

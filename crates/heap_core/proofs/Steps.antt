@@ -13,7 +13,7 @@ use Rattle.object_layout.specs.declared.replies.Refusal.TheVariants as refusal
 use Rattle.heap_words.specs.declared.map.Areas.{Areas}
 use Rattle.heap_words.specs.declared.TheConstants.{STACK_SLOTS}
 use Rattle.heap_words.specs.Map.{HasThread, IsAreas, heap_length}
-use Rattle.heap_words.specs.Contents.{Contents, stack_of, with_stack}
+use Rattle.heap_words.specs.Contents.{Contents, stack_of, with_heap, with_stack}
 use Rattle.yak_model.specs.declared.datum.Datum.{Datum}
 use Rattle.yak_model.specs.declared.datum.Datum.TheVariants as datum
 use Rattle.yak_model.specs.Graph.{IsThread, drop_top, fields_at, first_refusal, is_bad_slot, is_stack_full, push, shown, slot_of}
@@ -24,6 +24,7 @@ use Rattle.yak_model.specs.Placed.{datum_word}
 use Rattle.yak_model.specs.Stands.{Stands}
 use Rattle.yak_model.proofs.Data.{Tells, counted, in_heap, is_integer, is_null, is_word, object_fields, refers, same-datum}
 use Rattle.yak_model.proofs.Stacks.{is_thread, restacked, slot-fits, slot-word, stack-fits, stack_length, stack_words, stands_restacked}
+use Rattle.heap_core.specs.Room.{SameRoom}
 use Rattle.heap_core.specs.Steps.{IsPushed, Turned}
 
 pub beyond : (n k : ℕ) → n ≤ k → leb n k ≡ true
@@ -40,6 +41,22 @@ bad_slot m c s h t k le = beyond (length (graph.stack_of s.graph t)) k (omega (a
 
 pub good_slot : (m : Areas) (c : Contents) (s : SpaceState) (h : Stands m c s) (t k : ℕ) → k < length (stack_of c t) → is_bad_slot s.graph t k ≡ false
 good_slot m c s h t k lt = within (length (graph.stack_of s.graph t)) k (omega (arith, stack_length m c s h t))
+
+-- the room of words that are the same but for stacks and the words of objects
+pub same_room : (c : Contents) → SameRoom c c
+same_room c = record { heads = refl; pool = refl; table = refl; currents = refl }
+
+pub stack_room_same : (c d : Contents) (t : ℕ) (ws : List ℕ) → d ≡ with_stack c t ws → SameRoom c d
+stack_room_same c d t ws e = subst (SameRoom c) (sym e) (record { heads = refl; pool = refl; table = refl; currents = refl })
+
+pub heap_room_same : (c d : Contents) (a w : ℕ) → d ≡ with_heap c a w → SameRoom c d
+heap_room_same c d a w e = subst (SameRoom c) (sym e) (record { heads = refl; pool = refl; table = refl; currents = refl })
+
+pub pushed_room : (c d : Contents) (t w : ℕ) (r : Reply) → IsPushed c d t w r → SameRoom c d
+pushed_room c d t w r done = ⊎_elim
+    (λ (p : (length (stack_of c t) < STACK_SLOTS) × (r ≡ reply.Ok) × (d ≡ with_stack c t (stack_of c t ++ w ∷ []))). stack_room_same c d t (stack_of c t ++ w ∷ []) p.2)
+    (λ (p : (length (stack_of c t) ≡ STACK_SLOTS) × (r ≡ reply.Refused refusal.StackFull) × (d ≡ c)). subst (SameRoom c) (sym p.2) (same_room c))
+    done
 
 -- what a push does, over a state
 abbrev pub Pushes : Areas → Contents → SpaceState → ℕ → Datum → Reply → Type 0
@@ -67,47 +84,71 @@ pushes m c d s h t w v r fits laid done =
     done
 
 pub int_turns : (m : Areas) (c d : Contents) (t i w : ℕ) (r : Reply) → HasThread m t → i ≤ MAX_INT → w ≡ 2 * i + 1 → IsPushed c d t w r → Turned m c d t (call.Int i) r
-int_turns m c d t i w r ht fits e done s h =
-    let p = pushes m c d s h t w (datum.Int i) r fits e done in
-    (p.0, (p.0, (thread_in m c s h t ht, p.1, p.2, fits), refl), p.3)
+int_turns m c d t i w r ht fits e done = record {
+  turns = λ s h.
+      let p = pushes m c d s h t w (datum.Int i) r fits e done in
+      (p.0, (p.0, (thread_in m c s h t ht, p.1, p.2, fits), refl), p.3);
+  room = pushed_room c d t w r done;
+}
 
 pub null_turns : (m : Areas) (c d : Contents) (t w : ℕ) (r : Reply) → HasThread m t → w ≡ 0 → IsPushed c d t w r → Turned m c d t call.Null r
-null_turns m c d t w r ht e done s h =
-    let p = pushes m c d s h t w datum.Null r tt e done in
-    (p.0, (p.0, (thread_in m c s h t ht, p.1, p.2, tt), refl), p.3)
+null_turns m c d t w r ht e done = record {
+  turns = λ s h.
+      let p = pushes m c d s h t w datum.Null r tt e done in
+      (p.0, (p.0, (thread_in m c s h t ht, p.1, p.2, tt), refl), p.3);
+  room = pushed_room c d t w r done;
+}
 
 pub dup_turns : (m : Areas) (c d : Contents) (t k w : ℕ) (r : Reply) → HasThread m t → k < length (stack_of c t) → w ≡ get_or (stack_of c t) k 0 → IsPushed c d t w r → Turned m c d t (call.Dup k) r
-dup_turns m c d t k w r ht lt e done s h =
-    let p = pushes m c d s h t w (slot_of s.graph t k) r (slot-fits m c s h t k) (e ∙ slot-word m c s h t k) done in
-    (p.0, (p.0, (thread_in m c s h t ht, rw (good_slot m c s h t k lt) p.1, p.2, tt), refl), p.3)
+dup_turns m c d t k w r ht lt e done = record {
+  turns = λ s h.
+      let p = pushes m c d s h t w (slot_of s.graph t k) r (slot-fits m c s h t k) (e ∙ slot-word m c s h t k) done in
+      (p.0, (p.0, (thread_in m c s h t ht, rw (good_slot m c s h t k lt) p.1, p.2, tt), refl), p.3);
+  room = pushed_room c d t w r done;
+}
 
 pub dup_refused : (m : Areas) (c : Contents) (t k : ℕ) → HasThread m t → length (stack_of c t) ≤ k → Turned m c c t (call.Dup k) (reply.Refused refusal.BadSlot)
-dup_refused m c t k ht le s h = (s, (s, (thread_in m c s h t ht, rw (bad_slot m c s h t k le) (refl, refl), refl, tt), refl), h)
+dup_refused m c t k ht le = record {
+  turns = λ s h. (s, (s, (thread_in m c s h t ht, rw (bad_slot m c s h t k le) (refl, refl), refl, tt), refl), h);
+  room = same_room c;
+}
 
 -- a slot that is dropped, and a stack that has none
 pub pop_turns : (m : Areas) (c d : Contents) (t : ℕ) → HasThread m t → 0 < length (stack_of c t) → length (stack_of c t) ≤ STACK_SLOTS → d ≡ with_stack c t (take (length (stack_of c t) - 1) (stack_of c t)) → Turned m c d t call.Pop reply.Ok
-pop_turns m c d t ht lt most e s h =
-    let words = stack_words m c s h t in
-    let size = stack_length m c s h t in
-    let st : List Datum = graph.stack_of s.graph t in
-    let n : ℕ = length st - 1 in
-    let test : leb (length st) 0 ≡ false = within (length st) 0 (omega (arith, size)) in
-    let same : take (length (stack_of c t) - 1) (stack_of c t) ≡ map (datum_word h.places.at) (take n st) = rw (size, words) (take-map (datum_word h.places.at) n st) in
-    let long : length (take (length (stack_of c t) - 1) (stack_of c t)) ≤ STACK_SLOTS = omega (arith, most, length-take (length (stack_of c t) - 1) (stack_of c t)) in
-    let after = stands_restacked m c s h t (take (length (stack_of c t) - 1) (stack_of c t)) (take n st) same (All-take (IsDatum (object_of s)) n st (stack-fits m c s h t)) long in
-    (restacked s t (take n st), (restacked s t (take n st), (thread_in m c s h t ht, rw test (refl, refl), refl, tt), refl), subst (λ x. Stands m x (restacked s t (take n st))) (sym e) after)
+pop_turns m c d t ht lt most e = record {
+  turns = λ s h.
+      let words = stack_words m c s h t in
+      let size = stack_length m c s h t in
+      let st : List Datum = graph.stack_of s.graph t in
+      let n : ℕ = length st - 1 in
+      let test : leb (length st) 0 ≡ false = within (length st) 0 (omega (arith, size)) in
+      let same : take (length (stack_of c t) - 1) (stack_of c t) ≡ map (datum_word h.places.at) (take n st) = rw (size, words) (take-map (datum_word h.places.at) n st) in
+      let long : length (take (length (stack_of c t) - 1) (stack_of c t)) ≤ STACK_SLOTS = omega (arith, most, length-take (length (stack_of c t) - 1) (stack_of c t)) in
+      let after = stands_restacked m c s h t (take (length (stack_of c t) - 1) (stack_of c t)) (take n st) same (All-take (IsDatum (object_of s)) n st (stack-fits m c s h t)) long in
+      (restacked s t (take n st), (restacked s t (take n st), (thread_in m c s h t ht, rw test (refl, refl), refl, tt), refl), subst (λ x. Stands m x (restacked s t (take n st))) (sym e) after);
+  room = stack_room_same c d t (take (length (stack_of c t) - 1) (stack_of c t)) e;
+}
 
 pub pop_refused : (m : Areas) (c : Contents) (t : ℕ) → HasThread m t → length (stack_of c t) ≡ 0 → Turned m c c t call.Pop (reply.Refused refusal.StackEmpty)
-pop_refused m c t ht e s h =
-    let test : leb (length (graph.stack_of s.graph t)) 0 ≡ true = beyond (length (graph.stack_of s.graph t)) 0 (omega (arith, e, stack_length m c s h t)) in
-    (s, (s, (thread_in m c s h t ht, rw test (refl, refl), refl, tt), refl), h)
+pop_refused m c t ht e = record {
+  turns = λ s h.
+      let test : leb (length (graph.stack_of s.graph t)) 0 ≡ true = beyond (length (graph.stack_of s.graph t)) 0 (omega (arith, e, stack_length m c s h t)) in
+      (s, (s, (thread_in m c s h t ht, rw test (refl, refl), refl, tt), refl), h);
+  room = same_room c;
+}
 
 -- what is shown of a slot
 pub got : (m : Areas) (c : Contents) (t k : ℕ) (r : Reply) → HasThread m t → k < length (stack_of c t) → ((s : SpaceState) → Stands m c s → r ≡ shown s.graph (slot_of s.graph t k)) → Turned m c c t (call.Get k) r
-got m c t k r ht lt is s h = (s, (s, (thread_in m c s h t ht, rw (good_slot m c s h t k lt) (is s h, refl), refl, tt), refl), h)
+got m c t k r ht lt is = record {
+  turns = λ s h. (s, (s, (thread_in m c s h t ht, rw (good_slot m c s h t k lt) (is s h, refl), refl, tt), refl), h);
+  room = same_room c;
+}
 
 pub get_refused : (m : Areas) (c : Contents) (t k : ℕ) → HasThread m t → length (stack_of c t) ≤ k → Turned m c c t (call.Get k) (reply.Refused refusal.BadSlot)
-get_refused m c t k ht le s h = (s, (s, (thread_in m c s h t ht, rw (bad_slot m c s h t k le) (refl, refl), refl, tt), refl), h)
+get_refused m c t k ht le = record {
+  turns = λ s h. (s, (s, (thread_in m c s h t ht, rw (bad_slot m c s h t k le) (refl, refl), refl, tt), refl), h);
+  room = same_room c;
+}
 
 pub shows_int : (m : Areas) (c : Contents) (t k i : ℕ) → 2 * i + 1 ≡ get_or (stack_of c t) k 0 → (s : SpaceState) → Stands m c s → reply.Int i ≡ shown s.graph (slot_of s.graph t k)
 shows_int m c t k i e s h = ap (shown s.graph) (sym (is_integer h.places.at (slot_of s.graph t k) i (sym (slot-word m c s h t k) ∙ sym e)))
@@ -134,17 +175,29 @@ shows_object m c t k a n areas e tells s h =
 
 -- two slots
 pub same_turns : (m : Areas) (c : Contents) (t k x : ℕ) → HasThread m t → k < length (stack_of c t) → x < length (stack_of c t) → get_or (stack_of c t) k 0 ≡ get_or (stack_of c t) x 0 → Turned m c c t (call.Same k x) reply.Yes
-same_turns m c t k x ht lk lx e s h =
-    let same : slot_of s.graph t k ≡ slot_of s.graph t x = same-datum m c (view s) h.places _ _ h.stands (slot-fits m c s h t k) (slot-fits m c s h t x) (sym (slot-word m c s h t k) ∙ e ∙ slot-word m c s h t x) in
-    (s, (s, (thread_in m c s h t ht, rw (good_slot m c s h t k lk, good_slot m c s h t x lx) (inl (refl, same), refl), refl, tt), refl), h)
+same_turns m c t k x ht lk lx e = record {
+  turns = λ s h.
+      let same : slot_of s.graph t k ≡ slot_of s.graph t x = same-datum m c (view s) h.places _ _ h.stands (slot-fits m c s h t k) (slot-fits m c s h t x) (sym (slot-word m c s h t k) ∙ e ∙ slot-word m c s h t x) in
+      (s, (s, (thread_in m c s h t ht, rw (good_slot m c s h t k lk, good_slot m c s h t x lx) (inl (refl, same), refl), refl, tt), refl), h);
+  room = same_room c;
+}
 
 pub differ_turns : (m : Areas) (c : Contents) (t k x : ℕ) → HasThread m t → k < length (stack_of c t) → x < length (stack_of c t) → get_or (stack_of c t) k 0 ≢ get_or (stack_of c t) x 0 → Turned m c c t (call.Same k x) reply.No
-differ_turns m c t k x ht lk lx ne s h =
-    let differ : slot_of s.graph t k ≢ slot_of s.graph t x = λ q. ne (slot-word m c s h t k ∙ ap (datum_word h.places.at) q ∙ sym (slot-word m c s h t x)) in
-    (s, (s, (thread_in m c s h t ht, rw (good_slot m c s h t k lk, good_slot m c s h t x lx) (inr (refl, differ), refl), refl, tt), refl), h)
+differ_turns m c t k x ht lk lx ne = record {
+  turns = λ s h.
+      let differ : slot_of s.graph t k ≢ slot_of s.graph t x = λ q. ne (slot-word m c s h t k ∙ ap (datum_word h.places.at) q ∙ sym (slot-word m c s h t x)) in
+      (s, (s, (thread_in m c s h t ht, rw (good_slot m c s h t k lk, good_slot m c s h t x lx) (inr (refl, differ), refl), refl, tt), refl), h);
+  room = same_room c;
+}
 
 pub same_refused : (m : Areas) (c : Contents) (t k x : ℕ) → HasThread m t → length (stack_of c t) ≤ k → Turned m c c t (call.Same k x) (reply.Refused refusal.BadSlot)
-same_refused m c t k x ht le s h = (s, (s, (thread_in m c s h t ht, rw (bad_slot m c s h t k le) (refl, refl), refl, tt), refl), h)
+same_refused m c t k x ht le = record {
+  turns = λ s h. (s, (s, (thread_in m c s h t ht, rw (bad_slot m c s h t k le) (refl, refl), refl, tt), refl), h);
+  room = same_room c;
+}
 
 pub same_refused_too : (m : Areas) (c : Contents) (t k x : ℕ) → HasThread m t → k < length (stack_of c t) → length (stack_of c t) ≤ x → Turned m c c t (call.Same k x) (reply.Refused refusal.BadSlot)
-same_refused_too m c t k x ht lt le s h = (s, (s, (thread_in m c s h t ht, rw (good_slot m c s h t k lt, bad_slot m c s h t x le) (refl, refl), refl, tt), refl), h)
+same_refused_too m c t k x ht lt le = record {
+  turns = λ s h. (s, (s, (thread_in m c s h t ht, rw (good_slot m c s h t k lt, bad_slot m c s h t x le) (refl, refl), refl, tt), refl), h);
+  room = same_room c;
+}

@@ -1,3 +1,5 @@
 pub mod Steps
 pub mod Fields
+pub mod Objects
+pub mod Room
 pub mod Opening

@@ -4,7 +4,8 @@ use Rattle.object_layout.specs.Layout.{header_word}
 use Rattle.heap_words.specs.declared.map.Areas.{Areas}
 use Rattle.heap_words.specs.Cells.{row_set}
 use Rattle.heap_words.specs.Contents.{Contents, zero_contents}
-use Rattle.heap_core.specs.declared.TheConstants.{ROOT_FIELDS, ROOT_WORDS, POOL_LENGTH}
+use Rattle.region_pages.specs.declared.TheConstants.{POOL_LENGTH, SPACE_WORD, USED_MARK}
+use Rattle.heap_core.specs.declared.TheConstants.{ROOT_FIELDS, ROOT_WORDS}
 
 -- What the opening words hold: the root at the front of page 0, to which each stack refers, and the pool of the other pages.
 abbrev pub opened : Areas → List ℕ → Contents
@@ -13,7 +14,7 @@ opened m pool =
       heads = slice_set (zero_contents m).heads POOL_LENGTH (m.pages - 1);
       stacks = replicate m.threads (2 ∷ []);
       currents = row_set (zero_contents m).currents 0 0 1;
-      table = row_set (row_set (zero_contents m).table 0 0 1) 0 1 ROOT_WORDS;
+      table = row_set (row_set (zero_contents m).table 0 SPACE_WORD 1) 0 USED_MARK ROOT_WORDS;
       pool = pool;
       heap = slice_set (zero_contents m).heap 0 (header_word (record { fields = ROOT_FIELDS; space = 0 }));
     }

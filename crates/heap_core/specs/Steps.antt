@@ -12,6 +12,7 @@ use Rattle.yak_model.specs.History.{Entry, Said, Collected}
 use Rattle.yak_model.specs.Spaces.{SpaceState, TurnsAll}
 use Rattle.yak_model.specs.Stands.{Stands}
 use Rattle.heap_core.specs.declared.owned.Stepped.{Stepped}
+use Rattle.heap_core.specs.Room.{TakesRoom}
 
 -- The calls that the heap answers.
 abbrev pub IsBuilt : Call → Type 0
@@ -19,7 +20,7 @@ IsBuilt (Int i) = Unit {0}
 IsBuilt Null = Unit {0}
 IsBuilt (Dup s) = Unit {0}
 IsBuilt Pop = Unit {0}
-IsBuilt (New k) = ⊥
+IsBuilt (New k) = Unit {0}
 IsBuilt (Load s f) = Unit {0}
 IsBuilt (Store s f x) = Unit {0}
 IsBuilt (Get s) = Unit {0}
@@ -33,9 +34,11 @@ IsBuilt Census = ⊥
 abbrev pub entries : ℕ → Call → Stepped → List Entry
 entries thread call stepped = cond stepped.collected (Collected thread ∷ Said thread call stepped.reply ∷ []) (Said thread call stepped.reply ∷ [])
 
--- Each state that the words stood for turns, by a call with its reply, to one that they stand for now.
-abbrev pub Turned : Areas → Contents → Contents → ℕ → Call → Reply → Type 0
-Turned m was now thread call reply = (s : SpaceState) → Stands m was s → (after : SpaceState) × TurnsAll s (Said thread call reply ∷ []) after × Stands m now after
+-- Each state that the words stood for turns, by a call with its reply, to one that they stand for now, and the call takes
+-- the room that it has to.
+pub record Turned (m : Areas) (was now : Contents) (thread : ℕ) (asked : Call) (said : Reply) : Type 0 where
+  pub turns : (s : SpaceState) → Stands m was s → (after : SpaceState) × TurnsAll s (Said thread asked said ∷ []) after × Stands m now after
+  pub room : TakesRoom m was now thread asked said
 
 -- A word was put on a thread's stack, or the stack was full and nothing has changed.
 abbrev pub IsPushed : Contents → Contents → ℕ → ℕ → Reply → Type 0

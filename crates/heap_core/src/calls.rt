@@ -9,6 +9,7 @@ ghost use Rattle.yak_model.specs.Stands.{Stands};
 ghost use Rattle.heap_core.specs.Steps.{IsBuilt, Turned};
 
 use crate::fields::{load, store};
+use crate::objects::new_object;
 use crate::slots::{dup, get, int, null, pop_slot, same};
 use heap_words::{Areas, Words};
 use object_layout::{Call, Reply};
@@ -22,11 +23,12 @@ pub fn is_built(call: Call) -> bool
         | Call::Null
         | Call::Dup(_)
         | Call::Pop
+        | Call::New(_)
         | Call::Load(_, _)
         | Call::Store(_, _, _)
         | Call::Get(_)
         | Call::Same(_, _) => true,
-        Call::New(_) | Call::Begin | Call::End | Call::Collect | Call::Census => false,
+        Call::Begin | Call::End | Call::Collect | Call::Census => false,
     }
 }
 
@@ -46,10 +48,11 @@ pub fn answer<W: Words>(words: &mut W, map: Areas, thread: u8, call: Call) -> Re
         Call::Null => null(words, map, thread),
         Call::Dup(s) => dup(words, map, thread, s),
         Call::Pop => pop_slot(words, map, thread),
+        Call::New(k) => new_object(words, map, thread, k),
         Call::Load(s, f) => load(words, map, thread, s, f),
         Call::Store(s, f, x) => store(words, map, thread, s, f, x),
         Call::Get(s) => get(words, map, thread, s),
         Call::Same(s, x) => same(words, map, thread, s, x),
-        Call::New(_) | Call::Begin | Call::End | Call::Collect | Call::Census => unreachable!(),
+        Call::Begin | Call::End | Call::Collect | Call::Census => unreachable!(),
     }
 }

@@ -4,6 +4,7 @@
 mod calls;
 mod fields;
 mod made;
+mod objects;
 mod owned;
 mod slots;
 
@@ -14,8 +15,6 @@ pub use owned::{Core, Stepped};
 pub const ROOT_FIELDS: u16 = 16;
 /// The words of the root object.
 pub const ROOT_WORDS: u64 = 19;
-/// Which of the first words has the pool's length.
-pub const POOL_LENGTH: usize = 2;
 
 #[cfg(test)]
 mod tests {
@@ -27,10 +26,7 @@ mod tests {
     fn a_new_heap_answers(rt: HostRuntime) -> Result<(), Fail> {
         let mut core = match Core::new(rt.alloc(), 4, 1) {
             Ok(core) => core,
-            Err(error) => {
-                println!(rt; "{error}")?;
-                return Ok(());
-            }
+            Err(error) => panic!(rt; "no heap: {error}"),
         };
         assert_eq!(rt; core.step(1, Call::Int(7)).reply, Reply::Ok);
         assert_eq!(rt; core.step(1, Call::Store(0, 15, 1)).reply, Reply::Ok);
@@ -42,6 +38,24 @@ mod tests {
         assert_eq!(rt;
             core.step(1, Call::Dup(2)).reply,
             Reply::Refused(Refusal::BadSlot)
+        );
+        Ok(())
+    }
+
+    #[test]
+    fn two_threads_fill_the_heap(rt: HostRuntime) -> Result<(), Fail> {
+        let mut core = match Core::new(rt.alloc(), 2, 2) {
+            Ok(core) => core,
+            Err(error) => panic!(rt; "no heap: {error}"),
+        };
+        assert_eq!(rt; core.step(2, Call::New(0)).reply, Reply::Ok);
+        assert_eq!(rt; core.step(1, Call::New(234)).reply, Reply::Ok);
+        assert_eq!(rt; core.step(1, Call::New(0)).reply, Reply::OutOfHeap);
+        assert_eq!(rt; core.step(2, Call::Dup(1)).reply, Reply::Ok);
+        assert_eq!(rt; core.step(2, Call::Same(1, 2)).reply, Reply::Yes);
+        assert_eq!(rt;
+            core.step(2, Call::Store(1, 0, 0)).reply,
+            Reply::Refused(Refusal::BadField)
         );
         Ok(())
     }

@@ -8,9 +8,10 @@ ghost use Rattle.yak_model.specs.Spaces.{opening_spaces};
 ghost use Rattle.yak_model.specs.Stands.{Stands};
 ghost use Rattle.heap_core.specs.Opening.{Counts};
 
-use crate::{POOL_LENGTH, ROOT_FIELDS, ROOT_WORDS};
+use crate::{ROOT_FIELDS, ROOT_WORDS};
 use heap_words::{Areas, Words, set_current, set_head, set_heap, set_page, set_pool};
 use object_layout::{Addr, Header, Value, encode_header, encode_value};
+use region_pages::{POOL_LENGTH, SPACE_WORD, USED_MARK};
 use thread_stacks::push;
 
 /// Puts the pages from 1 on into the pool.
@@ -49,8 +50,8 @@ pub fn open_words<W: Words>(words: &mut W, map: Areas)
     ensures base { W.base words.new ≡ W.base words.old }
 {
     set_head(words, map, POOL_LENGTH, map.pages as u64 - 1);
-    set_page(words, map, 0, 0, 1);
-    set_page(words, map, 0, 1, ROOT_WORDS);
+    set_page(words, map, 0, SPACE_WORD, 1);
+    set_page(words, map, 0, USED_MARK, ROOT_WORDS);
     set_current(words, map, 1, 0, 1);
     let header = encode_header(Header {
         fields: ROOT_FIELDS,

@@ -7,6 +7,7 @@ ghost use Rattle.heap_words.specs.Contents.{contents, Sound};
 ghost use Rattle.yak_model.specs.Graph.{standard_limits};
 ghost use Rattle.yak_model.specs.Spaces.{SpaceState, TurnsAll, opening_spaces};
 ghost use Rattle.yak_model.specs.Stands.{Stands};
+ghost use Rattle.heap_core.specs.Room.{TakesRoom};
 ghost use Rattle.heap_core.specs.Steps.{IsBuilt, entries};
 
 use crate::calls::answer;
@@ -68,6 +69,7 @@ impl<W: Words> Core<W> {
         requires number { IsCall call }
         requires built { IsBuilt call }
         ensures turns { (s : SpaceState) → Stands self.old.map (contents self.old.map (W.words self.old.words)) s → (after : SpaceState) × TurnsAll s (entries thread call result) after × Stands self.new.map (contents self.new.map (W.words self.new.words)) after }
+        ensures room { TakesRoom self.old.map (contents self.old.map (W.words self.old.words)) (contents self.new.map (W.words self.new.words)) thread call result.reply }
         ensures collected { result.collected ≡ false }
         ensures full { result.full ≡ None }
         ensures shortage { result.shortage ≡ None }

@@ -5,3 +5,5 @@ pub mod Placing
 pub mod Counting
 pub mod Freed
 pub mod Released
+pub mod Standing
+pub mod Dense

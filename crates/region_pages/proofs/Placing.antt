@@ -15,7 +15,7 @@ use Rattle.yak_model.specs.Placed.{space_word, used_mark}
 use Rattle.yak_model.specs.Stands.{free_pages, PoolStands, current, CurrentsStand}
 use Rattle.yak_model.specs.Packed.{IsSpaceOf}
 use Rattle.region_pages.specs.Pages.{TableFits, with_claimed}
-use Rattle.region_pages.specs.Placement.{IsOwn, depth_in, words_left_at, with_used, IsPlacedInCurrent, IsWithinPage}
+use Rattle.region_pages.specs.Placement.{IsOwn, depth_in, words_left_at, with_used, IsPlacedInCurrent, IsLastInPage}
 use Rattle.region_pages.proofs.Shapes.{Shape}
 use Rattle.region_pages.proofs.Entries.{entry-same, space-with_used, used-with_used, used-with_used_other, current-cases}
 use Rattle.region_pages.proofs.Claims.{entry}
@@ -120,17 +120,33 @@ enough_left m c t d size page e fits =
     let used = ap (λ (q : ℕ). used_mark c.table q) at in
     grind (arith, nat_tests)
 
--- words behind the used ones of a page lie within it
-within_page : (w p u n : ℕ) → u + n ≤ w → w * p + u + n ≤ w * (p + 1)
-within_page w p u n h = grind arith
+-- the words that were taken are the last ones in use
+pub is_last : (m : Areas) (table : List (List ℕ)) (x : Space) (p u n : ℕ) → length table ≡ m.pages → p < m.pages → length (row table p) ≡ 2 → space_word table p ≡ space_index x + 1 → u + n ≤ page_words m → IsLastInPage m (row_set table p 1 (u + n)) x (page_words m * p + u) n
+is_last m table x p u n rows lt long entered fits =
+    let within : p < length table = omega arith in
+    let mark = used-with_used table p (u + n) within long in
+    record {
+      page = p;
+      exists = lt;
+      entered = space-with_used table p p (u + n) ∙ entered;
+      from = omega arith;
+      ends = omega (arith, mark);
+      fits = omega (arith, mark);
+    }
 
-pub is_within : (m : Areas) (p u n : ℕ) → p < m.pages → u + n ≤ page_words m → IsWithinPage m (page_words m * p + u) n
-is_within m p u n lt h = record {
-  page = p;
-  exists = lt;
-  from = omega arith;
-  to = within_page (page_words m) p u n h;
-}
+-- the same of a page of which nothing was in use
+pub is_last_front : (m : Areas) (table : List (List ℕ)) (x : Space) (p n : ℕ) → length table ≡ m.pages → p < m.pages → length (row table p) ≡ 2 → space_word table p ≡ space_index x + 1 → n ≤ page_words m → IsLastInPage m (row_set table p 1 n) x (page_words m * p) n
+is_last_front m table x p n rows lt long entered fits =
+    let within : p < length table = omega arith in
+    let mark = used-with_used table p n within long in
+    record {
+      page = p;
+      exists = lt;
+      entered = space-with_used table p p n ∙ entered;
+      from = omega arith;
+      ends = omega (arith, mark);
+      fits = omega (arith, mark);
+    }
 
 pub is_placed : (m : Areas) (c after : Contents) (t d size page used : ℕ) → current c.currents t d ≡ page + 1 → used ≡ used_mark c.table page → used + size ≤ page_words m → after ≡ with_used c page (used + size) → IsPlacedInCurrent m c t d size (page_words m * page + used) after
 is_placed m c after t d size page used e hu fits changed =
@@ -141,6 +157,12 @@ is_placed m c after t d size page used e hu fits changed =
       address = ap (λ (q : ℕ). page_words m * q + used) at ∙ ap (λ (u : ℕ). page_words m * (current c.currents t d - 1) + u) mark;
       changed = changed ∙ ap (λ (q : ℕ). with_used c q (used + size)) at ∙ ap (λ (u : ℕ). with_used c (current c.currents t d - 1) (u + size)) mark;
     }
+
+-- the word of a claimed page's space
+pub claimed_word : (m : Areas) (c claimed : Contents) (x : Space) (page : ℕ) → Shape m c → page < m.pages → claimed ≡ with_claimed c x page → space_word claimed.table page ≡ space_index x + 1
+claimed_word m c claimed x page s lt is =
+    let within : page < length c.table = omega (arith, s.table) in
+    ap (λ (y : Contents). space_word y.table page) is ∙ ap (λ (r : List ℕ). get_or r 0 0) (entry-same c.table page (entry x) within)
 
 -- the current pages after an object is placed on a claimed page
 pub currents-placed : (m : Areas) (c claimed : Contents) (x : Space) (t page u : ℕ) → Shape m c → Shape m claimed → HasThread m t → IsSpaceOf m x → IsOwn t x → page < m.pages → space_word c.table page ≡ 0 → CurrentsStand m c.currents c.table → CurrentsStand m claimed.currents claimed.table → claimed ≡ with_claimed c x page → CurrentsStand m (row_set claimed.currents (t - 1) (depth_in x) (page + 1)) (row_set claimed.table page 1 u)

@@ -57,11 +57,11 @@ table-freed m word table rows fits = record {
 }
 
 -- a thread has one region at a depth
-inner_region : (u e t d : ℕ) → inner_of u e ≡ Region t d → (u ≡ t) × (e ≡ d)
+pub inner_region : (u e t d : ℕ) → inner_of u e ≡ Region t d → (u ≡ t) × (e ≡ d)
 inner_region u zero t d h = absurd (cc)
 inner_region u (suc e) t d h = ((cc), (cc))
 
-inner_valid : (m : Areas) (u e : ℕ) → IsAreas m → HasThread m u → e ≤ max_depth m → IsValid MAX_DEPTH (inner_of u e)
+pub inner_valid : (m : Areas) (u e : ℕ) → IsAreas m → HasThread m u → e ≤ max_depth m → IsValid MAX_DEPTH (inner_of u e)
 inner_valid m u zero areas hu he = tt
 inner_valid m u (suc e) areas hu he = (hu.0, omega (arith, areas.3, hu.1), omega arith, omega arith)
 

@@ -1,11 +1,12 @@
 -- Where an object is placed.
-use Rattle.std.specs.Prelude.{◌≡◌, ℕ, ◌+◌, ◌-◌, ◌*◌, ◌≤◌, ◌<◌, ◌⊎◌, ◌==◌, cond, ◌∷◌}
+use Rattle.std.specs.Prelude.{◌≡◌, ℕ, ◌+◌, ◌-◌, ◌*◌, ◌≤◌, ◌<◌, ◌⊎◌, ◌==◌, cond, List, ◌∷◌}
 use Rattle.heap_words.specs.declared.map.Areas.{Areas}
 use Rattle.heap_words.specs.Map.{page_words}
 use Rattle.heap_words.specs.Contents.{Contents, with_page, with_current}
 use Rattle.epoch_lattice.specs.declared.Space.{Space}
 use Rattle.epoch_lattice.specs.declared.Space.TheVariants.{Control, Region}
-use Rattle.yak_model.specs.Placed.{used_mark}
+use Rattle.epoch_lattice.specs.Lattice.{space_index}
+use Rattle.yak_model.specs.Placed.{space_word, used_mark}
 use Rattle.yak_model.specs.Stands.{free_pages, current}
 use Rattle.region_pages.specs.Pages.{with_claimed}
 use Rattle.region_pages.specs.declared.TheConstants.{USED_MARK}
@@ -46,9 +47,11 @@ abbrev pub IsPlaced : Areas → Contents → ℕ → Space → ℕ → ℕ → C
 IsPlaced m c t x size a after =
     IsPlacedInCurrent m c t (depth_in x) size a after ⊎ ((words_left_at m c t (depth_in x) < size) × IsPlacedOnClaimed m c t x size a after)
 
--- Words from an address on lie within one page of the heap.
-pub record IsWithinPage (m : Areas) (a size : ℕ) : Type 0 where
+-- The words from an address on are the last ones in use in a page of a space, as the page table has it.
+pub record IsLastInPage (m : Areas) (table : List (List ℕ)) (x : Space) (a size : ℕ) : Type 0 where
   pub page : ℕ
   pub exists : page < m.pages
+  pub entered : space_word table page ≡ space_index x + 1
   pub from : page_words m * page ≤ a
-  pub to : a + size ≤ page_words m * (page + 1)
+  pub ends : a + size ≡ page_words m * page + used_mark table page
+  pub fits : used_mark table page ≤ page_words m

@@ -44,10 +44,11 @@ pub fn census<W: Words>(words: &mut W, map: Areas) -> Census
     ensures base { W.base words.new ≡ W.base words.old }
 {
     let free = free_count(words, map);
+    let owned = map.pages - free;
     let control = pages_of(words, map, Space::Control);
     Census {
         free,
-        region: map.pages - free - control,
+        region: owned - control,
         control,
     }
 }

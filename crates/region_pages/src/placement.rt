@@ -1,12 +1,14 @@
 //! Where objects are placed.
 
 ghost use Rattle.std.specs.Prelude.{◌≡◌, ◌≤◌, ◌<◌, ◌+◌, ◌*◌, ℕ, IfOk, IfErr, MatchOption, [], ◌∷◌};
+ghost use Rattle.object_layout.specs.declared.TheConstants.{OBJECT_WORDS};
+ghost use Rattle.epoch_lattice.specs.Lattice.{inner_of};
 ghost use Rattle.heap_words.specs.Map.{HasPage, HasThread, max_depth, page_words};
 ghost use Rattle.heap_words.specs.Contents.{contents, Sound};
 ghost use Rattle.yak_model.specs.Stands.{CurrentsStand, PoolStands, current, free_pages};
 ghost use Rattle.yak_model.specs.Packed.{IsSpaceOf};
 ghost use Rattle.region_pages.specs.Pages.{TableFits};
-ghost use Rattle.region_pages.specs.Placement.{IsOwn, IsPlaced, IsPlacedInCurrent, IsPlacedOnClaimed, IsWithinPage, depth_in, words_left_at};
+ghost use Rattle.region_pages.specs.Placement.{IsOwn, IsPlaced, IsPlacedInCurrent, IsPlacedOnClaimed, IsLastInPage, depth_in, words_left_at};
 
 use crate::{USED_MARK, claim_page};
 use epoch_lattice::Space;
@@ -30,12 +32,12 @@ pub fn place<W: Words>(
     requires thread { HasThread map thread }
     requires space { IsSpaceOf map space }
     requires own { IsOwn thread space }
-    requires least { 3 ≤ size }
+    requires least { OBJECT_WORDS ≤ size }
     requires most { size ≤ page_words map }
     requires table { TableFits map (contents map (W.words words.old)).table }
     requires pool { let c = contents map (W.words words.old) in PoolStands map c.heads c.pool c.table }
     requires currents { let c = contents map (W.words words.old) in CurrentsStand map c.currents c.table }
-    ensures placed { IfOk result (λ a. IsPlaced map (contents map (W.words words.old)) thread space size a.0 (contents map (W.words words.new)) × IsWithinPage map a.0 size) }
+    ensures placed { IfOk result (λ a. IsPlaced map (contents map (W.words words.old)) thread space size a.0 (contents map (W.words words.new)) × IsLastInPage map (contents map (W.words words.new)).table space a.0 size) }
     ensures none { let c = contents map (W.words words.old) in IfErr result (λ _. (words_left_at map c thread (depth_in space) < size) × (free_pages c.heads c.pool ≡ []) × (W.words words.new ≡ W.words words.old)) }
     ensures sound { Sound map (W.words words.new) }
     ensures table { TableFits map (contents map (W.words words.new)).table }
@@ -90,11 +92,11 @@ fn place_in_current<W: Words>(
     requires sound { Sound map (W.words words.old) }
     requires thread { HasThread map thread }
     requires depth { depth ≤ max_depth map }
-    requires least { 3 ≤ size }
+    requires least { OBJECT_WORDS ≤ size }
     requires table { TableFits map (contents map (W.words words.old)).table }
     requires pool { let c = contents map (W.words words.old) in PoolStands map c.heads c.pool c.table }
     requires currents { let c = contents map (W.words words.old) in CurrentsStand map c.currents c.table }
-    ensures placed { let c = contents map (W.words words.old) in MatchOption result ((words_left_at map c thread depth < size) × (W.words words.new ≡ W.words words.old)) (λ a. IsPlacedInCurrent map c thread depth size a.0 (contents map (W.words words.new)) × IsWithinPage map a.0 size) }
+    ensures placed { let c = contents map (W.words words.old) in MatchOption result ((words_left_at map c thread depth < size) × (W.words words.new ≡ W.words words.old)) (λ a. IsPlacedInCurrent map c thread depth size a.0 (contents map (W.words words.new)) × IsLastInPage map (contents map (W.words words.new)).table (inner_of thread depth) a.0 size) }
     ensures sound { Sound map (W.words words.new) }
     ensures table { TableFits map (contents map (W.words words.new)).table }
     ensures pool { let c = contents map (W.words words.new) in PoolStands map c.heads c.pool c.table }
@@ -128,7 +130,7 @@ fn place_on_claimed<W: Words>(
     requires table { TableFits map (contents map (W.words words.old)).table }
     requires pool { let c = contents map (W.words words.old) in PoolStands map c.heads c.pool c.table }
     requires currents { let c = contents map (W.words words.old) in CurrentsStand map c.currents c.table }
-    ensures placed { IfOk result (λ a. IsPlacedOnClaimed map (contents map (W.words words.old)) thread space size a.0 (contents map (W.words words.new)) × IsWithinPage map a.0 size) }
+    ensures placed { IfOk result (λ a. IsPlacedOnClaimed map (contents map (W.words words.old)) thread space size a.0 (contents map (W.words words.new)) × IsLastInPage map (contents map (W.words words.new)).table space a.0 size) }
     ensures none { let c = contents map (W.words words.old) in IfErr result (λ _. (free_pages c.heads c.pool ≡ []) × (W.words words.new ≡ W.words words.old)) }
     ensures sound { Sound map (W.words words.new) }
     ensures table { TableFits map (contents map (W.words words.new)).table }

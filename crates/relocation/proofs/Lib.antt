@@ -4,3 +4,11 @@ pub mod Moving
 pub mod Lawful
 pub mod Corrected
 pub mod Planned
+pub mod SlidObjects
+pub mod SlidPages
+pub mod Slid
+pub mod FieldSteps
+pub mod SlidLawful
+pub mod SlidLaid
+pub mod Slidden
+pub mod Settled

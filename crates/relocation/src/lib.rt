@@ -6,11 +6,17 @@
 #![tactic(auto)]
 
 mod corrections;
+mod fields;
 mod moves;
+mod pages;
 mod plans;
+mod slides;
 #[cfg(test)]
 mod tests;
 
 pub use corrections::correct;
+pub use fields::{correct_field, correct_fields, correct_moves};
 pub use moves::move_all;
+pub use pages::page_start;
 pub use plans::{MOVE_WORDS, Move, Plan, add_move, empty_plan, read_move};
+pub use slides::{Cursor, object_size, plan_pages};

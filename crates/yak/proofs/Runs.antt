@@ -1,5 +1,5 @@
 -- Runs that grow by a line.
-use Rattle.std.proofs.Common.{◌≡◌, ℕ, List, [], ◌∷◌, ◌++◌, Bool, true, false, cond, filter, map, refl, sym, ap, subst, ◌∙◌, append_assoc}
+use Rattle.std.proofs.Common.{◌≡◌, ℕ, List, [], ◌∷◌, ◌++◌, true, false, map, refl, sym, ap, subst, ◌∙◌, append_assoc}
 use Rattle.std.proofs.lemmas.List.{map_push, append-nil}
 use Rattle.std.proofs.lemmas.List.Elements.{filter-append}
 use Rattle.std.specs.Prelude.{Result, Ok, Err, OnOk}
@@ -14,10 +14,10 @@ use Rattle.script_text.specs.declared.scripts.Line.{Line}
 use Rattle.script_text.specs.Contents.{Heap}
 use Rattle.script_text.specs.Replies.{reply_line}
 use Rattle.yak_model.specs.Agreement.{MachinesAgree}
-use Rattle.yak_model.specs.Graph.{standard_limits, opening}
+use Rattle.yak_model.specs.Graph.{standard_limits}
 use Rattle.yak_model.specs.History.{Entry, Said}
 use Rattle.yak_model.specs.Spaces.{SpaceState, TurnsAll, spaces, opening_spaces}
-use Rattle.yak.specs.Replays.{Answered, Adds, Held, IsRun, calls_of, entry_of, held_of, is_call, lines_of, replies_text}
+use Rattle.yak.specs.Replays.{Answered, Adds, Held, IsRun, calls_of, entry_of, held_of, is_call, replies_text}
 
 -- the calls of a step's entries
 pub calls_of_step : (thread : ℕ) (call : Call) (stepped : Stepped) → calls_of (entries thread call stepped) ≡ Said thread call stepped.reply ∷ []

@@ -1,11 +1,10 @@
 -- Commands that are built, and the first that isn't. Once all calls are built, this file goes.
-use Rattle.std.proofs.Common.{◌≡◌, ◌≤◌, ◌+◌, ◌⊎◌, ℕ, List, [], ◌∷◌, Bool, true, Option, Some, None, refl, sym, ap, subst, ◌∙◌, if◌then◌else◌, inl, inr, arith}
+use Rattle.std.proofs.Common.{◌≡◌, ◌+◌, ◌⊎◌, ℕ, List, [], ◌∷◌, Option, Some, None, refl, sym, subst, ◌∙◌, if◌then◌else◌, inl, inr}
 use Rattle.std.specs.Prelude.{All, MatchOption, codes, decimal}
 use Rattle.std.specs.Str.{bytes_eq}
 use Rattle.std.proofs.lemmas.List.Elements.{All-nil, All-cons, All-head, All-tail}
 use Rattle.object_layout.specs.declared.calls.Call.{Call}
 use Rattle.object_layout.specs.declared.calls.Call.TheVariants.{Int, Null, Dup, Pop, New, Load, Store, Get, Same, Begin, End, Collect, Census}
-use Rattle.object_layout.specs.Calls.{IsCall}
 use Rattle.heap_core.specs.Steps.{IsBuilt}
 use Rattle.script_text.specs.declared.faults.Bad.{Bad}
 use Rattle.script_text.specs.declared.faults.Reason.TheVariants.{BadCommand}
@@ -58,20 +57,21 @@ shape_built Census = (λ h. h, λ h. h)
 built_alike : (a b : Call) → word_of a ≡ word_of b → IsBuilt a → IsBuilt b
 built_alike a b same built = (shape_built b).0 (subst (λ (w : List ℕ). IsBuilt (shape_of w)) same ((shape_built a).1 built))
 
+-- a call is built or not; the search finds which, so that a call that is built later changes nothing here
 built_or_not : (call : Call) → IsBuilt call ⊎ (IsBuilt call → ⊥)
-built_or_not (Int i) = inl tt
-built_or_not Null = inl tt
-built_or_not (Dup s) = inl tt
-built_or_not Pop = inl tt
-built_or_not (New k) = inr (λ h. h)
-built_or_not (Load s f) = inl tt
-built_or_not (Store s f x) = inl tt
-built_or_not (Get s) = inl tt
-built_or_not (Same s x) = inl tt
-built_or_not Begin = inr (λ h. h)
-built_or_not End = inr (λ h. h)
-built_or_not Collect = inr (λ h. h)
-built_or_not Census = inr (λ h. h)
+built_or_not (Int i) = search (inl, inr)
+built_or_not Null = search (inl, inr)
+built_or_not (Dup s) = search (inl, inr)
+built_or_not Pop = search (inl, inr)
+built_or_not (New k) = search (inl, inr)
+built_or_not (Load s f) = search (inl, inr)
+built_or_not (Store s f x) = search (inl, inr)
+built_or_not (Get s) = search (inl, inr)
+built_or_not (Same s x) = search (inl, inr)
+built_or_not Begin = search (inl, inr)
+built_or_not End = search (inl, inr)
+built_or_not Collect = search (inl, inr)
+built_or_not Census = search (inl, inr)
 
 -- ---- one line
 

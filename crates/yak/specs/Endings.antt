@@ -1,5 +1,5 @@
 -- How a run of the program ends: its status, what the status says of the words and of the input, and what is written.
-use Rattle.std.specs.Prelude.{◌≡◌, ◌<◌, ◌≤◌, ◌⊎◌, ℕ, List, [], ◌∷◌, ◌++◌, length, codes, Option, Some, None, IfSome}
+use Rattle.std.specs.Prelude.{◌≡◌, ◌<◌, ◌≤◌, ℕ, List, [], ◌∷◌, ◌++◌, length, codes, Option, Some, None, IfSome}
 use Rattle.std.specs.Io.KnownBytes.{Appends}
 use Rattle.yak_io.specs.Causes.{Rose}
 use Rattle.yak_io.specs.Transfers.{TookAll, TookFront}
@@ -16,6 +16,7 @@ use Rattle.yak.specs.Replays.{Held, IsRun}
 abbrev pub IsReplay : List (List ℕ) → Type 0
 IsReplay words = words ≡ codes "replay" ∷ []
 
+-- what is written for words of no stated form
 abbrev pub usage_line : List ℕ
 usage_line = codes "usage: yak replay\n"
 
@@ -26,6 +27,7 @@ pub record Input : Type 0 where
   pub faults_before : ℕ
   pub faults_after : ℕ
 
+-- such a record, from its parts
 abbrev pub input_of : Option (List ℕ) → Option (List ℕ) → ℕ → ℕ → Input
 input_of before after faults_before faults_after = record { before = before; after = after; faults_before = faults_before; faults_after = faults_after }
 
@@ -36,6 +38,7 @@ pub record Output : Type 0 where
   pub faults_before : ℕ
   pub faults_after : ℕ
 
+-- such a record, from its parts
 abbrev pub output_of : Option (List ℕ) → Option (List ℕ) → ℕ → ℕ → Output
 output_of before after faults_before faults_after = record { before = before; after = after; faults_before = faults_before; faults_after = faults_after }
 
@@ -110,9 +113,13 @@ pub record IsCut (words : List (List ℕ)) (input : Input) (output : Output) (in
   pub front : TookFront output.before output.after text
   pub rose : Rose output.faults_before output.faults_after
 
+-- the writing failed: a front was written of the text that belongs to another status
+abbrev pub EndsCut : List (List ℕ) → Input → Output → Type 0
+EndsCut words input output = (instead : Status) × (text : List ℕ) × (unkept : Option Held) × IsCut words input output instead text unkept
+
 -- a run on these words, with this input and output, ends with a status
 abbrev pub ends : Status → List (List ℕ) → Input → Output → Option Held → Type 0
-ends WriteFault words input output kept = KeepsNothing kept × ((instead : Status) × (text : List ℕ) × (unkept : Option Held) × IsCut words input output instead text unkept)
+ends WriteFault words input output kept = KeepsNothing kept × EndsCut words input output
 ends status words input output kept = (text : List ℕ) × IsWritten words input output status text kept
 
 -- the number that stands for a status

@@ -1,6 +1,5 @@
 -- What is kept of a heap.
 use Rattle.std.specs.Prelude.{ℕ, List, Option, Some, None}
-use Rattle.heap_core.specs.declared.owned.Core.{Core}
 use Rattle.heap_words.specs.declared.memory.Image.{Image}
 use Rattle.yak.specs.declared.plain.Kept.{Kept}
 use Rattle.yak.specs.declared.plain.Kept.TheVariants.{Nothing, Alone}

@@ -1,6 +1,5 @@
 -- What running a script gives: a history, the text of its replies, and a heap.
 use Rattle.std.specs.Prelude.{◌≡◌, ◌≤◌, ℕ, All, Bool, true, false, List, [], ◌∷◌, ◌++◌, filter, map}
-use Rattle.object_layout.specs.declared.calls.Call.{Call}
 use Rattle.object_layout.specs.declared.replies.Reply.{Reply}
 use Rattle.object_layout.specs.Calls.{IsCall}
 use Rattle.heap_words.specs.declared.map.Areas.{Areas}
@@ -19,6 +18,7 @@ pub record Answered : Type 0 where
   pub line : Line
   pub reply : Reply
 
+-- the command lines, without the replies
 abbrev pub lines_of : List Answered → List Line
 lines_of answered = map (λ one. one.line) answered
 
@@ -45,6 +45,7 @@ pub record Held : Type 0 where
   pub map : Areas
   pub words : List ℕ
 
+-- such a record, from its parts
 abbrev pub held_of : Areas → List ℕ → Held
 held_of map words = record { map = map; words = words }
 

@@ -16,10 +16,12 @@ use yak_io::{StdSink, StdSource};
 
 fn main(rt: HostRuntime) -> ExitCode {
     let alloc = rt.alloc();
-    let Ok(args) = env::args(&rt) else {
-        return ExitCode::from(1);
+    // Arguments that are no text are of no stated form, as none are.
+    let words: Result<Vec<String>, AllocError> = match env::args(&rt) {
+        Ok(args) => args.skip(1).collect(alloc),
+        Err(error) if error.kind() == io::ErrorKind::OutOfMemory => return ExitCode::from(5),
+        Err(_) => Ok(Vec::new(alloc)),
     };
-    let words: Result<Vec<String>, AllocError> = args.skip(1).collect(alloc);
     let Ok(words) = words else {
         return ExitCode::from(5);
     };

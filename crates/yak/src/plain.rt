@@ -6,7 +6,7 @@ ghost use Rattle.yak_io.specs.Causes.{Rose};
 ghost use Rattle.yak.specs.Built.{IsBuiltScript, IsRefused};
 ghost use Rattle.script_text.specs.declared.faults.Bad.{Bad};
 ghost use Rattle.yak.specs.Keeping.{held_by};
-ghost use Rattle.yak.specs.Endings.{IsReplay, usage_line, input_of, output_of, IsInput, refusal_line, KeepsNothing, comes_to, gives_none, belongs, ends, EndsAs, EndsReplayed, EndsRefused, IsFaultless, Input};
+ghost use Rattle.yak.specs.Endings.{IsReplay, usage_line, input_of, output_of, IsInput, refusal_line, KeepsNothing, comes_to, gives_none, belongs, ends, EndsAs, EndsCut, EndsReplayed, EndsRefused, IsFaultless, Input};
 
 use crate::built::read_built;
 use crate::endings::Status;
@@ -164,7 +164,8 @@ fn ended<S: Source, K: Sink>(
 /// Does what the words ask for, and gives the number of the status with which that ended.
 ///
 /// The one form of words is `replay`: the source's bytes are read as a script and run, and a line is written for the reply
-/// to each command. `docs/FORMAT.md` has the statuses.
+/// to each command. Nothing may be kept at the call; afterwards the heap is kept where the status is 0. All output is made
+/// in memory before the first byte is written. `docs/FORMAT.md` has the statuses.
 pub fn plain<S: Source, K: Sink>(
     alloc: Global,
     args: &[String],
@@ -185,6 +186,9 @@ pub fn plain<S: Source, K: Sink>(
         (output_of (K.written sink.old) (K.written sink.new) (K.faults sink.old) (K.faults sink.new)) }
     ensures read_fault { result ≡ 3 → Rose (S.faults source.old) (S.faults source.new) × Appends (K.written sink.old) (K.written sink.new) [] }
     ensures write_fault { result ≡ 4 → Rose (K.faults sink.old) (K.faults sink.new) }
+    ensures cut { result ≡ 4 → EndsCut (map string_bytes args.now)
+        (input_of (S.left source.old) (S.left source.new) (S.faults source.old) (S.faults source.new))
+        (output_of (K.written sink.old) (K.written sink.new) (K.faults sink.old) (K.faults sink.new)) }
     ensures no_memory { result ≡ 5 → Appends (K.written sink.old) (K.written sink.new) [] }
     ensures too_large { result ≡ 6 → IfSome (S.left source.old) (λ told. INPUT_LIMIT < length told) × Appends (K.written sink.old) (K.written sink.new) [] }
     ensures kept { result ≢ 0 → KeepsNothing (held_by ⟦<Image as Words>⟧.words kept.new) }

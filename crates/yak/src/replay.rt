@@ -13,7 +13,7 @@ use heap_words::{Image, MakeError, Words};
 use object_layout::NoMemory;
 use script_text::{Line, Script, print_reply};
 use std::alloc::Global;
-use yak_model::graph::agreement;
+use yak_model::laws::agreement;
 
 /// The text of the replies, and the heap after the last call.
 #[derive(Drop)]

@@ -6,28 +6,27 @@ use yak_io::{MemorySink, MemorySource, SureSource};
 
 const FIRST_PATH: &[u8] = b"heap 4 1\n1 int 7\n1 get 1\n";
 
-fn strings(alloc: Global, words: &[&str]) -> Result<Vec<String>, AllocError> {
-    let mut strings = Vec::new(alloc);
-    for word in words {
-        strings.push(String::from_str(alloc, word)?)?;
-    }
-    Ok(strings)
+// The words of a replay.
+fn replay_words(alloc: Global) -> Result<Vec<String>, AllocError> {
+    let mut words = Vec::new(alloc);
+    words.push(String::from_str(alloc, "replay")?)?;
+    Ok(words)
 }
 
 #[test]
-fn words_that_are_no_replay_give_the_usage_line(rt: HostRuntime) -> Result<(), Fail> {
+fn other_words_give_the_usage_line(rt: HostRuntime) -> Result<(), Fail> {
     let alloc = rt.alloc();
-    for words in [
-        &["replay", "x"].as_slice(),
-        &[].as_slice(),
-        &["Replay"].as_slice(),
-    ] {
-        let args = strings(alloc, words)?;
+    let mut args = Vec::new(alloc);
+    // No words, `replay` alone, and `replay x`.
+    for (next, status) in [("replay", 1), ("x", 0), ("y", 1)] {
         let mut source = SureSource::new(Vec::from_slice(alloc, FIRST_PATH)?);
         let mut sink = MemorySink::new(alloc, 100, Vec::new(alloc))?;
         let mut kept = Kept::Nothing;
-        assert_eq!(rt; plain(alloc, &args, &mut source, &mut sink, &mut kept), 1);
-        assert_eq!(rt; sink.written(), b"usage: yak replay\n".as_slice());
+        let ended = plain(alloc, &args, &mut source, &mut sink, &mut kept);
+        assert_eq!(rt; ended, status, "before {next}");
+        let is_usage = sink.written() == b"usage: yak replay\n".as_slice();
+        assert_eq!(rt; is_usage, status == 1, "before {next}");
+        args.push(String::from_str(alloc, next)?)?;
     }
     Ok(())
 }
@@ -35,7 +34,7 @@ fn words_that_are_no_replay_give_the_usage_line(rt: HostRuntime) -> Result<(), F
 #[test]
 fn the_kept_heap_answers_further_calls(rt: HostRuntime) -> Result<(), Fail> {
     let alloc = rt.alloc();
-    let args = strings(alloc, &["replay"])?;
+    let args = replay_words(alloc)?;
     let mut source = SureSource::new(Vec::from_slice(alloc, FIRST_PATH)?);
     let mut sink = MemorySink::new(alloc, 100, Vec::new(alloc))?;
     let mut kept = Kept::Nothing;
@@ -53,7 +52,7 @@ fn the_kept_heap_answers_further_calls(rt: HostRuntime) -> Result<(), Fail> {
 #[test]
 fn scripts_are_replayed_or_refused(rt: HostRuntime) -> Result<(), Fail> {
     let alloc = rt.alloc();
-    let args = strings(alloc, &["replay"])?;
+    let args = replay_words(alloc)?;
     for (script, status, written) in [
         ("heap 4 1\n1 int 7\n1 get 1\n", 0, "2 ok\n3 int 7\n"),
         ("heap 4 1\n1 int 7\n1 get 1", 0, "2 ok\n3 int 7\n"),
@@ -71,6 +70,22 @@ fn scripts_are_replayed_or_refused(rt: HostRuntime) -> Result<(), Fail> {
             "2 ok\n3 int 9223372036854775807\n",
         ),
         ("heap 4 1\n\t1  int\t7 \r\n1 get 1", 0, "2 ok\n3 int 7\n"),
+        ("heap 1 1\n1 new 234\n1 new 0\n", 0, "2 ok\n3 out of heap\n"),
+        (
+            "heap 4 2\n1 int 1\n2 int 2\n1 get 1\n2 get 1\n",
+            0,
+            "2 ok\n3 ok\n4 int 1\n5 int 2\n",
+        ),
+        (
+            "heap 2 2\n2 new 0\n1 new 234\n1 new 0\n2 dup 1\n2 same 1 2\n2 store 1 0 0\n",
+            0,
+            "2 ok\n3 ok\n4 out of heap\n5 ok\n6 yes\n7 bad field\n",
+        ),
+        (
+            "heap 4 1\n1 int 5\n1 load 1 0\n1 load 0 16\n1 get 2\n1 new 254\n1 pop\n1 pop\n1 pop\n1 get 0\n",
+            0,
+            "2 ok\n3 not a reference\n4 bad field\n5 bad slot\n6 too long\n7 ok\n8 ok\n9 stack empty\n10 bad slot\n",
+        ),
         ("", 2, "line 1: bad header\n"),
         ("heap 0 1", 2, "line 1: bad header\n"),
         ("heap 4 1\n2 pop", 2, "line 2: bad thread\n"),
@@ -104,7 +119,7 @@ fn scripts_are_replayed_or_refused(rt: HostRuntime) -> Result<(), Fail> {
 #[test]
 fn faults_and_limits_have_statuses(rt: HostRuntime) -> Result<(), Fail> {
     let alloc = rt.alloc();
-    let args = strings(alloc, &["replay"])?;
+    let args = replay_words(alloc)?;
     // The script comes in five pieces, and the sixth call tells its end.
     for failing in 1..=7u32 {
         let fails = Vec::from_slice(alloc, &[failing])?;

@@ -160,7 +160,7 @@ no_object : (x : Option Thing) → x ≡ None → IsSome x → ⊥
 no_object x e h = let q : is_some x ≡ false = ap is_some e in cc
 
 -- a datum's word stays where no reference leads to the new object
-datum-word-kept : (objects : Name → Option Thing) (at : Name → ℕ) (n : Name) (a : ℕ) → objects n ≡ None → (d : Datum) → IsDatum objects d → datum_word (λ x. cond (same_name x n) a (at x)) d ≡ datum_word at d
+pub datum-word-kept : (objects : Name → Option Thing) (at : Name → ℕ) (n : Name) (a : ℕ) → objects n ≡ None → (d : Datum) → IsDatum objects d → datum_word (λ x. cond (same_name x n) a (at x)) d ≡ datum_word at d
 datum-word-kept objects at n a fresh Null h = refl
 datum-word-kept objects at n a fresh (Int i) h = refl
 datum-word-kept objects at n a fresh (Object x) h =

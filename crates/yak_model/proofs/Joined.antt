@@ -35,11 +35,11 @@ home_shown (Some home) (Some content) o e = let q : record { home = home; fields
 pub view-stored : (s : SpaceState) (n : Name) (o : Thing) (fields : List Datum) → object_of s n ≡ Some o → view (stored s n fields) ≡ (let w = view s in record w { objects = placed.with_object w.objects n (record o { fields = fields }) })
 view-stored s n o fields e =
     ap (λ (os : Name → Option Thing). let w = view s in record w { objects = os }) (fun_ext (λ x.
-        elim (same_or_other x n) [
-          | inl q ↦
-              rw (q, same_name-self n) (ap (thing_of (home_of s n)) (get-same s.graph.objects n (Fields fields)) ∙ ap (λ h. thing_of h (Some (Fields fields))) (home_shown (home_of s n) (content_at s.graph n) o e))
-          | inr ne ↦ rw (other_test x n ne) (ap (thing_of (home_of s x)) (get-other s.graph.objects n (Fields fields) x ne))
-        ]))
+    elim (same_or_other x n) [
+      | inl q ↦
+          rw (q, same_name-self n) (ap (thing_of (home_of s n)) (get-same s.graph.objects n (Fields fields)) ∙ ap (λ h. thing_of h (Some (Fields fields))) (home_shown (home_of s n) (content_at s.graph n) o e))
+      | inr ne ↦ rw (other_test x n ne) (ap (thing_of (home_of s x)) (get-other s.graph.objects n (Fields fields) x ne))
+    ]))
 
 -- a store of a field, on space states
 pub stands_stored : (m : Areas) (c : Contents) (s : SpaceState) (st : Stands m c s) (n : Name) (o : Thing) (f : ℕ) (v : Datum) → object_of s n ≡ Some o → f < length o.fields → IsDatum (object_of s) v → st.places.at n + 3 + f < length c.heap → Stands m (with_heap c (st.places.at n + 3 + f) (datum_word st.places.at v)) (stored s n (set o.fields f v))
@@ -47,9 +47,9 @@ stands_stored m c s st n o f v e lt fits within = record {
   whole = record {
     limits = st.whole.limits;
     contents = λ x. elim (same_or_other x n) [
-        | inl q ↦ rw q (ap is_some (get-same s.graph.objects n (Fields (set o.fields f v))) ∙ sym (ap is_some (home_shown (home_of s n) (content_at s.graph n) o e)))
-        | inr ne ↦ ap is_some (get-other s.graph.objects n (Fields (set o.fields f v)) x ne) ∙ st.whole.contents x
-      ];
+      | inl q ↦ rw q (ap is_some (get-same s.graph.objects n (Fields (set o.fields f v))) ∙ sym (ap is_some (home_shown (home_of s n) (content_at s.graph n) o e)))
+      | inr ne ↦ ap is_some (get-other s.graph.objects n (Fields (set o.fields f v)) x ne) ∙ st.whole.contents x
+    ];
     homes = st.whole.homes;
   };
   places = st.places;

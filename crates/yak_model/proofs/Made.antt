@@ -18,7 +18,7 @@ use Rattle.yak_model.proofs.Lists.{contains_take, contains_replicate, contains_s
 use Rattle.yak_model.proofs.Agreement.{no_null, on_other_stack, same_or_other_number, slot_on_stack}
 
 -- a thread's number made doesn't fall
-made_grows : (g : Graph) (u w : ℕ) (state : Thread) → (thread_of g u).made ≤ state.made → (thread_of g w).made ≤ (thread_of (with_thread g u state) w).made
+pub made_grows : (g : Graph) (u w : ℕ) (state : Thread) → (thread_of g u).made ≤ state.made → (thread_of g w).made ≤ (thread_of (with_thread g u state) w).made
 made_grows g u w state h =
     elim (set_cases g.threads (u - 1) (w - 1) state idle) [
       | inl e ↦ elim (same_or_other_number (w - 1) (u - 1)) [

@@ -27,7 +27,7 @@ stable a b h = elim (same_or_other_home a b) [ inl e ↦ e | inr n ↦ absurd (h
 same_least : (collection : Space → Type 0) (a b : Space) → IsLeastAbove collection a → IsLeastAbove collection b → a ≡ b
 same_least collection a b h k = below-antisymmetric a b (h.least b k.above) (k.least a h.above)
 
-same_maps : {X : Type 0} (m n : FinMap name_cmp X) → ((q : Name) → get m q ≡ get n q) → m ≡ n
+pub same_maps : {X : Type 0} (m n : FinMap name_cmp X) → ((q : Name) → get m q ≡ get n q) → m ≡ n
 same_maps m n h = same_map name_cmp_total name_cmp-IsAntisymmetric m n h
 
 -- states with the same homes, that keep the contents of one state, are equal

@@ -104,6 +104,16 @@ settled (o ∷ rest) [] = []
 settled (o ∷ rest) (None ∷ homes) = settled rest homes
 settled (o ∷ rest) (Some home ∷ homes) = (record o { home = home }) ∷ settled rest homes
 
+-- Each object is in a space that a heap can have.
+abbrev pub AreHomesValid : List Kept → Type 0
+AreHomesValid objects = (i : ℕ) → i < length objects → IsValid MAX_DEPTH (home_at objects i)
+
+-- What is left of a list of objects: no name twice, each that of an object of the list, in a space that a heap can have.
+pub record IsRest (before after : List Kept) : Type 0 where
+  pub distinct : AreDistinct after
+  pub valid : AreHomesValid after
+  pub names : (i : ℕ) → i < length after → (j : ℕ) × (j < length before) × (name_at before j ≡ name_at after i)
+
 -- A slot of some stack refers to the object.
 abbrev pub IsHeld : List Thread → Name → Type 0
 IsHeld threads name = (t : ℕ) × ((1 ≤ t) × (t ≤ length threads)) × Contains (slice_index_or threads (t - 1) idle).stack (datum.Object name)
@@ -136,10 +146,6 @@ IsListSource threads objects t region name space =
 abbrev pub IsJoinOf : (Space → Type 0) → Option Space → Type 0
 IsJoinOf collection None = (space : Space) → collection space → ⊥
 IsJoinOf collection (Some top) = IsLeastAbove collection top × ((space : Space) × collection space)
-
--- Each object is in a space that a heap can have.
-abbrev pub AreHomesValid : List Kept → Type 0
-AreHomesValid objects = (i : ℕ) → i < length objects → IsValid MAX_DEPTH (home_at objects i)
 
 -- A target, where there is one, is a space that a heap can have.
 abbrev pub IsTargetValid : Option Space → Type 0

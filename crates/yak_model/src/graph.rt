@@ -1,17 +1,20 @@
 //! The heap as a graph of objects, without spaces.
 ghost use Rattle.std.specs.Prelude.{◌≡◌, ◌≢◌, ℕ, ◌+◌, ◌-◌, ◌^◌, ◌<◌, ◌≤◌, ◌++◌, ◌∷◌, [], IfOk, OnErr, OnOk, IsTrue, ◌↔◌, take, length, replicate, slice_set, slice_index_or, true, false};
 ghost use Rattle.std.specs.List.{Contains};
-ghost use Rattle.yak_model.specs.Graph.{Thread, Graph, Fields, Does, IsThread, answers, fields_at, opening, make, push, drop_top, with_depth, with_object, put_field, refusal_of, shown, slot_of, stack_of, standard_limits, thread_of};
+ghost use Rattle.yak_model.specs.Graph.{Thread, Graph, Fields, Does, IsEnded, IsThread, answers, fields_at, opening, make, push, drop_top, with_depth, with_object, put_field, refusal_of, shown, slot_of, stack_of, standard_limits, thread_of};
 ghost use Rattle.yak_model.specs.declared.datum.Datum.TheVariants as datum;
+ghost use Rattle.object_layout.specs.declared.calls.Call.TheVariants as asked;
 ghost use Rattle.object_layout.specs.declared.replies.Reply.TheVariants as said;
 ghost use Rattle.yak_model.specs.Names.{root_name};
-ghost use Rattle.yak_model.specs.Agreement.{MachinesAgree};
-ghost use Rattle.yak_model.specs.Private.{NamesStayMade, PrivacyIsKept};
-ghost use Rattle.yak_model.specs.Unique.{StatesAreUnique};
+ghost use Rattle.std.specs.FinMap.{from_entries};
+ghost use Rattle.object_layout.specs.Calls.{IsCall};
 
 use crate::datum::Datum;
 use crate::{ROOT_FIELDS, STACK_SLOTS};
-use object_layout::{Call, MAX_DEPTH, MAX_SERIAL, Name, OBJECT_WORDS, PAGE_WORDS, Refusal, Reply};
+use object_layout::{
+    Call, MAX_DEPTH, MAX_SERIAL, MAX_THREADS, Name, NoMemory, OBJECT_WORDS, PAGE_WORDS, Refusal,
+    Reply,
+};
 use std::alloc::{AllocError, Global};
 use std::collections::VecDeque;
 use std::marker::Model;
@@ -122,7 +125,7 @@ fn deeper(depth: u8, greatest: u8) -> u8
 
 /// An object as some write left it.
 #[derive(Drop)]
-struct Written {
+pub(crate) struct Written {
     name: Name,
     fields: Vec<Datum>,
 }
@@ -135,6 +138,15 @@ impl Model for Written {
     ghost Value = { Name × Content };
 
     ghost view = { λ a. (a.name, Fields a.fields.items) };
+}
+
+impl Written {
+    /// An object with these fields.
+    pub(crate) fn new(name: Name, fields: Vec<Datum>) -> Written
+        ensures { result ≡ (name, Fields fields.items) }
+    {
+        Written { name, fields }
+    }
 }
 
 /// The heap as a graph of objects: each write of an object, the newest first, and the threads.
@@ -188,7 +200,16 @@ fn first_states(alloc: Global, threads: u8) -> Result<Vec<ThreadState>, AllocErr
 
 impl GraphState {
     /// The graph of a heap of so many threads as it opens.
-    pub fn new(alloc: Global, threads: u8) -> Result<GraphState, AllocError>
+    pub fn new(alloc: Global, threads: u8) -> Result<GraphState, NoMemory>
+        requires first { 1 ≤ threads }
+        requires last { threads ≤ MAX_THREADS }
+        ensures { IfOk result (λ state. state ≡ opening standard_limits threads) }
+    {
+        GraphState::opened(alloc, threads).map_err(|_| NoMemory)
+    }
+
+    /// The graph as it opens.
+    pub(crate) fn opened(alloc: Global, threads: u8) -> Result<GraphState, AllocError>
         ensures { IfOk result (λ state. state ≡ opening standard_limits threads) }
     {
         let fields = vec![in alloc; Datum::Null; ROOT_FIELDS]?;
@@ -227,7 +248,7 @@ impl GraphState {
     }
 
     /// The fields of the object that a value refers to.
-    fn fields_at(&self, value: Datum) -> &[Datum]
+    pub(crate) fn fields_at(&self, value: Datum) -> &[Datum]
         ensures { result.now ≡ fields_at self.now value }
     {
         if let Datum::Object(name) = value {
@@ -241,96 +262,166 @@ impl GraphState {
     }
 
     /// Why a call is refused, other than for want of room in the heap.
-    fn refusal(&self, thread: u8, call: Call) -> Option<Refusal>
+    pub(crate) fn refusal(&self, thread: u8, call: Call) -> Option<Refusal>
         requires { IsThread self.now thread }
         ensures { result ≡ refusal_of self.now thread call }
     {
-        let state = &self.threads[thread as usize - 1];
-        let is_full = state.len() >= STACK_SLOTS;
         match call {
-            Call::Int(_) | Call::Null => {
-                if is_full {
-                    Some(Refusal::StackFull)
-                } else {
-                    None
-                }
-            }
-            Call::Dup(s) => {
-                if s as usize >= state.len() {
-                    Some(Refusal::BadSlot)
-                } else if is_full {
-                    Some(Refusal::StackFull)
-                } else {
-                    None
-                }
-            }
-            Call::Pop => if state.len() == 0 {
-                Some(Refusal::StackEmpty)
-            } else {
-                None
-            },
-            Call::New(k) => {
-                if k > u32::from(self.page.saturating_sub(OBJECT_WORDS)) {
-                    Some(Refusal::TooLong)
-                } else if is_full {
-                    Some(Refusal::StackFull)
-                } else if state.made() >= MAX_SERIAL {
-                    Some(Refusal::NamesSpent)
-                } else {
-                    None
-                }
-            }
-            Call::Load(s, f) => {
-                if s as usize >= state.len() {
-                    return Some(Refusal::BadSlot);
-                }
-                let value = state.slot(s);
-                if !value.is_reference() {
-                    Some(Refusal::NotAReference)
-                } else if f as usize >= self.fields_at(value).len() {
-                    Some(Refusal::BadField)
-                } else if is_full {
-                    Some(Refusal::StackFull)
-                } else {
-                    None
-                }
-            }
-            Call::Store(s, f, x) => {
-                if s as usize >= state.len() || x as usize >= state.len() {
-                    return Some(Refusal::BadSlot);
-                }
-                let value = state.slot(s);
-                if !value.is_reference() {
-                    Some(Refusal::NotAReference)
-                } else if f as usize >= self.fields_at(value).len() {
-                    Some(Refusal::BadField)
-                } else {
-                    None
-                }
-            }
-            Call::Get(s) => if s as usize >= state.len() {
-                Some(Refusal::BadSlot)
-            } else {
-                None
-            },
-            Call::Same(s, x) => {
-                if s as usize >= state.len() || x as usize >= state.len() {
-                    Some(Refusal::BadSlot)
-                } else {
-                    None
-                }
-            }
-            Call::Begin => if state.depth() >= self.depth {
-                Some(Refusal::TooDeep)
-            } else {
-                None
-            },
-            Call::End => if state.depth() == 0 {
-                Some(Refusal::NoEpoch)
-            } else {
-                None
-            },
+            Call::Int(_) | Call::Null => self.push_refusal(thread),
+            Call::Dup(s) => self.dup_refusal(thread, s),
+            Call::Pop => self.pop_refusal(thread),
+            Call::New(k) => self.new_refusal(thread, k),
+            Call::Load(s, f) => self.load_refusal(thread, s, f),
+            Call::Store(s, f, x) => self.store_refusal(thread, s, f, x),
+            Call::Get(s) => self.get_refusal(thread, s),
+            Call::Same(s, x) => self.same_refusal(thread, s, x),
+            Call::Begin => self.begin_refusal(thread),
+            Call::End => self.end_refusal(thread),
             Call::Collect | Call::Census => None,
+        }
+    }
+
+    /// Why nothing can be pushed.
+    fn push_refusal(&self, thread: u8) -> Option<Refusal>
+        requires { IsThread self.now thread }
+        ensures { result ≡ refusal_of self.now thread asked.Null }
+    {
+        if self.len(thread) >= STACK_SLOTS {
+            Some(Refusal::StackFull)
+        } else {
+            None
+        }
+    }
+
+    /// Why a slot can't be pushed again.
+    fn dup_refusal(&self, thread: u8, s: u32) -> Option<Refusal>
+        requires { IsThread self.now thread }
+        ensures { result ≡ refusal_of self.now thread (asked.Dup s) }
+    {
+        if s as usize >= self.len(thread) {
+            Some(Refusal::BadSlot)
+        } else if self.len(thread) >= STACK_SLOTS {
+            Some(Refusal::StackFull)
+        } else {
+            None
+        }
+    }
+
+    /// Why no slot can be dropped.
+    fn pop_refusal(&self, thread: u8) -> Option<Refusal>
+        requires { IsThread self.now thread }
+        ensures { result ≡ refusal_of self.now thread asked.Pop }
+    {
+        if self.len(thread) == 0 {
+            Some(Refusal::StackEmpty)
+        } else {
+            None
+        }
+    }
+
+    /// Why no object of so many fields can be made.
+    fn new_refusal(&self, thread: u8, k: u32) -> Option<Refusal>
+        requires { IsThread self.now thread }
+        ensures { result ≡ refusal_of self.now thread (asked.New k) }
+    {
+        let state = &self.threads[thread as usize - 1];
+        if k > u32::from(self.page.saturating_sub(OBJECT_WORDS)) {
+            Some(Refusal::TooLong)
+        } else if state.len() >= STACK_SLOTS {
+            Some(Refusal::StackFull)
+        } else if state.made() >= MAX_SERIAL {
+            Some(Refusal::NamesSpent)
+        } else {
+            None
+        }
+    }
+
+    /// Why a field can't be pushed.
+    fn load_refusal(&self, thread: u8, s: u32, f: u32) -> Option<Refusal>
+        requires { IsThread self.now thread }
+        ensures { result ≡ refusal_of self.now thread (asked.Load s f) }
+    {
+        let state = &self.threads[thread as usize - 1];
+        if s as usize >= state.len() {
+            return Some(Refusal::BadSlot);
+        }
+        let value = state.slot(s);
+        if !value.is_reference() {
+            Some(Refusal::NotAReference)
+        } else if f as usize >= self.fields_at(value).len() {
+            Some(Refusal::BadField)
+        } else if state.len() >= STACK_SLOTS {
+            Some(Refusal::StackFull)
+        } else {
+            None
+        }
+    }
+
+    /// Why a slot's value can't be put into a field.
+    fn store_refusal(&self, thread: u8, s: u32, f: u32, x: u32) -> Option<Refusal>
+        requires { IsThread self.now thread }
+        ensures { result ≡ refusal_of self.now thread (asked.Store s f x) }
+    {
+        let state = &self.threads[thread as usize - 1];
+        if s as usize >= state.len() || x as usize >= state.len() {
+            return Some(Refusal::BadSlot);
+        }
+        let value = state.slot(s);
+        if !value.is_reference() {
+            Some(Refusal::NotAReference)
+        } else if f as usize >= self.fields_at(value).len() {
+            Some(Refusal::BadField)
+        } else {
+            None
+        }
+    }
+
+    /// Why a slot can't be shown.
+    fn get_refusal(&self, thread: u8, s: u32) -> Option<Refusal>
+        requires { IsThread self.now thread }
+        ensures { result ≡ refusal_of self.now thread (asked.Get s) }
+    {
+        if s as usize >= self.len(thread) {
+            Some(Refusal::BadSlot)
+        } else {
+            None
+        }
+    }
+
+    /// Why two slots can't be compared.
+    fn same_refusal(&self, thread: u8, s: u32, x: u32) -> Option<Refusal>
+        requires { IsThread self.now thread }
+        ensures { result ≡ refusal_of self.now thread (asked.Same s x) }
+    {
+        let length = self.len(thread);
+        if s as usize >= length || x as usize >= length {
+            Some(Refusal::BadSlot)
+        } else {
+            None
+        }
+    }
+
+    /// Why no epoch can be opened.
+    fn begin_refusal(&self, thread: u8) -> Option<Refusal>
+        requires { IsThread self.now thread }
+        ensures { result ≡ refusal_of self.now thread asked.Begin }
+    {
+        if self.depth_of(thread) >= self.depth {
+            Some(Refusal::TooDeep)
+        } else {
+            None
+        }
+    }
+
+    /// Why no epoch can be ended.
+    fn end_refusal(&self, thread: u8) -> Option<Refusal>
+        requires { IsThread self.now thread }
+        ensures { result ≡ refusal_of self.now thread asked.End }
+    {
+        if self.depth_of(thread) == 0 {
+            Some(Refusal::NoEpoch)
+        } else {
+            None
         }
     }
 
@@ -362,7 +453,7 @@ impl GraphState {
     }
 
     /// Makes an object of null fields, and pushes a reference to it.
-    fn make(&mut self, thread: u8, k: u32) -> Result<(), AllocError>
+    pub(crate) fn make(&mut self, thread: u8, k: u32) -> Result<(), AllocError>
         requires thread { IsThread self.old thread }
         requires room { (thread_of self.old thread).made < MAX_SERIAL }
         ensures ok { OnOk result (self.new ≡ make self.old thread k) }
@@ -407,7 +498,7 @@ impl GraphState {
     }
 
     /// Changes the depth of a thread.
-    fn set_depth(&mut self, thread: u8, depth: u8)
+    pub(crate) fn set_depth(&mut self, thread: u8, depth: u8)
         requires { IsThread self.old thread }
         ensures { self.new ≡ with_depth self.old thread depth }
     {
@@ -445,6 +536,89 @@ impl GraphState {
         Ok(true)
     }
 
+    /// Drops the top slot where the reply is `Ok`.
+    fn accept_pop(&mut self, thread: u8, reply: Reply) -> bool
+        requires { IsThread self.old thread }
+        ensures allowed { result ≡ true → (reply ≡ said.Ok) × (self.new ≡ drop_top self.old thread) }
+        ensures denied { result ≡ false → (reply ≢ said.Ok) × (self.new ≡ self.old) }
+    {
+        if reply != Reply::Ok {
+            return false;
+        }
+        self.drop_top(thread);
+        true
+    }
+
+    /// Makes an object where the reply is `Ok`, and none where it is `OutOfHeap`.
+    fn accept_new(&mut self, thread: u8, k: u32, reply: Reply) -> Result<bool, AllocError>
+        requires thread { IsThread self.old thread }
+        requires room { (thread_of self.old thread).made < MAX_SERIAL }
+        ensures allowed { IfOk result (λ done. done ≡ true → Does self.old thread (asked.New k) reply self.new) }
+        ensures denied { IfOk result (λ done. done ≡ false → ((h : Graph) → Does self.old thread (asked.New k) reply h → ⊥) × (self.new ≡ self.old)) }
+        ensures err { OnErr result (self.new ≡ self.old) }
+    {
+        match reply {
+            Reply::Ok => {
+                self.make(thread, k)?;
+                Ok(true)
+            }
+            Reply::OutOfHeap => Ok(true),
+            _ => Ok(false),
+        }
+    }
+
+    /// Puts the value of a slot into a field where the reply is `Ok`.
+    fn accept_store(
+        &mut self,
+        thread: u8,
+        s: u32,
+        f: u32,
+        x: u32,
+        reply: Reply,
+    ) -> Result<bool, AllocError>
+        requires { IsThread self.old thread }
+        ensures allowed { IfOk result (λ done. done ≡ true → (reply ≡ said.Ok) × (self.new ≡ put_field self.old (slot_of self.old thread s) f (slot_of self.old thread x))) }
+        ensures denied { IfOk result (λ done. done ≡ false → (reply ≢ said.Ok) × (self.new ≡ self.old)) }
+        ensures err { OnErr result (self.new ≡ self.old) }
+    {
+        if reply != Reply::Ok {
+            return Ok(false);
+        }
+        self.put_field(self.slot(thread, s), f, self.slot(thread, x))?;
+        Ok(true)
+    }
+
+    /// Opens an epoch where the reply is `Ok`.
+    fn accept_begin(&mut self, thread: u8, reply: Reply) -> bool
+        requires thread { IsThread self.old thread }
+        requires room { (thread_of self.old thread).depth < self.old.limits.depth }
+        ensures allowed { result ≡ true → (reply ≡ said.Ok) × (self.new ≡ with_depth self.old thread ((thread_of self.old thread).depth + 1)) }
+        ensures denied { result ≡ false → (reply ≢ said.Ok) × (self.new ≡ self.old) }
+    {
+        if reply != Reply::Ok {
+            return false;
+        }
+        self.raise(thread);
+        true
+    }
+
+    /// Ends an epoch where the reply says so, with any number moved.
+    fn accept_end(&mut self, thread: u8, reply: Reply) -> bool
+        requires thread { IsThread self.old thread }
+        requires open_epoch { 0 < (thread_of self.old thread).depth }
+        ensures allowed { result ≡ true → IsEnded reply × (self.new ≡ with_depth self.old thread ((thread_of self.old thread).depth - 1)) }
+        ensures denied { result ≡ false → (IsEnded reply → ⊥) × (self.new ≡ self.old) }
+    {
+        match reply {
+            Reply::Ended { .. } => {
+                let depth = self.depth_of(thread);
+                self.set_depth(thread, depth - 1);
+                true
+            }
+            _ => false,
+        }
+    }
+
     /// Makes a call that isn't refused, where the reply is allowed.
     fn accept(&mut self, thread: u8, call: Call, reply: Reply) -> Result<bool, AllocError>
         requires thread { IsThread self.old thread }
@@ -457,52 +631,20 @@ impl GraphState {
             Call::Int(i) => self.accept_push(thread, Datum::Int(i), reply),
             Call::Null => self.accept_push(thread, Datum::Null, reply),
             Call::Dup(s) => self.accept_push(thread, self.slot(thread, s), reply),
-            Call::Pop => {
-                if reply != Reply::Ok {
-                    return Ok(false);
-                }
-                self.drop_top(thread);
-                Ok(true)
-            }
-            Call::New(k) => match reply {
-                Reply::Ok => {
-                    self.make(thread, k)?;
-                    Ok(true)
-                }
-                Reply::OutOfHeap => Ok(true),
-                _ => Ok(false),
-            },
+            Call::Pop => Ok(self.accept_pop(thread, reply)),
+            Call::New(k) => self.accept_new(thread, k, reply),
             Call::Load(s, f) => {
                 let value = self.field(self.slot(thread, s), f);
                 self.accept_push(thread, value, reply)
             }
-            Call::Store(s, f, x) => {
-                if reply != Reply::Ok {
-                    return Ok(false);
-                }
-                self.put_field(self.slot(thread, s), f, self.slot(thread, x))?;
-                Ok(true)
-            }
+            Call::Store(s, f, x) => self.accept_store(thread, s, f, x, reply),
             Call::Get(s) => Ok(self.is_shown(self.slot(thread, s), reply)),
             Call::Same(s, x) => {
                 let is_same = self.slot(thread, s) == self.slot(thread, x);
                 Ok(reply == if is_same { Reply::Yes } else { Reply::No })
             }
-            Call::Begin => {
-                if reply != Reply::Ok {
-                    return Ok(false);
-                }
-                self.raise(thread);
-                Ok(true)
-            }
-            Call::End => match reply {
-                Reply::Ended { .. } => {
-                    let depth = self.depth_of(thread);
-                    self.set_depth(thread, depth - 1);
-                    Ok(true)
-                }
-                _ => Ok(false),
-            },
+            Call::Begin => Ok(self.accept_begin(thread, reply)),
+            Call::End => Ok(self.accept_end(thread, reply)),
             Call::Collect => Ok(reply == Reply::Ok),
             Call::Census => Ok(matches!(reply, Reply::Pages { .. })),
         }
@@ -520,7 +662,7 @@ impl GraphState {
     }
 
     /// The depth of a thread's epochs.
-    fn depth_of(&self, thread: u8) -> u8
+    pub(crate) fn depth_of(&self, thread: u8) -> u8
         requires { IsThread self.now thread }
         ensures { result ≡ (thread_of self.now thread).depth }
     {
@@ -537,8 +679,47 @@ impl GraphState {
         }
     }
 
+    /// The threads, of which the first has the number 1.
+    pub(crate) fn threads(&self) -> &[ThreadState]
+        ensures { result.now ≡ self.now.threads }
+    {
+        &self.threads
+    }
+
+    /// The number of objects that a thread has made.
+    pub(crate) fn made_by(&self, thread: u8) -> u64
+        requires { IsThread self.now thread }
+        ensures { result ≡ (thread_of self.now thread).made }
+    {
+        self.threads[thread as usize - 1].made()
+    }
+
+    /// Puts these objects in the place of all others.
+    pub(crate) fn set_objects(&mut self, writes: VecDeque<Written>)
+        ensures { self.new ≡ record self.old { objects = from_entries writes.items } }
+    {
+        self.writes = writes;
+    }
+
+    /// Makes a call where the reply is allowed, and tells whether it is. Otherwise nothing changes.
+    pub fn step(&mut self, thread: u8, call: Call, reply: Reply) -> Result<bool, NoMemory>
+        requires thread { IsThread self.old thread }
+        requires number { IsCall call }
+        ensures allowed { IfOk result (λ done. done ≡ true → answers self.old thread call reply self.new) }
+        ensures denied { IfOk result (λ done. done ≡ false → ((h : Graph) → answers self.old thread call reply h → ⊥) × (self.new ≡ self.old)) }
+        ensures err { OnErr result (self.new ≡ self.old) }
+        ensures threads { length self.new.threads ≡ length self.old.threads }
+    {
+        self.answer(thread, call, reply).map_err(|_| NoMemory)
+    }
+
     /// Makes a call where the reply is allowed, and tells whether it is.
-    pub fn step(&mut self, thread: u8, call: Call, reply: Reply) -> Result<bool, AllocError>
+    pub(crate) fn answer(
+        &mut self,
+        thread: u8,
+        call: Call,
+        reply: Reply,
+    ) -> Result<bool, AllocError>
         requires { IsThread self.old thread }
         ensures allowed { IfOk result (λ done. done ≡ true → answers self.old thread call reply self.new) }
         ensures denied { IfOk result (λ done. done ≡ false → ((h : Graph) → answers self.old thread call reply h → ⊥) × (self.new ≡ self.old)) }
@@ -550,23 +731,3 @@ impl GraphState {
         }
     }
 }
-
-/// The graph and the spaces agree along every history.
-pub fn agreement()
-    ensures { MachinesAgree }
-{}
-
-/// The end of an epoch and a collection each lead to one state.
-pub fn uniqueness()
-    ensures { StatesAreUnique }
-{}
-
-/// What one thread alone knows stays so, whatever entry comes.
-pub fn privacy()
-    ensures { PrivacyIsKept }
-{}
-
-/// Each name in the graph stays that of an object that was made.
-pub fn freshness()
-    ensures { NamesStayMade }
-{}

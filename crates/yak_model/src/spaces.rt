@@ -6,8 +6,8 @@ ghost use Rattle.yak_model.specs.declared.datum.Datum.TheVariants as datum;
 ghost use Rattle.epoch_lattice.specs.Lattice.{IsBelow, IsValid, inner_of};
 ghost use Rattle.epoch_lattice.specs.declared.Space.{Space};
 ghost use Rattle.epoch_lattice.specs.declared.Space.TheVariants as space;
-ghost use Rattle.yak_model.specs.Kept.{AreDistinct, AreHomesValid, AreValid, IsFieldSource, IsHeldBy, IsJoinOf, IsListReached, IsListSource, IsTargetValid, IsAbove, IsLedTo, IsLiveName, IsMarked, IsMarkedName, ListInside, ListRefers, IsFirst, IsHeld, final, home_at, settled, joined, name_at, fields_of_place, state_of, target_at, threads_at};
-ghost use Rattle.yak_model.specs.Graph.{Limits, fields_of, idle};
+ghost use Rattle.yak_model.specs.Kept.{AreDistinct, AreHomesValid, AreValid, IsFieldSource, IsHeldBy, IsJoinOf, IsListReached, IsListSource, IsRest, IsTargetValid, IsAbove, IsLedTo, IsLiveName, IsMarked, IsMarkedName, ListInside, ListRefers, IsFirst, IsHeld, final, home_at, settled, joined, name_at, fields_of_place, state_of, target_at, threads_at};
+ghost use Rattle.yak_model.specs.Graph.{Fields, Limits, fields_of, idle};
 ghost use Rattle.yak_model.specs.Spaces.{Collects, EndsEpoch, IsReached};
 
 use crate::datum::Datum;
@@ -35,6 +35,13 @@ impl Model for KeptObject {
 }
 
 impl KeptObject {
+    /// An object of these fields in a space.
+    pub(crate) fn new(name: Name, home: Space, fields: Vec<Datum>) -> KeptObject
+        ensures { result ≡ record { name = name; home = home; content = Fields fields.items } }
+    {
+        KeptObject { name, home, fields }
+    }
+
     /// Whether the object is in this space.
     fn is_in(&self, space: Space) -> bool
         ensures { IsTrue result ↔ (self.now.home ≡ space) }
@@ -43,14 +50,14 @@ impl KeptObject {
     }
 
     /// The name of the object.
-    fn name(&self) -> Name
+    pub(crate) fn name(&self) -> Name
         ensures { result ≡ self.now.name }
     {
         self.name
     }
 
     /// The space of the object.
-    fn home(&self) -> Space
+    pub(crate) fn home(&self) -> Space
         ensures { result ≡ self.now.home }
     {
         self.home
@@ -64,7 +71,7 @@ impl KeptObject {
     }
 
     /// The fields of the object.
-    fn fields(&self) -> &[Datum]
+    pub(crate) fn fields(&self) -> &[Datum]
         ensures { result.now ≡ fields_of self.now.content }
     {
         &self.fields
@@ -321,13 +328,15 @@ fn live_homes(
 }
 
 /// A collection of the control space.
-fn collect(
+pub(crate) fn collect(
     alloc: Global,
     objects: &mut Vec<KeptObject>,
     threads: &[ThreadState],
 ) -> Result<(), AllocError>
-    requires { AreDistinct objects.old.items }
+    requires distinct { AreDistinct objects.old.items }
+    requires homes { AreHomesValid objects.old.items }
     ensures ok { OnOk result ((limits : Limits) → Collects (state_of limits threads.now objects.old.items) (state_of limits threads.now objects.new.items)) }
+    ensures rest { OnOk result (IsRest objects.old.items objects.new.items) }
     ensures err { OnErr result (objects.new ≡ objects.old) }
 {
     let homes = live_homes(alloc, objects, threads)?;
@@ -532,6 +541,7 @@ fn escape_targets(
     requires thread { (1 ≤ t) × (t ≤ length threads.now) }
     ensures size { IfOk result (λ targets. length targets.items ≡ length objects.now) }
     ensures join { IfOk result (λ targets. (i : ℕ) → i < length objects.now → IsJoinOf (IsListReached threads.now objects.now t region (name_at objects.now i)) (target_at targets.items i)) }
+    ensures valid { IfOk result (λ targets. AreValid MAX_DEPTH targets.items) }
 {
     let mut targets = source_targets(alloc, objects, threads, t, region)?;
     spread(objects, region, &mut targets);
@@ -539,7 +549,7 @@ fn escape_targets(
 }
 
 /// The end of the innermost epoch of a thread, but for its depth, with the number of objects moved.
-fn end_epoch(
+pub(crate) fn end_epoch(
     alloc: Global,
     objects: &mut Vec<KeptObject>,
     threads: &[ThreadState],
@@ -554,6 +564,7 @@ fn end_epoch(
     requires region { region ≡ inner_of t (slice_index_or threads.now (t - 1) idle).depth }
     requires open_epoch { 0 < (slice_index_or threads.now (t - 1) idle).depth }
     ensures ok { IfOk result (λ moved. (limits : Limits) → EndsEpoch (state_of limits threads.now objects.old.items) t moved tight (state_of limits (threads_at threads.now t ((slice_index_or threads.now (t - 1) idle).depth - 1)) objects.new.items)) }
+    ensures rest { OnOk result (IsRest objects.old.items objects.new.items) }
     ensures err { OnErr result (objects.new ≡ objects.old) }
 {
     let targets = escape_targets(alloc, objects, threads, t, region)?;

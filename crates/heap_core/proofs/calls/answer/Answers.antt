@@ -23,3 +23,6 @@ returns-in-Get-clause-turns g c = rw c.in-Get.is c.get.ensures.turns
 
 pub returns-in-Same-clause-turns : goal.returns-in-Same-clause-turns
 returns-in-Same-clause-turns g c = rw c.in-Same.is c.same.ensures.turns
+
+pub returns-in-New-clause-turns : goal.returns-in-New-clause-turns
+returns-in-New-clause-turns g c = rw c.in-New.is c.new_object.ensures.turns

@@ -7,8 +7,8 @@ use Rattle.region_pages.proofs.Shapes.{Shape, shape}
 use Rattle.region_pages.proofs.Counting.{free_is, parts}
 use Rattle.region_pages.proofs.counts.census.Goals as goal
 
-pub overflow_sub-result-2 : goal.overflow_sub-result-2
-overflow_sub-result-2 g c =
+pub overflow_sub-result : goal.overflow_sub-result
+overflow_sub-result g c =
     let m = c.args.map in
     let old = contents m (g.W.Words.words c.args.words.now) in
     let s : Shape m old = shape m (g.W.Words.words c.args.words.now) c.requires.sound in

@@ -1,4 +1,4 @@
-use Rattle.std.proofs.Common.{ℕ, ◌+◌, ap, sym, subst, ◌∙◌, take}
+use Rattle.std.proofs.Common.{ℕ, ap, subst, ◌∙◌}
 use Rattle.std.proofs.lemmas.List.{take_more}
 use Rattle.heap_words.specs.declared.map.Areas.{Areas}
 use Rattle.object_layout.specs.declared.calls.Call.TheVariants.{Int}

@@ -23,3 +23,11 @@ returns-clause-join c =
     (subst (λ (ts : List (Option Space)). (k : ℕ) → k < length c.args.objects.now → home_at c.args.objects.now k ≡ c.args.region → IsJoinOf (IsListSource c.args.threads.now c.args.objects.now c.args.t c.args.region (name_at c.args.objects.now k)) (target_at ts k)) (sym c.deref_mut.ensures.value) c.in_ok-targets.ensures.inside)
     (subst (λ (ts : List (Option Space)). (k : ℕ) → k < length c.args.objects.now → home_at c.args.objects.now k ≢ c.args.region → target_at ts k ≡ None) (sym c.deref_mut.ensures.value) c.in_ok-targets.ensures.outside)
     c.spread.ensures.caused c.spread.ensures.least c.spread.ensures.above i lt)
+
+pub returns-clause-valid : goal.returns-clause-valid
+returns-clause-valid c =
+    let long : c.in_ok-targets.targets.len ≡ length c.spread.new.targets = omega (arith, c.spread.auto.targets, c.deref_mut.ensures.len) in
+    let rest = drop (length c.spread.new.targets) c.in_ok-targets.targets.items in
+    let same : take c.in_ok-targets.targets.len (c.spread.new.targets ++ rest) ≡ c.spread.new.targets =
+    ap (λ n. take n (c.spread.new.targets ++ rest)) long ∙ take-append_seam c.spread.new.targets rest in
+    subst (AreValid MAX_DEPTH) (sym same) c.spread.ensures.valid

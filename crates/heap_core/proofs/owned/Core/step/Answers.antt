@@ -13,5 +13,5 @@ answer-reply-requires-clause-sound g c =
 pub invariant_of-self : goal.invariant_of-self
 invariant_of-self g c = record {
   own = c.args.self.now.own ∙ ap g.W.Words.map (sym c.answer-reply.ensures.base);
-  stands = ∥∥₁_map c.args.self.now.stands (λ p. let q = c.answer-reply.ensures.turns p.0 p.1 in (q.0, q.2));
+  stands = ∥∥₁_map c.args.self.now.stands (λ p. let q = c.answer-reply.ensures.turns.turns p.0 p.1 in (q.0, q.2));
 }

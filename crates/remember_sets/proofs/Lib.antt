@@ -1,0 +1,4 @@
+pub mod Sets
+pub mod Drops
+pub mod Frames
+pub mod Logs
