@@ -10,3 +10,8 @@ pub mod Outside
 pub mod Ends
 pub mod Reaches
 pub mod Written
+pub mod Rolls
+pub mod Placing
+pub mod Weighed
+pub mod Follows
+pub mod Underway

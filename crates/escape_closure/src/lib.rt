@@ -2,8 +2,12 @@
 #![tactic(auto)]
 
 mod ending;
+mod needing;
+mod planning;
 mod raising;
+mod rolling;
 mod sources;
+mod weighing;
 
 pub use ending::targets;
 

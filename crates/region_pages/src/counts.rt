@@ -89,7 +89,7 @@ fn pages_with<W: Words>(words: &mut W, map: Areas, word: u64) -> u32
 }
 
 /// How many entries of the pool no claim took.
-fn free_count<W: Words>(words: &mut W, map: Areas) -> u32
+pub fn free_count<W: Words>(words: &mut W, map: Areas) -> u32
     requires sound { Sound map (W.words words.old) }
     requires pool { let c = contents map (W.words words.old) in PoolStands map c.heads c.pool c.table }
     ensures count { let c = contents map (W.words words.old) in result ≡ length (free_pages c.heads c.pool) }

@@ -7,7 +7,7 @@ mod freeing;
 mod placement;
 
 pub use claim::claim_page;
-pub use counts::{census, packed, pages_of};
+pub use counts::{census, free_count, packed, pages_of};
 pub use freeing::{rebuild_pool, release_space};
 pub use placement::place;
 

@@ -22,6 +22,13 @@ move_at-new s k = refl
 abbrev pub with_move : List ℕ → ℕ → ℕ → ℕ → ℕ → List ℕ
 with_move s k o n i = set (set (set s (MOVE_WORDS * k) o) (MOVE_WORDS * k + 1) n) (MOVE_WORDS * k + 2) i
 
+pub with_move-past : (s : List ℕ) (k o n i j : ℕ) → MOVE_WORDS * (k + 1) ≤ j → get_or (with_move s k o n i) j 0 ≡ get_or s j 0
+with_move-past s k o n i j past =
+    let a : ℕ = MOVE_WORDS * k in
+    let one : List ℕ = set s a o in
+    let two : List ℕ = set one (a + 1) n in
+    get_or-set_other two (a + 2) j i 0 (λ e. omega arith) ∙ get_or-set_other one (a + 1) j n 0 (λ e. omega arith) ∙ get_or-set_other s a j o 0 (λ e. omega arith)
+
 pub move_at-added : (s : List ℕ) (k o n i : ℕ) (x : Space) → MOVE_WORDS * k + 2 < length s → space_of i ≡ Some x → move_at (with_move s k o n i) k ≡ record { old = o; new = n; space = x }
 unfolding move_at
 move_at-added s k o n i x within number =

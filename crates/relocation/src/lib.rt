@@ -18,5 +18,5 @@ pub use corrections::correct;
 pub use fields::{correct_field, correct_fields, correct_moves};
 pub use moves::move_all;
 pub use pages::page_start;
-pub use plans::{Move, Plan, add_move, empty_plan, read_move};
+pub use plans::{MOVE_WORDS, Move, Plan, add_move, empty_plan, read_move};
 pub use slides::{Cursor, object_size, plan_pages};

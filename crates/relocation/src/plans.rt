@@ -1,6 +1,6 @@
 //! Plans of moves.
 
-ghost use Rattle.std.specs.Prelude.{◌≡◌, ◌≤◌, ◌<◌, ◌+◌, ◌*◌, ℕ, slice_set, unwrap_or};
+ghost use Rattle.std.specs.Prelude.{◌≡◌, ◌≤◌, ◌<◌, ◌+◌, ◌*◌, ℕ, slice_index, slice_set, unwrap_or};
 ghost use Rattle.heap_words.specs.Map.{heap_length};
 ghost use Rattle.heap_words.specs.Contents.{Sound, contents};
 ghost use Rattle.epoch_lattice.specs.Lattice.{IsValid, space_of};
@@ -89,6 +89,7 @@ pub fn add_move<W: Words>(
     ensures count { plan.new.count ≡ plan.old.count + 1 }
     ensures added { move_at (scratch_of map (W.words words.new)) plan.old.count ≡ record { old = old.0; new = new.0; space = space } }
     ensures former { (k : ℕ) → k < plan.old.count → move_at (scratch_of map (W.words words.new)) k ≡ move_at (scratch_of map (W.words words.old)) k }
+    ensures others { (i : ℕ) → MOVE_WORDS * (plan.old.count + 1) ≤ i → slice_index (scratch_of map (W.words words.new)) i ≡ slice_index (scratch_of map (W.words words.old)) i }
     ensures marked { contents map (W.words words.new) ≡ (let c = contents map (W.words words.old) in record c { scratch = scratch_of map (W.words words.new); heap = slice_set c.heap (old.0 + 2) (plan.old.count + 1) }) }
     ensures plan { Numbered map (heap_of map (W.words words.new)) plan.new.count (move_at (scratch_of map (W.words words.new))) }
     ensures sound { Sound map (W.words words.new) }

@@ -1,9 +1,9 @@
-use Rattle.std.proofs.Common.{◌≡◌, ◌<◌, ◌+◌, ◌*◌, arith, set, length, subst, sym, ap, ◌∙◌, List, ℕ}
+use Rattle.std.proofs.Common.{get_or, ◌≤◌, ◌≡◌, ◌<◌, ◌+◌, ◌*◌, arith, set, length, subst, sym, ap, ◌∙◌, List, ℕ}
 use Rattle.heap_words.specs.Contents.{Contents, contents}
 use Rattle.heap_words.proofs.Contents.{length-heap, length-scratch}
 use Rattle.relocation.specs.declared.plans.TheConstants.{MOVE_WORDS}
 use Rattle.relocation.specs.Moves.{heap_of, scratch_of, move_at, Numbered}
-use Rattle.relocation.proofs.Planned.{with_move, move_at-added, move_at-former, numbered-more}
+use Rattle.relocation.proofs.Planned.{with_move, with_move-past, move_at-added, move_at-former, numbered-more}
 use Rattle.relocation.proofs.plans.add_move.Goals as goal
 
 pub returns-clause-added : goal.returns-clause-added
@@ -26,6 +26,16 @@ returns-clause-former g c j lt =
     let s : List ℕ = scratch_of m was in
     let e : contents m next ≡ (let x = contents m was in record x { scratch = with_move s k c.args.old.0 c.args.new.0 c.index_of.result; heap = set x.heap (c.args.old.0 + 2) (k + 1) }) = rw (c.set_heap.ensures.set, c.set_scratch-3.ensures.set, c.set_scratch-2.ensures.set, c.set_scratch.ensures.set) in
     ap (λ (x : Contents). move_at x.scratch j) e ∙ move_at-former s k c.args.old.0 c.args.new.0 c.index_of.result j lt
+
+pub returns-clause-others : goal.returns-clause-others
+returns-clause-others g c i past =
+    let m = c.args.map in
+    let was = g.W.Words.words c.args.words.now in
+    let next = g.W.Words.words c.set_heap.new.words in
+    let k = c.args.plan.now.count in
+    let s : List ℕ = scratch_of m was in
+    let e : contents m next ≡ (let x = contents m was in record x { scratch = with_move s k c.args.old.0 c.args.new.0 c.index_of.result; heap = set x.heap (c.args.old.0 + 2) (k + 1) }) = rw (c.set_heap.ensures.set, c.set_scratch-3.ensures.set, c.set_scratch-2.ensures.set, c.set_scratch.ensures.set) in
+    ap (λ (x : Contents). get_or x.scratch i 0) e ∙ with_move-past s k c.args.old.0 c.args.new.0 c.index_of.result i past
 
 pub returns-clause-marked : goal.returns-clause-marked
 returns-clause-marked g c =

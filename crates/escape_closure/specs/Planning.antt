@@ -1,0 +1,54 @@
+-- The next object of a plan, placed in its target.
+use Rattle.std.specs.Prelude.{◌≡◌, ℕ, ◌+◌, ◌*◌, ◌≤◌, ◌<◌, ◌≢◌, [], Some, length, slice_index, slice_set}
+use Rattle.epoch_lattice.specs.declared.Space.{Space}
+use Rattle.epoch_lattice.specs.Lattice.{space_of}
+use Rattle.heap_words.specs.declared.map.Areas.{Areas}
+use Rattle.heap_words.specs.Contents.{Contents}
+use Rattle.yak_model.specs.Packed.{IsSpaceOf}
+use Rattle.yak_model.specs.Stands.{free_pages}
+use Rattle.region_pages.specs.Placement.{IsPlaced, IsLastInPage, depth_in, words_left_at}
+use Rattle.relocation.specs.Moves.{move_at}
+use Rattle.relocation.specs.declared.plans.TheConstants.{MOVE_WORDS}
+use Rattle.escape_closure.specs.declared.needing.Entry.{Entry}
+use Rattle.epoch_lattice.specs.Lattice.{space_index}
+use Rattle.object_layout.specs.declared.names.Name.{Name}
+use Rattle.heap_words.specs.Map.{heap_length}
+use Rattle.yak_model.specs.State.{Thing}
+use Rattle.heap_walks.specs.Laid.{IsThing, work_of}
+use Rattle.escape_closure.specs.Words.{settled_word}
+use Rattle.escape_closure.specs.Rolls.{Aimed, IsAimed, Rolled}
+use Rattle.escape_closure.specs.Placing.{Filling, filling, index_on, owner, room_in, rooms_at, size_on}
+
+-- The target is no space of the heap, or its current page has too few words left and no page is free.
+abbrev pub NotPlaced : Areas → Contents → ℕ → Entry → Type 0
+NotPlaced m c t entry = (x : Space) → space_of entry.index ≡ Some x → IsSpaceOf m x → (words_left_at m c (owner t x) (depth_in x) < entry.size) × (free_pages c.heads c.pool ≡ [])
+
+-- An object is placed in its target by the rule of placement, and its move is the one of the plan with a number.
+pub record PlacedNext (m : Areas) (c after : Contents) (t k : ℕ) (entry : Entry) : Type 0 where
+  pub space : Space
+  pub number : space_of entry.index ≡ Some space
+  pub exists : IsSpaceOf m space
+  pub new : ℕ
+  pub between : Contents
+  pub placed : IsPlaced m c (owner t space) space entry.size new between
+  pub within : IsLastInPage m between.table space new entry.size
+  pub move : move_at after.scratch k ≡ record { old = entry.old; new = new; space = space }
+  pub former : (j : ℕ) → j < k → move_at after.scratch j ≡ move_at c.scratch j
+  pub behind : (i : ℕ) → MOVE_WORDS * (k + 1) ≤ i → slice_index after.scratch i ≡ slice_index c.scratch i
+  pub marked : after ≡ record between { scratch = after.scratch; heap = slice_set between.heap (entry.old + 2) (k + 1) }
+
+-- The targets are spaces of the heap.
+abbrev pub TargetsExist : Areas → Aimed → Type 0
+TargetsExist m q = (n : Name) (o : Thing) → IsThing q.laid n o → IsAimed q n → (x : Space) × IsSpaceOf m x × (work_of q.laid q.words n ≡ settled_word x)
+
+-- What is left, and the pages claimed, after the first objects of a roll are placed.
+abbrev pub filled_by : (m : Areas) (q : Aimed) (t : ℕ) (c : Contents) (count : ℕ) → Rolled q c (heap_length m) count → ℕ → Filling
+filled_by m q t c count r k = filling m (rooms_at m c t) (index_on q c (heap_length m) count r) (size_on q c (heap_length m) count r) k
+
+-- The first objects of a roll are placed, and their moves are in the plan.
+pub record Underway (m : Areas) (q : Aimed) (t : ℕ) (c : Contents) (count : ℕ) (r : Rolled q c (heap_length m) count) (now : Contents) (k : ℕ) : Type 0 where
+  pub heap : (a : ℕ) → ((j : ℕ) → j < k → a ≢ q.laid.places.at (r.name j) + 2) → slice_index now.heap a ≡ slice_index c.heap a
+  pub unread : (j : ℕ) → k ≤ j → j < count → slice_index now.scratch (MOVE_WORDS * j) ≡ q.laid.places.at (r.name j)
+  pub rooms : (y : Space) → IsSpaceOf m y → room_in m now t (Some y) ≡ (filled_by m q t c count r k).rooms (space_index y)
+  pub free : length (free_pages c.heads c.pool) ≡ length (free_pages now.heads now.pool) + (filled_by m q t c count r k).claimed
+  pub moves : (j : ℕ) → j < k → ((move_at now.scratch j).old ≡ q.laid.places.at (r.name j)) × (space_index (move_at now.scratch j).space ≡ index_on q c (heap_length m) count r j)
