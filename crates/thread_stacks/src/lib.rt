@@ -95,8 +95,9 @@ mod tests {
 
     #[test]
     fn words_come_back_in_turn(rt: HostRuntime) -> Result<(), Fail> {
-        let Ok(mut image) = Image::new(rt.alloc(), 1, 1) else {
-            return Ok(());
+        let mut image = match Image::new(rt.alloc(), 1, 1) {
+            Ok(image) => image,
+            Err(error) => panic!(rt; "no heap: {error}"),
         };
         let map = image.map();
         assert_eq!(rt; push(&mut image, map, 1, 7), Ok(()));
