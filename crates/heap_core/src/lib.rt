@@ -36,8 +36,9 @@ mod tests {
     #[test]
     fn a_slot_that_crosses_is_recorded(rt: HostRuntime) -> Result<(), Fail> {
         for into_control in [false, true] {
-            let Ok(mut core) = Core::new(rt.alloc(), 4, 1) else {
-                return Ok(());
+            let mut core = match Core::new(rt.alloc(), 4, 1) {
+                Ok(core) => core,
+                Err(error) => panic!(rt; "no heap: {error}"),
             };
             assert_eq!(rt; core.step(1, Call::Begin).reply, Reply::Ok);
             assert_eq!(rt; core.step(1, Call::New(0)).reply, Reply::Ok);
@@ -54,10 +55,7 @@ mod tests {
     fn a_new_heap_answers(rt: HostRuntime) -> Result<(), Fail> {
         let mut core = match Core::new(rt.alloc(), 4, 1) {
             Ok(core) => core,
-            Err(error) => {
-                println!(rt; "{error}")?;
-                return Ok(());
-            }
+            Err(error) => panic!(rt; "no heap: {error}"),
         };
         assert_eq!(rt; core.step(1, Call::Int(7)).reply, Reply::Ok);
         assert_eq!(rt; core.step(1, Call::Store(0, 15, 1)).reply, Reply::Ok);
@@ -77,10 +75,7 @@ mod tests {
     fn two_threads_fill_the_heap(rt: HostRuntime) -> Result<(), Fail> {
         let mut core = match Core::new(rt.alloc(), 2, 2) {
             Ok(core) => core,
-            Err(error) => {
-                println!(rt; "{error}")?;
-                return Ok(());
-            }
+            Err(error) => panic!(rt; "no heap: {error}"),
         };
         assert_eq!(rt; core.step(2, Call::New(0)).reply, Reply::Ok);
         assert_eq!(rt; core.step(1, Call::New(234)).reply, Reply::Ok);

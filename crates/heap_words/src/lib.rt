@@ -56,10 +56,7 @@ mod tests {
     fn words_are_those_of_the_map(rt: HostRuntime) -> Result<(), Fail> {
         let mut image = match Image::new(rt.alloc(), 4, 1) {
             Ok(image) => image,
-            Err(error) => {
-                println!(rt; "{error}")?;
-                return Ok(());
-            }
+            Err(error) => panic!(rt; "no heap: {error}"),
         };
         let map = image.map();
         assert_eq!(rt; map.total(), 4468);

@@ -47,10 +47,7 @@ fn move_two<W: Words>(words: &mut W, map: Areas)
 fn objects_that_refer_to_each_other_are_moved(rt: HostRuntime) -> Result<(), Fail> {
     let mut image = match Image::new(rt.alloc(), 1, 1) {
         Ok(image) => image,
-        Err(error) => {
-            println!(rt; "{error}")?;
-            return Ok(());
-        }
+        Err(error) => panic!(rt; "no heap: {error}"),
     };
     let map = image.map();
     move_two(&mut image, map);

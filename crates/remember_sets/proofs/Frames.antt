@@ -1,4 +1,4 @@
-use Rattle.std.proofs.Common.{get_or-set_same, ◌≡◌, ℕ, ◌+◌, ◌-◌, ◌*◌, ◌≤◌, ◌<◌, List, length, get_or, set, refl, sym, ap, ◌∙◌, arith, length-take, length-drop}
+use Rattle.std.proofs.Common.{get_or-set_same, ◌≡◌, ℕ, ◌+◌, ◌-◌, List, length, set, refl, sym, ap, ◌∙◌, arith, length-take}
 use Rattle.std.proofs.lemmas.List.{set-set, set-get_or}
 use Rattle.heap_words.specs.declared.map.Areas.{Areas}
 use Rattle.heap_words.specs.declared.TheConstants.{HEAD_WORDS}
@@ -9,8 +9,7 @@ use Rattle.heap_words.proofs.Contents.{length-sets}
 use Rattle.yak_model.specs.Stands.{set_entries}
 use Rattle.remember_sets.specs.declared.TheConstants.{SET_ENTRIES}
 use Rattle.remember_sets.specs.Filed.{SetsHold, with_sets}
-use Rattle.remember_sets.proofs.Sets.{Whole, longer}
-use Rattle.remember_sets.proofs.Drops.{shorter}
+use Rattle.remember_sets.proofs.Sets.{Whole}
 
 length-heads : (m : Areas) (ws : List ℕ) → length ws ≡ total_of m → length (contents m ws).heads ≡ HEAD_WORDS
 unfolding contents cells

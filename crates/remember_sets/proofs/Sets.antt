@@ -1,4 +1,4 @@
-use Rattle.std.proofs.Common.{◌≡◌, ◌≢◌, ◌↔◌, ◌⊎◌, inl, inr, ℕ, ◌+◌, ◌-◌, ◌*◌, ◌≤◌, ◌<◌, List, ◌∷◌, take, length, get_or, set, eqb, true, refl, sym, ap, subst, ◌∙◌, arith, get_or-set_same, get_or-set_other, get_or-take, length-take, length-set}
+use Rattle.std.proofs.Common.{◌≡◌, ◌≢◌, ◌↔◌, ◌⊎◌, inl, inr, ℕ, ◌+◌, ◌-◌, ◌*◌, ◌≤◌, ◌<◌, List, ◌∷◌, take, length, get_or, set, eqb, true, sym, ap, subst, ◌∙◌, arith, get_or-set_same, get_or-set_other, get_or-take, length-take, length-set}
 use Rattle.std.specs.List.{AllPairs, Contains, list_any}
 use Rattle.std.proofs.lemmas.List.{get_or_default, length-take-le}
 use Rattle.std.proofs.lemmas.List.Elements.{All-weaker, All-contains_itself}

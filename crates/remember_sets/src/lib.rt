@@ -24,8 +24,9 @@ mod tests {
 
     #[test]
     fn slots_are_filed_once(rt: HostRuntime) -> Result<(), Fail> {
-        let Ok(mut image) = Image::new(rt.alloc(), 1, 1) else {
-            return Ok(());
+        let mut image = match Image::new(rt.alloc(), 1, 1) {
+            Ok(image) => image,
+            Err(error) => panic!(rt; "no heap: {error}"),
         };
         let map = image.map();
         let region = Space::Region {
@@ -40,6 +41,11 @@ mod tests {
         add_slot(&mut image, map, Addr(5));
         drop_slots_in(&mut image, map, Space::Control);
         assert_eq!(rt; entries(&mut image, map), 2);
+        assert_eq!(rt; log(&mut image, map, 1, Addr(7)), Ok(()));
+        assert_eq!(rt; log(&mut image, map, 1, Addr(9)), Ok(()));
+        file_logs(&mut image, map);
+        assert_eq!(rt; entries(&mut image, map), 3);
+        assert_eq!(rt; entry(&mut image, map, 2), Addr(7));
         Ok(())
     }
 }

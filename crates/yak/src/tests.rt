@@ -70,6 +70,22 @@ fn scripts_are_replayed_or_refused(rt: HostRuntime) -> Result<(), Fail> {
             "2 ok\n3 int 9223372036854775807\n",
         ),
         ("heap 4 1\n\t1  int\t7 \r\n1 get 1", 0, "2 ok\n3 int 7\n"),
+        ("heap 1 1\n1 new 234\n1 new 0\n", 0, "2 ok\n3 out of heap\n"),
+        (
+            "heap 4 2\n1 int 1\n2 int 2\n1 get 1\n2 get 1\n",
+            0,
+            "2 ok\n3 ok\n4 int 1\n5 int 2\n",
+        ),
+        (
+            "heap 2 2\n2 new 0\n1 new 234\n1 new 0\n2 dup 1\n2 same 1 2\n2 store 1 0 0\n",
+            0,
+            "2 ok\n3 ok\n4 out of heap\n5 ok\n6 yes\n7 bad field\n",
+        ),
+        (
+            "heap 4 1\n1 int 5\n1 load 1 0\n1 load 0 16\n1 get 2\n1 new 254\n1 pop\n1 pop\n1 pop\n1 get 0\n",
+            0,
+            "2 ok\n3 not a reference\n4 bad field\n5 bad slot\n6 too long\n7 ok\n8 ok\n9 stack empty\n10 bad slot\n",
+        ),
         ("", 2, "line 1: bad header\n"),
         ("heap 0 1", 2, "line 1: bad header\n"),
         ("heap 4 1\n2 pop", 2, "line 2: bad thread\n"),

@@ -1,4 +1,4 @@
-use Rattle.std.proofs.Common.{◌≡◌, ◌≢◌, ◌↔◌, ◌≤◌, ◌<◌, ◌+◌, ◌-◌, ◌*◌, ◌/◌, ℕ, List, get_or, arith, ap, subst, refl, ◌∙◌}
+use Rattle.std.proofs.Common.{◌≡◌, ◌≢◌, ◌↔◌, ◌<◌, ◌+◌, ◌-◌, ◌/◌, ℕ, List, get_or, arith, ap, subst, refl, ◌∙◌}
 use Rattle.heap_words.specs.Map.{page_words}
 use Rattle.heap_words.specs.Contents.{Contents, contents}
 use Rattle.epoch_lattice.specs.Lattice.{space_index}

@@ -1,9 +1,7 @@
-use Rattle.std.proofs.Common.{◌≡◌, ℕ, ◌+◌, ◌-◌, ◌*◌, ◌≤◌, ◌<◌, List, get_or, set, arith, ap, ◌∙◌}
+use Rattle.std.proofs.Common.{◌≡◌, ℕ, ◌+◌, ◌-◌, ap, ◌∙◌}
 use Rattle.heap_words.specs.Map.{heap_length}
 use Rattle.heap_words.specs.Contents.{Contents, contents, with_head, with_set}
-use Rattle.yak_model.specs.Stands.{set_entries}
 use Rattle.remember_sets.specs.declared.TheConstants.{SET_ENTRIES}
-use Rattle.remember_sets.specs.Filed.{SetsHold}
 use Rattle.remember_sets.proofs.Frames.{whole_sets, with_sets-shorter, removed}
 use Rattle.remember_sets.proofs.Drops.{Taken, taken, taken_filed_at, taken_before, taken_count}
 use Rattle.remember_sets.proofs.dropping.remove_entry.Goals as goal

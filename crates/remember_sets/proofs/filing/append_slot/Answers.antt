@@ -1,11 +1,9 @@
-use Rattle.std.proofs.Common.{◌≡◌, ℕ, ◌+◌, ◌*◌, ◌<◌, List, get_or, set, ap}
+use Rattle.std.proofs.Common.{◌≡◌, ℕ, ◌+◌, ap}
 use Rattle.heap_words.specs.Map.{heap_length}
 use Rattle.heap_words.specs.Contents.{Contents, contents, with_head, with_set}
-use Rattle.yak_model.specs.Stands.{set_entries}
 use Rattle.remember_sets.specs.declared.TheConstants.{SET_ENTRIES}
-use Rattle.remember_sets.specs.Filed.{SetsHold}
 use Rattle.remember_sets.proofs.Frames.{whole_sets, with_sets-longer, appended}
-use Rattle.remember_sets.proofs.Sets.{added, added_filed, longer}
+use Rattle.remember_sets.proofs.Sets.{added, added_filed}
 use Rattle.remember_sets.proofs.filing.append_slot.Goals as goal
 
 pub returns-clause-filed : goal.returns-clause-filed

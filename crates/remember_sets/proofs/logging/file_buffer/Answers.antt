@@ -1,8 +1,4 @@
-use Rattle.std.proofs.Common.{◌≡◌, ◌↔◌, ◌⊎◌, inl, ℕ, ◌+◌, ◌-◌, ◌*◌, ◌≤◌, ◌<◌, List, take, length, get_or, arith, ap, subst, ◌∙◌, sym, refl}
-use Rattle.std.proofs.Math.Logic.{⊎_elim}
-use Rattle.std.specs.List.{Contains}
-use Rattle.std.proofs.lemmas.List.Elements.{All-get_or}
-use Rattle.heap_words.specs.Map.{heap_length}
+use Rattle.std.proofs.Common.{◌≡◌, ◌↔◌, ◌⊎◌, ℕ, ◌≤◌, ◌<◌, List, length, get_or, arith, ap, subst, ◌∙◌}
 use Rattle.heap_words.specs.Contents.{Contents, contents, buffer_of}
 use Rattle.remember_sets.specs.Filed.{IsFiled, with_sets}
 use Rattle.remember_sets.proofs.Frames.{with_sets-same, with_sets-step}

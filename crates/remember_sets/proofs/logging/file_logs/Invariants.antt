@@ -1,7 +1,7 @@
 use Rattle.std.proofs.Common.{◌≡◌, ◌↔◌, ◌⊎◌, ◌≤◌, ◌+◌, ◌*◌, ℕ, List, take, length}
 use Rattle.std.specs.List.{Contains, flat_map}
-use Rattle.heap_words.specs.Contents.{Contents, contents, Sound}
-use Rattle.remember_sets.specs.Filed.{IsFiled, SetsHold, with_sets}
+use Rattle.heap_words.specs.Contents.{contents, Sound}
+use Rattle.remember_sets.specs.Filed.{IsFiled, SetsHold}
 use Rattle.remember_sets.proofs.Logs.{with_fewer_logs}
 use Rattle.remember_sets.proofs.logging.file_logs.Given as goal
 
