@@ -7,6 +7,8 @@ use Rattle.std.proofs.Math.Logic.{⊎_elim, ∥∥₁_elim}
 use Rattle.std.proofs.lemmas.List.{drop-set-lt, get_or_default, get_or-replicate, length-replicate}
 use Rattle.std.proofs.lemmas.List.Elements.{Contains-append_left, Contains-append_right, Contains-append_cases}
 use Rattle.object_layout.specs.declared.names.Name.{Name}
+use Rattle.object_layout.specs.declared.TheConstants.{OBJECT_WORDS}
+use Rattle.region_pages.specs.declared.TheConstants.{CLAIM_COUNTER, POOL_LENGTH}
 use Rattle.heap_words.specs.declared.map.Areas.{Areas}
 use Rattle.heap_words.specs.declared.TheConstants.{BUFFER_ENTRIES}
 use Rattle.heap_words.specs.Map.{HasThread, heap_length}
@@ -104,7 +106,7 @@ adds m c d t a ht long logs b =
 -- a field's slot is recorded, and what was recorded still is
 pub recorded-logged : (m : Areas) (c d : Contents) (s : State) (at : Name → ℕ) (t a : ℕ) → HasThread m t → length c.buffers ≡ m.threads → Logs m c d t a → d.readers ≡ c.readers → IsField at s a → RecordedAs m c s at → RecordedAs m d s at
 recorded-logged m c d s at t a ht long logs same field r = record {
-  crossing = λ n x o p f en lt e ex enters. (adds m c d t a ht long logs (at n + 3 + f)).1 (inl (r.crossing n x o p f en lt e ex enters));
+  crossing = λ n x o p f en lt e ex enters. (adds m c d t a ht long logs (at n + OBJECT_WORDS + f)).1 (inl (r.crossing n x o p f en lt e ex enters));
   fields = λ b h. ⊎_elim (λ (g : IsRecorded c.heads c.sets c.buffers b). r.fields b g) (λ (e : b ≡ a). subst (IsField at s) (sym e) field) ((adds m c d t a ht long logs b).0 h);
   read = λ v u e k x p hv hm hk q ex home ne. subst (λ rs. IsReader rs v u e) (sym same) (r.read v u e k x p hv hm hk q ex home ne);
   closed = λ u e hu hm he lt. ap (λ (rs : List (List ℕ)). get_or (get_or rs (u - 1) []) (e - 1) 0) same ∙ r.closed u e hu hm he lt;
@@ -120,7 +122,7 @@ recorded-same m c d s at same r =
     let forth : (a : ℕ) → IsRecorded d.heads d.sets d.buffers a → IsRecorded c.heads c.sets c.buffers a = λ a h. ⊎_elim (λ (f : Contains (take (set_entries d.heads) d.sets) a). inl (subst (λ (l : List ℕ). Contains l a) sets f)) (λ (f : Contains (entries_of d.buffers) a). inr (subst (λ (l : List (List ℕ)). Contains (entries_of l) a) same.buffers f)) h in
     let back : (a : ℕ) → IsRecorded c.heads c.sets c.buffers a → IsRecorded d.heads d.sets d.buffers a = λ a h. ⊎_elim (λ (f : Contains (take (set_entries c.heads) c.sets) a). inl (subst (λ (l : List ℕ). Contains l a) (sym sets) f)) (λ (f : Contains (entries_of c.buffers) a). inr (subst (λ (l : List (List ℕ)). Contains (entries_of l) a) (sym same.buffers) f)) h in
     record {
-      crossing = λ n x o p f en lt e ex enters. back (at n + 3 + f) (r.crossing n x o p f en lt e ex enters);
+      crossing = λ n x o p f en lt e ex enters. back (at n + OBJECT_WORDS + f) (r.crossing n x o p f en lt e ex enters);
       fields = λ b h. r.fields b (forth b h);
       read = λ v u e k x p hv hm hk q ex home ne. subst (λ rs. IsReader rs v u e) (sym same.readers) (r.read v u e k x p hv hm hk q ex home ne);
       closed = λ u e hu hm he lt. ap (λ (rs : List (List ℕ)). get_or (get_or rs (u - 1) []) (e - 1) 0) same.readers ∙ r.closed u e hu hm he lt;
@@ -131,8 +133,8 @@ recorded-same m c d s at same r =
 -- other filed slots and store buffers
 pub stands-with_logs : (m : Areas) (c : Contents) (s : State) (l : Places) (n : ℕ) (sets : List ℕ) (buffers : List (List ℕ)) → StandsAs m c s l → SetsStand m (set c.heads SET_ENTRIES n) sets → All (λ (es : List ℕ). length es ≤ BUFFER_ENTRIES) buffers → (let x : Contents = record c { heads = set c.heads SET_ENTRIES n; sets = sets; buffers = buffers } in StandsAs m x s l)
 stands-with_logs m c s l n sets buffers h stand few =
-    let claims : claim_counter (set c.heads SET_ENTRIES n) ≡ claim_counter c.heads = get_or-set_other c.heads SET_ENTRIES 1 n 0 (λ e. omega (arith, e)) in
-    let count : pool_length (set c.heads SET_ENTRIES n) ≡ pool_length c.heads = get_or-set_other c.heads SET_ENTRIES 2 n 0 (λ e. omega (arith, e)) in
+    let claims : claim_counter (set c.heads SET_ENTRIES n) ≡ claim_counter c.heads = get_or-set_other c.heads SET_ENTRIES CLAIM_COUNTER n 0 (λ e. omega (arith, e)) in
+    let count : pool_length (set c.heads SET_ENTRIES n) ≡ pool_length c.heads = get_or-set_other c.heads SET_ENTRIES POOL_LENGTH n 0 (λ e. omega (arith, e)) in
     let unused : unused_heads (set c.heads SET_ENTRIES n) ≡ unused_heads c.heads = drop-set-lt 4 c.heads SET_ENTRIES n (omega arith) in
     let free : free_pages (set c.heads SET_ENTRIES n) c.pool ≡ free_pages c.heads c.pool = rw (claims, count) refl in
     record {

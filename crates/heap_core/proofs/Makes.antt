@@ -31,6 +31,7 @@ use Rattle.yak_model.proofs.Placed.{same_name-self}
 use Rattle.yak_model.proofs.Stacks.{all-at, stack_length}
 use Rattle.region_pages.specs.Placement.{IsPlaced, IsPlacedInCurrent, IsPlacedOnClaimed, depth_in, words_left_at}
 use Rattle.region_pages.specs.declared.TheConstants.{CLAIM_COUNTER}
+use Rattle.remember_sets.specs.declared.TheConstants.{SET_ENTRIES}
 use Rattle.heap_core.specs.Records.{SameRecords}
 use Rattle.heap_core.specs.Room.{HasNoRoom, TakesPlace}
 use Rattle.heap_core.proofs.Recorded.{same_records, stacks_shown}
@@ -175,7 +176,7 @@ placed_records m c c1 t x size a placed = ⊎_elim
     })
     (λ (o : (words_left_at m c t (depth_in x) < size) × IsPlacedOnClaimed m c t x size a c1). record {
       filed = record {
-        entries = ap (λ (y : Contents). set_entries y.heads) o.1.changed ∙ get_or-set_other c.heads CLAIM_COUNTER 3 (claim_counter c.heads + 1) 0 (λ e. omega (arith, e));
+        entries = ap (λ (y : Contents). set_entries y.heads) o.1.changed ∙ get_or-set_other c.heads CLAIM_COUNTER SET_ENTRIES (claim_counter c.heads + 1) 0 (λ e. omega (arith, e));
         sets = ap (λ (y : Contents). y.sets) o.1.changed;
       };
       buffers = ap (λ (y : Contents). y.buffers) o.1.changed;

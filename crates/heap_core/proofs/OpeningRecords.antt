@@ -4,22 +4,23 @@ use Rattle.std.specs.List.{Contains}
 use Rattle.std.proofs.Math.Logic.{⊎_elim}
 use Rattle.object_layout.specs.declared.names.Name.{Name}
 use Rattle.heap_words.specs.declared.map.Areas.{Areas}
-use Rattle.heap_words.specs.Map.{IsAreas}
+use Rattle.heap_words.specs.Map.{IsAreas, max_depth}
 use Rattle.epoch_lattice.specs.declared.Space.TheVariants.{Control, Region}
 use Rattle.yak_model.specs.declared.datum.Datum.TheVariants.{Null, Object}
 use Rattle.yak_model.specs.Graph.{standard_limits}
 use Rattle.yak_model.specs.Spaces.{opening_spaces}
 use Rattle.yak_model.specs.State.{State, Thing}
 use Rattle.yak_model.specs.Recorded.{RecordedAs}
+use Rattle.heap_core.specs.declared.TheConstants.{ROOT_FIELDS}
 use Rattle.heap_core.specs.Opening.{Counts, opened}
 use Rattle.heap_core.specs.Records.{StandsRecorded}
 use Rattle.heap_core.proofs.Logged.{entries_of, none_left}
 use Rattle.heap_core.proofs.Opening.{nulls, only_root, opening, opening_stands, view-opening, zeros}
 
-no_readers : (k q d : ℕ) → get_or (get_or (replicate k (replicate 8 (let z : ℕ = 0 in z))) q []) d 0 ≡ 0
-no_readers zero q d = refl
-no_readers (suc k) zero d = zeros 8 d
-no_readers (suc k) (suc q) d = no_readers k q d
+no_readers : (k n q d : ℕ) → get_or (get_or (replicate k (replicate n (let z : ℕ = 0 in z))) q []) d 0 ≡ 0
+no_readers zero n q d = refl
+no_readers (suc k) n zero d = zeros n d
+no_readers (suc k) n (suc q) d = no_readers k n q d
 
 null_refers : (x : Name) → Null ≡ Object x → ⊥
 null_refers x e = cc
@@ -32,13 +33,13 @@ none_in a h = let lt : h.0 < 0 = h.1 in omega (arith, lt)
 
 recorded-opening : (m : Areas) (pool : List ℕ) (at : Name → ℕ) → RecordedAs m (opened m pool) (opening m) at
 recorded-opening m pool at = record {
-  crossing = λ n x o p f en lt e ex enters. absurd (null_refers x (sym (nulls 16 f) ∙ ap (λ (t : Thing). get_or t.fields f Null) (only_root n o en).1 ∙ e));
+  crossing = λ n x o p f en lt e ex enters. absurd (null_refers x (sym (nulls ROOT_FIELDS f) ∙ ap (λ (t : Thing). get_or t.fields f Null) (only_root n o en).1 ∙ e));
   fields = λ a h. absurd (⊎_elim
       (λ (f : Contains [] a). none_in a f)
       (λ (f : Contains (entries_of (replicate m.threads [])) a). none_left m.threads a f)
       h);
   read = λ t u d k x p ht hm hk e ex home ne. absurd (control_region u d (ap (λ (y : Thing). y.home) (only_root x p ex).1 ∙ home));
-  closed = λ u d hu hm hd lt. no_readers m.threads (u - 1) (d - 1);
+  closed = λ u d hu hm hd lt. no_readers m.threads (max_depth m) (u - 1) (d - 1);
 }
 
 pub opening_recorded : (m : Areas) (pool : List ℕ) → IsAreas m → length pool ≡ m.pages → Counts (m.pages - 1) pool → StandsRecorded m (opened m pool) (opening_spaces standard_limits m.threads)

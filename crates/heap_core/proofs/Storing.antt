@@ -22,6 +22,7 @@ use Rattle.yak_model.proofs.Data.{object_fields}
 use Rattle.yak_model.proofs.Joined.{stands_stored, stored, view-stored}
 use Rattle.yak_model.proofs.Stacks.{slot-fits, slot-word}
 use Rattle.yak_model.proofs.Stored.{stands-store}
+use Rattle.region_pages.specs.declared.TheConstants.{CLAIM_COUNTER, POOL_LENGTH}
 use Rattle.remember_sets.specs.declared.TheConstants.{SET_ENTRIES}
 use Rattle.remember_sets.specs.Filed.{SetsHold}
 use Rattle.heap_core.specs.Steps.{Turned}
@@ -53,8 +54,8 @@ is_stored m c e d t a w from to records rest sets new = subst (λ (x : Contents)
 -- the words take the room that they took
 stored_room : (m : Areas) (c d : Contents) (t a w : ℕ) (from to : Option Space) → IsStored m c d t a w from to → SameRoom c d
 stored_room m c d t a w from to done = record {
-  claims = ap (λ (x : Contents). claim_counter x.heads) done.rest ∙ get_or-set_other c.heads SET_ENTRIES 1 (set_entries d.heads) 0 (λ e. omega (arith, e));
-  pooled = ap (λ (x : Contents). pool_length x.heads) done.rest ∙ get_or-set_other c.heads SET_ENTRIES 2 (set_entries d.heads) 0 (λ e. omega (arith, e));
+  claims = ap (λ (x : Contents). claim_counter x.heads) done.rest ∙ get_or-set_other c.heads SET_ENTRIES CLAIM_COUNTER (set_entries d.heads) 0 (λ e. omega (arith, e));
+  pooled = ap (λ (x : Contents). pool_length x.heads) done.rest ∙ get_or-set_other c.heads SET_ENTRIES POOL_LENGTH (set_entries d.heads) 0 (λ e. omega (arith, e));
   pool = ap (λ (x : Contents). x.pool) done.rest;
   table = ap (λ (x : Contents). x.table) done.rest;
   currents = ap (λ (x : Contents). x.currents) done.rest;
