@@ -28,7 +28,8 @@ use Rattle.heap_walks.proofs.Works.{among_first}
 use Rattle.heap_walks.proofs.Stacks.{stack_size}
 use Rattle.escape_closure.specs.Sources.{IsReachedIn}
 use Rattle.escape_closure.specs.Raising.{Ended, EndsAt, HasSome, IsDueToScan, IsHere, IsSettled, TargetsStand}
-use Rattle.escape_closure.specs.Targets.{AreFiled, IsEscaping, TargetsWritten}
+use Rattle.forwarding.specs.Crossing.{AreFiled}
+use Rattle.escape_closure.specs.Targets.{IsEscaping, TargetsWritten}
 use Rattle.escape_closure.proofs.Counted.{counts_as, counts_none}
 use Rattle.escape_closure.proofs.Reaches.{inner_region, reached_here, reached_in, reached_of, target_of_least}
 

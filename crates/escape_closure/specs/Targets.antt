@@ -33,7 +33,3 @@ pub record TargetsWritten (m : Areas) (s : SpaceState) (l : Places) (t : ℕ) (c
   pub size : length d.heap ≡ length c.heap
   pub kept : (a : ℕ) → ((n : Name) → IsPresent s n → a ≢ work_word_at l n) → slice_index d.heap a ≡ slice_index c.heap a
   pub heap : HeapStands m d.table d.heap (object_of s) l (λ n. slice_index d.heap (work_word_at l n))
-
--- All store buffers are empty.
-abbrev pub AreFiled : List (List ℕ) → Type 0
-AreFiled buffers = All (λ (entries : List ℕ). entries ≡ []) buffers

@@ -9,7 +9,8 @@ ghost use Rattle.yak_model.specs.State.{object_of};
 ghost use Rattle.yak_model.specs.Stands.{Stands, set_entries, words_of};
 ghost use Rattle.yak_model.specs.Recorded.{Recorded};
 ghost use Rattle.escape_closure.specs.Raising.{Ended, EndsAt, TargetsStand};
-ghost use Rattle.escape_closure.specs.Targets.{AreFiled, TargetsWritten};
+ghost use Rattle.forwarding.specs.Crossing.{AreFiled};
+ghost use Rattle.escape_closure.specs.Targets.{TargetsWritten};
 
 use crate::raising::{Tally, drain};
 use crate::sources::{raise_readers, raise_slots, raise_stack};

@@ -4,3 +4,4 @@ pub mod Objects
 pub mod Room
 pub mod Opening
 pub mod Records
+pub mod Lawful

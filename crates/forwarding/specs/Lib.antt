@@ -1,0 +1,3 @@
+pub mod Corrected
+pub mod Crossing
+pub mod Reshaped
