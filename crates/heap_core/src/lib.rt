@@ -3,14 +3,16 @@
 
 mod barriers;
 mod calls;
+mod collections;
+mod endings;
 mod epochs;
 mod fields;
 mod made;
 mod objects;
 mod owned;
 mod slots;
+mod stub;
 
-pub use calls::is_built;
 pub use owned::{Core, Stepped};
 
 /// The fields of the root object.

@@ -1,6 +1,6 @@
 //! A heap that is owned, with its words.
 
-ghost use Rattle.std.specs.Prelude.{◌≡◌, ◌≤◌, ◌<◌, ◌+◌, ◌-◌, ◌↔◌, ℕ, false, IfOk, IfErr, None};
+ghost use Rattle.std.specs.Prelude.{◌≡◌, ◌≤◌, ◌<◌, ◌+◌, ◌-◌, ◌↔◌, ℕ, List, IfOk, IfErr};
 ghost use Rattle.object_layout.specs.Calls.{IsCall};
 ghost use Rattle.heap_words.specs.Map.{HasThread, IsAreas};
 ghost use Rattle.heap_words.specs.Contents.{contents, Sound};
@@ -8,9 +8,11 @@ ghost use Rattle.yak_model.specs.Graph.{standard_limits};
 ghost use Rattle.yak_model.specs.Spaces.{SpaceState, TurnsAll, opening_spaces};
 ghost use Rattle.yak_model.specs.Stands.{Stands};
 ghost use Rattle.yak_model.specs.Recorded.{Recorded};
-ghost use Rattle.heap_core.specs.Records.{Records, SomeRecorded, StandsRecorded};
-ghost use Rattle.heap_core.specs.Room.{TakesRoom};
-ghost use Rattle.heap_core.specs.Steps.{IsBuilt, entries};
+ghost use Rattle.yak_model.specs.History.{Entry};
+ghost use Rattle.heap_core.specs.Done.{CollectsWhere, EndsSo, FillsHeap, PacksControl, StepRecords, StepRoom, TellsFull, TellsPages, TellsShortage};
+ghost use Rattle.heap_core.specs.Lawful.{AreLawful, PackedIfAsked};
+ghost use Rattle.heap_core.specs.Records.{SomeRecorded, StandsRecorded};
+ghost use Rattle.heap_core.specs.Steps.{entries};
 
 use crate::calls::answer;
 use crate::made::open_words;
@@ -69,23 +71,21 @@ impl<W: Words> Core<W> {
     pub fn step(&mut self, thread: u8, call: Call) -> Stepped
         requires thread { HasThread self.old.map thread }
         requires number { IsCall call }
-        requires built { IsBuilt call }
         ensures turns { (s : SpaceState) (h : Stands self.old.map (contents self.old.map (W.words self.old.words)) s) → (after : SpaceState) × TurnsAll s (entries thread call result) after × (later : Stands self.new.map (contents self.new.map (W.words self.new.words)) after) × (Recorded self.old.map (contents self.old.map (W.words self.old.words)) s h → Recorded self.new.map (contents self.new.map (W.words self.new.words)) after later) }
-        ensures records { (s : SpaceState) (h : Stands self.old.map (contents self.old.map (W.words self.old.words)) s) → Records self.old.map s h.places.at (contents self.old.map (W.words self.old.words)) (contents self.new.map (W.words self.new.words)) thread call result.reply }
-        ensures room { TakesRoom self.old.map (contents self.old.map (W.words self.old.words)) (contents self.new.map (W.words self.new.words)) thread call result.reply }
-        ensures collected { result.collected ≡ false }
-        ensures full { result.full ≡ None }
-        ensures shortage { result.shortage ≡ None }
+        ensures lawful { (s : SpaceState) (h : Stands self.old.map (contents self.old.map (W.words self.old.words)) s) → Recorded self.old.map (contents self.old.map (W.words self.old.words)) s h → (before : List Entry) → PackedIfAsked self.old.map (contents self.old.map (W.words self.old.words)) s h before → AreLawful self.old.map.pages before s (entries thread call result) }
+        ensures collected { (s : SpaceState) (h : Stands self.old.map (contents self.old.map (W.words self.old.words)) s) → CollectsWhere self.old.map (contents self.old.map (W.words self.old.words)) s h thread call result.reply result.collected }
+        ensures full { TellsFull (contents self.new.map (W.words self.new.words)) result.reply result.full }
+        ensures filled { (s : SpaceState) (h : Stands self.new.map (contents self.new.map (W.words self.new.words)) s) → FillsHeap self.new.map (contents self.new.map (W.words self.new.words)) s h thread call result.reply }
+        ensures shortage { (s : SpaceState) → Stands self.old.map (contents self.old.map (W.words self.old.words)) s → TellsShortage self.old.map s thread result.reply result.shortage }
+        ensures ended { EndsSo self.old.map (contents self.old.map (W.words self.old.words)) (contents self.new.map (W.words self.new.words)) thread call result }
+        ensures census { TellsPages (contents self.old.map (W.words self.old.words)) call result.reply }
+        ensures packed { (s : SpaceState) (h : Stands self.new.map (contents self.new.map (W.words self.new.words)) s) → PacksControl self.new.map (contents self.new.map (W.words self.new.words)) s h call }
+        ensures records { (s : SpaceState) (h : Stands self.old.map (contents self.old.map (W.words self.old.words)) s) → StepRecords self.old.map s h.places.at (contents self.old.map (W.words self.old.words)) (contents self.new.map (W.words self.new.words)) thread call result.reply result.collected }
+        ensures room { StepRoom self.old.map (contents self.old.map (W.words self.old.words)) (contents self.new.map (W.words self.new.words)) thread call result.reply result.collected }
         ensures map { self.new.map ≡ self.old.map }
         ensures base { W.base self.new.words ≡ W.base self.old.words }
     {
-        let reply = answer(&mut self.words, self.map, thread, call);
-        Stepped {
-            reply,
-            collected: false,
-            full: None,
-            shortage: None,
-        }
+        answer(&mut self.words, self.map, thread, call)
     }
 
     /// The number of threads.
