@@ -20,3 +20,6 @@ pub mod Marks
 pub mod Loads
 pub mod Storing
 pub mod OpeningRecords
+pub mod Gathered
+pub mod Bounds
+pub mod Plainly

@@ -144,5 +144,5 @@ pub record Done (m : Areas) (was now : Contents) (t : ℕ) (asked : Call) (said 
   pub ended : EndsSo m was now t asked said
   pub counts : TellsPages was asked said.reply
   pub packed : (s : SpaceState) (h : Stands m now s) → PacksControl m now s h asked
-  pub records : (s : SpaceState) (h : Stands m was s) → StepRecords m s h.places.at was now t asked said.reply said.collected
+  pub records : (s : SpaceState) (h : Stands m was s) → Recorded m was s h → StepRecords m s h.places.at was now t asked said.reply said.collected
   pub room : StepRoom m was now t asked said.reply said.collected

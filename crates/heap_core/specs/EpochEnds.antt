@@ -49,10 +49,14 @@ pub record ShortAtFirst (m : Areas) (was now : Contents) (s : SpaceState) (stand
   pub short : RegionShort m was first s stands t found
   pub ends : CollectedAs m first now s t said shortage
 
--- An end without a collection isn't tight: the free pages were enough. Otherwise they were too few at the call.
+-- An end without a collection isn't tight: the free pages were enough.
+abbrev pub EndsAtOnce : (m : Areas) (was now : Contents) (s : SpaceState) → Stands m was s → ℕ → Reply → Option Shortage → Type 0
+EndsAtOnce m was now s stands t (Ended moved false) None = RegionEnded m was now s stands t moved
+EndsAtOnce m was now s stands t said shortage = ⊥
+
+-- An end makes a collection exactly where the free pages were too few at the call.
 abbrev pub EndsAs : (m : Areas) (was now : Contents) (s : SpaceState) → Stands m was s → ℕ → Reply → Bool → Option Shortage → Type 0
-EndsAs m was now s stands t (Ended moved false) false None = RegionEnded m was now s stands t moved
-EndsAs m was now s stands t said false shortage = ⊥
+EndsAs m was now s stands t said false shortage = EndsAtOnce m was now s stands t said shortage
 EndsAs m was now s stands t said true shortage = ShortAtFirst m was now s stands t said shortage
 
 -- What a call that ends an epoch does. Where the thread has none open it is refused, and changes nothing.
