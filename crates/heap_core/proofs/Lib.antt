@@ -23,3 +23,5 @@ pub mod OpeningRecords
 pub mod Gathered
 pub mod Bounds
 pub mod Plainly
+pub mod StepsMade
+pub mod StepsEnded

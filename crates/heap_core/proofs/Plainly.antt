@@ -15,7 +15,7 @@ use Rattle.yak_model.specs.declared.datum.Datum.TheVariants as datum
 use Rattle.yak_model.specs.Graph.{Does, Graph, answers, refusal_of, shown}
 use Rattle.yak_model.specs.History.{Entry, Said}
 use Rattle.yak_model.specs.Lawful.{IsReplyLawful}
-use Rattle.yak_model.specs.Spaces.{SpaceState}
+use Rattle.yak_model.specs.Spaces.{SpaceState, Turns}
 use Rattle.yak_model.specs.Stands.{Stands}
 use Rattle.heap_core.specs.Done.{CollectsWhere, Done, EndsSo, FillsHeap, PacksControl, StepRecords, StepRoom, TellsPages}
 use Rattle.heap_core.specs.Records.{Records, SomeRecorded}
@@ -118,8 +118,37 @@ parts m was now t call.Collect said p = absurd p
 parts m was now t call.Census said p = absurd p
 
 -- the reply of a plain call, by the turn that it takes
-quiet-turn : (s after : SpaceState) (t : ℕ) (asked : Call) (said : Reply) → IsPlain asked → answers s.graph t asked said after.graph → IsQuiet said
-quiet-turn s after t asked said p h = quiet-either s.graph after.graph t asked said (refusal_of s.graph t asked) p h
+turn-answers : (s after : SpaceState) (t : ℕ) (asked : Call) (said : Reply) → IsPlain asked → Turns s (Said t asked said) after → answers s.graph t asked said after.graph
+turn-answers s after t (call.Int i) said p h = h.1
+turn-answers s after t call.Null said p h = h.1
+turn-answers s after t (call.Dup x) said p h = h.1
+turn-answers s after t call.Pop said p h = h.1
+turn-answers s after t (call.New k) said p h = absurd p
+turn-answers s after t (call.Load x f) said p h = h.1
+turn-answers s after t (call.Store x f y) said p h = h.1
+turn-answers s after t (call.Get x) said p h = h.1
+turn-answers s after t (call.Same x y) said p h = h.1
+turn-answers s after t call.Begin said p h = h.1
+turn-answers s after t call.End said p h = absurd p
+turn-answers s after t call.Collect said p h = absurd p
+turn-answers s after t call.Census said p h = absurd p
+
+quiet-prop : (said : Reply) → IsProp (IsQuiet said)
+quiet-prop reply.Ok = hlevel props
+quiet-prop reply.Null = hlevel props
+quiet-prop (reply.Int i) = hlevel props
+quiet-prop (reply.Object n) = hlevel props
+quiet-prop reply.Yes = hlevel props
+quiet-prop reply.No = hlevel props
+quiet-prop (reply.Ended moved tight) = hlevel props
+quiet-prop (reply.Pages free region control) = hlevel props
+quiet-prop reply.OutOfHeap = hlevel props
+quiet-prop (reply.Refused why) = hlevel props
+
+pub some-quiet : (m : Areas) (was now : Contents) (t : ℕ) (asked : Call) (said : Reply) → IsPlain asked → SomeRecorded m was → Turned m was now t asked said → IsQuiet said
+some-quiet m was now t asked said p some h = ∥∥₁_elim some (quiet-prop said) (λ q.
+    let turned = h.turns q.0 q.1 in
+    quiet-either q.0.graph turned.1.0.graph t asked said (refusal_of q.0.graph t asked) p (turn-answers q.0 turned.1.0 t asked said p turned.1.1))
 
 -- all that a plain step does
 pub plainly : (m : Areas) (was now : Contents) (t : ℕ) (asked : Call) (said : Reply) → IsPlain asked → IsQuiet said → Turned m was now t asked said → Done m was now t asked (plain said)

@@ -13,7 +13,6 @@ use Rattle.heap_words.specs.Contents.{Contents}
 use Rattle.epoch_lattice.specs.declared.Space.TheVariants.{Control}
 use Rattle.yak_model.specs.History.{Entry}
 use Rattle.yak_model.specs.Spaces.{SpaceState}
-use Rattle.yak_model.specs.Placed.{Places}
 use Rattle.yak_model.specs.Stands.{Stands}
 use Rattle.yak_model.specs.Recorded.{Recorded}
 use Rattle.yak_model.specs.Packed.{IsFull, IsPacked}
@@ -22,17 +21,13 @@ use Rattle.forwarding.specs.Crossing.{AreFiled}
 use Rattle.escape_closure.specs.Ends.{FallsShort, HasEnough}
 use Rattle.heap_core.specs.declared.owned.Stepped.{Stepped}
 use Rattle.heap_core.specs.Collecting.{CountsFull, counted}
-use Rattle.heap_core.specs.EpochEnds.{IsEnd}
+use Rattle.heap_core.specs.EpochEnds.{IsEnd, IsShort}
 use Rattle.heap_core.specs.Lawful.{AreLawful, PackedIfAsked}
 use Rattle.heap_core.specs.Records.{Records, SameRecords}
 use Rattle.heap_core.specs.Room.{HasNoRoom, SameRoom, TakesPlace, TakesRoom}
 use Rattle.heap_core.specs.Steps.{TurnsTo, entries}
 
 -- ---- when a step collects
-
--- The objects that escape need more pages than are free.
-abbrev pub IsShort : Areas → Contents → SpaceState → Places → ℕ → Type 0
-IsShort m c s l t = (shortage : Shortage) × FallsShort m c s l t shortage
 
 -- A collection is made for an object exactly where it doesn't fit the thread's current page and no page is free at the call.
 abbrev pub CollectsForNew : Areas → Contents → ℕ → ℕ → Reply → Bool → Type 0

@@ -7,12 +7,17 @@ use Rattle.object_layout.specs.declared.replies.Shortage.{Shortage}
 use Rattle.heap_words.specs.declared.map.Areas.{Areas}
 use Rattle.heap_words.specs.Contents.{Contents, depth_of}
 use Rattle.yak_model.specs.Spaces.{SpaceState}
+use Rattle.yak_model.specs.Placed.{Places}
 use Rattle.yak_model.specs.Stands.{Stands}
 use Rattle.yak_model.specs.Recorded.{Recorded}
 use Rattle.mark_compact.specs.Collected.{RoomCollected, StateCollected}
 use Rattle.escape_closure.specs.Ends.{FallsShort, RegionEnded, RegionShort, TightEnded}
 use Rattle.heap_core.specs.declared.owned.Stepped.{Stepped}
 use Rattle.heap_core.specs.Steps.{plain}
+
+-- The objects that escape need more pages than are free.
+abbrev pub IsShort : Areas → Contents → SpaceState → Places → ℕ → Type 0
+IsShort m c s l t = (shortage : Shortage) × FallsShort m c s l t shortage
 
 -- After a collection the free pages were enough for the objects that escape.
 pub record EndedAfter (m : Areas) (was now : Contents) (s : SpaceState) (t moved : ℕ) : Type 0 where
