@@ -25,3 +25,4 @@ pub mod Bounds
 pub mod Plainly
 pub mod StepsMade
 pub mod StepsEnded
+pub mod Recognized
