@@ -20,3 +20,4 @@ pub mod Marks
 pub mod Loads
 pub mod Storing
 pub mod OpeningRecords
+pub mod Bounds
