@@ -20,4 +20,6 @@ pub mod Marks
 pub mod Loads
 pub mod Storing
 pub mod OpeningRecords
+pub mod RoomsSums
+pub mod RoomsOpen
 pub mod Bounds
