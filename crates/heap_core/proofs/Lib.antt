@@ -22,4 +22,5 @@ pub mod Storing
 pub mod OpeningRecords
 pub mod RoomsSums
 pub mod RoomsOpen
+pub mod RoomsNames
 pub mod Bounds
