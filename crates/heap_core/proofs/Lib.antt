@@ -23,4 +23,5 @@ pub mod OpeningRecords
 pub mod RoomsSums
 pub mod RoomsOpen
 pub mod RoomsNames
+pub mod RoomsPages
 pub mod Bounds
