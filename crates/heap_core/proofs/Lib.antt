@@ -24,4 +24,5 @@ pub mod RoomsSums
 pub mod RoomsOpen
 pub mod RoomsNames
 pub mod RoomsPages
+pub mod RoomsPlaced
 pub mod Bounds
