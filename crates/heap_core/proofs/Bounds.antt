@@ -4,25 +4,27 @@ use Rattle.std.proofs.Math.Logic.{⊎_elim}
 use Rattle.std.specs.List.{Contains, sum_by}
 use Rattle.std.proofs.lemmas.Bool.{cases_eq}
 use Rattle.std.proofs.lemmas.List.Sums.{sum_by-cons}
+use Rattle.object_layout.specs.declared.replies.Shortage.{Shortage}
 use Rattle.heap_words.specs.declared.map.Areas.{Areas}
-use Rattle.heap_words.specs.Map.{IsAreas, page_words}
+use Rattle.heap_words.specs.Map.{HasThread, IsAreas, page_words}
 use Rattle.heap_words.specs.Contents.{Contents}
 use Rattle.epoch_lattice.specs.declared.Space.{Space}
 use Rattle.epoch_lattice.specs.declared.Space.TheVariants.{Control, Region}
-use Rattle.yak_model.specs.Graph.{Limits, standard_limits}
+use Rattle.yak_model.specs.Graph.{Limits, standard_limits, thread_of}
 use Rattle.yak_model.specs.History.{Entry}
-use Rattle.yak_model.specs.Lawful.{EndsAsked, IsCensus, control_words, open_regions, present_words, region_words}
-use Rattle.yak_model.specs.Spaces.{SpaceState}
+use Rattle.yak_model.specs.Lawful.{EndsAsked, HasWords, IsCensus, control_words, open_regions, present_words, region_words}
+use Rattle.yak_model.specs.Spaces.{Escapes, SpaceState, innermost}
 use Rattle.yak_model.specs.State.{object_of, view}
 use Rattle.yak_model.specs.Stands.{Stands, free_pages, pages_of, words_of}
 use Rattle.yak_model.specs.Packed.{IsFull, IsPacked, IsSpaceOf}
 use Rattle.region_pages.specs.Counts.{regions_in}
 use Rattle.region_pages.proofs.Counting.{free_is, parts}
+use Rattle.escape_closure.specs.Ends.{FallsShort}
 use Rattle.heap_core.specs.Lawful.{PackedIfAsked}
 use Rattle.heap_core.proofs.RoomsOpen.{open_spaces, regions_of}
 use Rattle.heap_core.proofs.RoomsNames.{present-paged}
 use Rattle.heap_core.proofs.RoomsPages.{control-fits, control-words, packed-together, pages-counted, region-fits, region-own, regions-counted, regions-within, spaces-once, words-once}
-use Rattle.yak_model.proofs.Lists.{contains_cases}
+use Rattle.heap_core.proofs.RoomsEscaped.{escaped_words, has-words, needed-most}
 
 -- regions are packed in all words that stand for a state
 pub regions-packed : (m : Areas) (c : Contents) (s : SpaceState) (h : Stands m c s) (x : Space) → IsSpaceOf m x → x ≢ Control → IsPacked m c s h x
@@ -76,3 +78,14 @@ census-bound m c s h before areas long packed =
           let control : page_words m * pages_of c.table Control ≤ 2 * words_of h.places.pages (object_of s) Control + page_words m = packed asked in
           rw page (omega (arith, control, control-words m c s h));
     }
+
+-- what falls short at an end, where Control is packed
+pub tight-bound : (m : Areas) (c : Contents) (s : SpaceState) (h : Stands m c s) (t : ℕ) (shortage : Shortage) → IsAreas m → HasThread m t → 0 < (thread_of s.graph t).depth → IsPacked m c s h Control → FallsShort m c s h.places t shortage
+    → (escaped : ℕ) × HasWords s (Escapes s t (innermost s.graph t)) escaped × (s.graph.limits.page * m.pages < (2 * present_words s + 2 * escaped) + 2 * s.graph.limits.page * (open_regions s + 1))
+tight-bound m c s h t shortage areas has some packed short =
+    let escaped : ℕ = escaped_words m c s h t short.count areas has some short.order in
+    let needed = needed-most m c s h t short.count areas has some short.order in
+    let counted = pages-counted m c s h in
+    let together = spaces-together m c s h packed in
+    let many = regions-counted m c s h in
+    (escaped, has-words m c s h t short.count areas has some short.order, rw (page_limit m s h.whole.limits) (omega (arith, needed, counted, together, many, short.needed, short.free, short.more)))

@@ -25,4 +25,5 @@ pub mod RoomsOpen
 pub mod RoomsNames
 pub mod RoomsPages
 pub mod RoomsPlaced
+pub mod RoomsEscaped
 pub mod Bounds

@@ -76,7 +76,7 @@ listed-distinct (ns ∷ rest) once =
     omega (arith, r.0))
 
 -- ---- the keys of a finite map
-abbrev keys_of : {X : Type 0} → List (Name × X) → List Name
+abbrev pub keys_of : {X : Type 0} → List (Name × X) → List Name
 keys_of {X} es = map (λ (e : Name × X). e.0) es
 
 first : (a b : Bool) → T (a && b) → T a
