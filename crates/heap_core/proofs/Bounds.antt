@@ -1,7 +1,7 @@
 -- What lawful histories bound: the words of a full heap, the numbers of a census, and what falls short at an end.
-use Rattle.std.proofs.Common.{◌≡◌, ◌≢◌, ◌⊎◌, ◌==◌, ℕ, ◌+◌, ◌-◌, ◌*◌, ◌≤◌, ◌<◌, List, [], length, refl, sym, ap, subst, ◌∙◌, arith}
+use Rattle.std.proofs.Common.{◌≡◌, ◌≢◌, ℕ, ◌+◌, ◌*◌, ◌≤◌, ◌<◌, List, length, refl, ap, arith}
 use Rattle.std.proofs.Math.Logic.{⊎_elim}
-use Rattle.std.specs.List.{Contains, sum_by}
+use Rattle.std.specs.List.{sum_by}
 use Rattle.std.proofs.lemmas.Bool.{cases_eq}
 use Rattle.std.proofs.lemmas.List.Sums.{sum_by-cons}
 use Rattle.object_layout.specs.declared.replies.Shortage.{Shortage}
@@ -12,7 +12,7 @@ use Rattle.epoch_lattice.specs.declared.Space.{Space}
 use Rattle.epoch_lattice.specs.declared.Space.TheVariants.{Control, Region}
 use Rattle.yak_model.specs.Graph.{Limits, standard_limits, thread_of}
 use Rattle.yak_model.specs.History.{Entry}
-use Rattle.yak_model.specs.Lawful.{EndsAsked, HasWords, IsCensus, control_words, open_regions, present_words, region_words}
+use Rattle.yak_model.specs.Lawful.{HasWords, IsCensus, open_regions, present_words}
 use Rattle.yak_model.specs.Spaces.{Escapes, SpaceState, innermost}
 use Rattle.yak_model.specs.State.{object_of, view}
 use Rattle.yak_model.specs.Stands.{Stands, free_pages, pages_of, words_of}

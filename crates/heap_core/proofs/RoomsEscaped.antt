@@ -1,5 +1,5 @@
 -- The objects that escape at an end: their targets are open spaces, and their words.
-use Rattle.std.proofs.Common.{◌≡◌, ◌≢◌, ◌⊎◌, ◌↔◌, ◌==◌, ℕ, zero, suc, ◌+◌, ◌-◌, ◌*◌, ◌≤◌, ◌<◌, Bool, true, false, cond, Option, Some, None, List, [], ◌∷◌, length, get_or, refl, sym, ap, subst, ◌∙◌, arith, inl, inr}
+use Rattle.std.proofs.Common.{◌≡◌, ◌≢◌, ◌↔◌, ℕ, zero, suc, ◌+◌, ◌-◌, ◌*◌, ◌≤◌, ◌<◌, Bool, true, false, cond, Some, List, [], ◌∷◌, length, get_or, refl, sym, ap, subst, ◌∙◌, arith}
 use Rattle.std.specs.Prelude.{IsTrue, eqb, min}
 use Rattle.std.proofs.Math.Logic.{⊎_elim}
 use Rattle.std.specs.Bool.{Decides}
@@ -23,7 +23,7 @@ use Rattle.epoch_lattice.specs.Lattice.{IsBelow, IsValid, parent_of, space_index
 use Rattle.yak_model.specs.Names.{name_cmp}
 use Rattle.yak_model.specs.Graph.{Content, size_of, thread_of}
 use Rattle.yak_model.specs.Lawful.{HasWords}
-use Rattle.yak_model.specs.Spaces.{Escapes, Source, SpaceState, field, home_of, innermost, other, own}
+use Rattle.yak_model.specs.Spaces.{Escapes, Source, SpaceState, field, innermost, other, own}
 use Rattle.yak_model.specs.State.{IsOpen, Thing, object_of, view}
 use Rattle.yak_model.specs.Placed.{size_by}
 use Rattle.yak_model.specs.Stands.{Stands}
@@ -39,7 +39,7 @@ use Rattle.heap_core.proofs.Named.{depth-shown}
 use Rattle.heap_core.proofs.RoomsSums.{Distinct, contains_first, sum-inside, sum-same}
 use Rattle.heap_core.proofs.RoomsOpen.{hits, open-listed, open_spaces}
 use Rattle.heap_core.proofs.RoomsNames.{entry-size, keys_of, shown-key, sum-keys}
-use Rattle.heap_core.proofs.RoomsPages.{regions-counted, spaces-once}
+use Rattle.heap_core.proofs.RoomsPages.{spaces-once}
 use Rattle.heap_core.proofs.RoomsPlaced.{claims-most, rooms-most, words_before}
 
 -- ---- targets are open

@@ -1,5 +1,5 @@
 -- The objects of a state by their entries, and by the names of the pages.
-use Rattle.std.proofs.Common.{◌≡◌, ◌≢◌, ◌⊎◌, ◌==◌, ◌&&◌, ℕ, zero, suc, ◌+◌, ◌-◌, ◌*◌, ◌≤◌, ◌<◌, Bool, true, false, cond, Option, Some, None, List, [], ◌∷◌, ◌++◌, map, length, get_or, is_some, refl, sym, ap, subst, ◌∙◌, arith, inl, inr}
+use Rattle.std.proofs.Common.{◌≡◌, ◌≢◌, ◌==◌, ◌&&◌, ℕ, zero, suc, ◌+◌, ◌<◌, Bool, true, false, cond, Option, Some, None, List, [], ◌∷◌, ◌++◌, map, length, get_or, is_some, refl, sym, ap, subst, ◌∙◌, arith}
 use Rattle.std.specs.Prelude.{T}
 use Rattle.std.proofs.Math.Logic.{⊎_elim}
 use Rattle.std.specs.FinMap as finite
@@ -9,7 +9,6 @@ use Rattle.std.specs.Cmp.{tied_itself}
 use Rattle.std.specs.Ordering.{is_lt}
 use Rattle.std.specs.List.{Contains, sum_by}
 use Rattle.std.proofs.lemmas.Bool.Decides.{nat_tests}
-use Rattle.std.proofs.lemmas.List.{get_or_default}
 use Rattle.std.proofs.lemmas.List.Elements.{Contains-append_cases, Contains-append_left, Contains-append_right}
 use Rattle.std.proofs.lemmas.List.Sums.{sum_by-cons, sum_by-append}
 use Rattle.object_layout.specs.declared.names.Name.{Name}
@@ -22,8 +21,8 @@ use Rattle.epoch_lattice.specs.Lattice.{space_index}
 use Rattle.yak_model.specs.Names.{name_cmp}
 use Rattle.yak_model.specs.Graph.{Content, Fields, fields_of, size_of}
 use Rattle.yak_model.specs.Spaces.{SpaceState, content_at, home_of}
-use Rattle.yak_model.specs.State.{Thing, object_of, thing_of, view}
-use Rattle.yak_model.specs.Placed.{IsAt, Places, names_of, size_by, words_by}
+use Rattle.yak_model.specs.State.{Thing, object_of, thing_of}
+use Rattle.yak_model.specs.Placed.{size_by, words_by}
 use Rattle.yak_model.specs.Stands.{IsWhole, Stands, words_in}
 use Rattle.yak_model.specs.Lawful.{control_words, is_control, present_words, region_words}
 use Rattle.yak_model.proofs.Lists.{contains_cases, contains_cons}

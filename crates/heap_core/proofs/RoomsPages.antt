@@ -1,5 +1,5 @@
 -- The pages of all spaces, and the words in them.
-use Rattle.std.proofs.Common.{◌≡◌, ◌≢◌, ◌⊎◌, ◌==◌, ℕ, zero, suc, ◌+◌, ◌-◌, ◌*◌, ◌≤◌, ◌<◌, Bool, true, false, cond, nat_eq, nat_lt, Option, Some, None, List, [], ◌∷◌, length, get_or, slice_index, refl, sym, ap, subst, ◌∙◌, arith, inl, inr}
+use Rattle.std.proofs.Common.{◌≡◌, ◌≢◌, ◌⊎◌, ◌==◌, ℕ, ◌+◌, ◌*◌, ◌≤◌, ◌<◌, Bool, true, false, cond, nat_eq, nat_lt, Option, Some, None, List, [], ◌∷◌, length, slice_index, refl, sym, subst, ◌∙◌, arith, inl, inr}
 use Rattle.std.proofs.Math.Logic.{⊎_elim}
 use Rattle.std.specs.List.{All, Contains, count_by, range_with_len, sum_by}
 use Rattle.std.specs.Set.{is_member}
@@ -10,20 +10,19 @@ use Rattle.std.proofs.lemmas.List.Sums.{sum_by-cons, length-filter}
 use Rattle.std.proofs.lemmas.Map.Made.{length-from_same_keys, is_member-Decides, IsDistinct-from_AllPairs}
 use Rattle.object_layout.specs.declared.names.Name.{Name}
 use Rattle.heap_words.specs.declared.map.Areas.{Areas}
-use Rattle.heap_words.specs.Map.{max_depth, page_words}
-use Rattle.heap_words.specs.Cells.{row}
+use Rattle.heap_words.specs.Map.{page_words}
 use Rattle.heap_words.specs.Contents.{Contents}
 use Rattle.epoch_lattice.specs.declared.Space.{Space}
 use Rattle.epoch_lattice.specs.declared.Space.TheVariants.{Control, Region}
 use Rattle.epoch_lattice.specs.declared.TheConstants.{MAX_DEPTH}
 use Rattle.epoch_lattice.specs.Lattice.{space_index}
 use Rattle.yak_model.specs.Graph.{Thread}
-use Rattle.yak_model.specs.Spaces.{SpaceState, home_of}
+use Rattle.yak_model.specs.Spaces.{SpaceState}
 use Rattle.yak_model.specs.State.{IsOpen, Thing, object_of, view}
 use Rattle.yak_model.specs.Placed.{IsAt, names_of, size_by, space_word, words_by}
 use Rattle.yak_model.specs.Stands.{Stands, free_pages, pages_of, words_in, words_of}
 use Rattle.yak_model.specs.Packed.{IsPacked, IsSpaceOf}
-use Rattle.yak_model.specs.Lawful.{control_words, is_control, open_regions, present_words, region_words}
+use Rattle.yak_model.specs.Lawful.{control_words, is_control, open_regions, region_words}
 use Rattle.region_pages.specs.Counts.{regions_in}
 use Rattle.region_pages.specs.Freeing.{free_below}
 use Rattle.region_pages.proofs.Counting.{below_contains, below_once}

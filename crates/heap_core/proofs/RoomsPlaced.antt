@@ -1,7 +1,7 @@
 -- The pages that are claimed while objects are placed in open spaces.
-use Rattle.std.proofs.Common.{◌≡◌, ◌≢◌, ◌⊎◌, ◌==◌, ℕ, zero, suc, ◌+◌, ◌-◌, ◌*◌, ◌≤◌, ◌<◌, Bool, true, false, cond, nat_le, Option, Some, None, List, [], ◌∷◌, length, refl, sym, ap, subst, ◌∙◌, arith, inl, inr}
+use Rattle.std.proofs.Common.{◌≡◌, ◌≢◌, ◌==◌, ℕ, zero, suc, ◌+◌, ◌-◌, ◌*◌, ◌≤◌, ◌<◌, Bool, true, false, cond, nat_le, Option, Some, None, List, [], ◌∷◌, length, refl, ap, arith}
 use Rattle.std.proofs.Math.Logic.{⊎_elim}
-use Rattle.std.specs.List.{Contains, sum_by}
+use Rattle.std.specs.List.{sum_by}
 use Rattle.std.proofs.lemmas.Bool.{cases_eq}
 use Rattle.std.proofs.lemmas.Bool.Decides.{nat_tests}
 use Rattle.std.proofs.lemmas.List.Sums.{sum_by-cons, sum_by-le}
@@ -13,8 +13,8 @@ use Rattle.epoch_lattice.specs.declared.Space.TheVariants.{Control, Region}
 use Rattle.epoch_lattice.specs.Lattice.{space_index, space_of}
 use Rattle.yak_model.specs.Placed.{used_mark}
 use Rattle.yak_model.specs.Stands.{current}
-use Rattle.escape_closure.specs.Placing.{Filling, claims, filled, filling, left, room_in, rooms_at}
-use Rattle.heap_core.proofs.RoomsOpen.{hit, hit-other, hit-own, hits, hits-cons}
+use Rattle.escape_closure.specs.Placing.{Filling, filling, left, room_in, rooms_at}
+use Rattle.heap_core.proofs.RoomsOpen.{hit-other, hit-own, hits, hits-cons}
 
 -- a sum over a list that has a number once, where its term is another
 own-term : (a b v w : ℕ) → a ≡ b → cond (a == b) v w ≡ v
