@@ -26,3 +26,9 @@ pub mod Plainly
 pub mod StepsMade
 pub mod StepsEnded
 pub mod Recognized
+pub mod RoomsSums
+pub mod RoomsOpen
+pub mod RoomsNames
+pub mod RoomsPages
+pub mod RoomsPlaced
+pub mod RoomsEscaped
