@@ -164,10 +164,10 @@ done-collected m was now t ht rows some h = record {
 }
 
 -- a census
-pub done-counted : (m : Areas) (c : Contents) (t : ℕ) → IsAreas m → HasThread m t → Done m c c t call.Census (plain (counted c))
-done-counted m c t areas ht = record {
+pub done-counted : (m : Areas) (c : Contents) (t : ℕ) → IsAreas m → HasThread m t → length c.table ≡ m.pages → Done m c c t call.Census (plain (counted c))
+done-counted m c t areas ht rows = record {
   turns = λ s stands r. (s, (s, (thread_in m c s stands t ht, ((_, _, _, refl), refl), refl, tt), refl), stands, λ q. q);
-  lawful = λ s stands r before packed. (census-bound m c s stands before areas packed, λ mid turned. tt);
+  lawful = λ s stands r before packed. (census-bound m c s stands before areas rows packed, λ mid turned. tt);
   collected = λ s stands r. refl;
   full = λ e. cc;
   filled = λ s stands e. cc;

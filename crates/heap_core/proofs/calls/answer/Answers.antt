@@ -89,7 +89,7 @@ returns-in-Collect-clause-done g c =
 pub returns-in-Census-clause-done : goal.returns-in-Census-clause-done
 returns-in-Census-clause-done g c =
     let m = c.args.map in
-    rw (c.in-Census.is, c.plain_step-in-Census.ensures, c.count_pages.ensures.counts, c.count_pages.ensures.words) (done-counted m (contents m (g.W.Words.words c.args.words.now)) c.args.thread c.requires.sound.areas c.requires.thread)
+    rw (c.in-Census.is, c.plain_step-in-Census.ensures, c.count_pages.ensures.counts, c.count_pages.ensures.words) (done-counted m (contents m (g.W.Words.words c.args.words.now)) c.args.thread c.requires.sound.areas c.requires.thread (shape m (g.W.Words.words c.args.words.now) c.requires.sound).table)
 
 pub load-requires-clause-stands : goal.load-requires-clause-stands
 load-requires-clause-stands g c = ∥∥₁_map c.requires.recorded (λ q. (q.0, q.1))
