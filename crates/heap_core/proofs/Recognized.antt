@@ -69,17 +69,19 @@ module _ (m : Areas) (c : Contents) (s s' : State) (l l' : Places) (h : StandsAs
       let place : l'.at n' ≡ l.at n = h'.heap.tiles.places n' p k a' ∙ ap (λ i. page_words m * p + i) (sym e) ∙ sym (h.heap.tiles.places n p k a) in
       let held = h.heap.held n w.0 w.1 in
       let held' = h'.heap.held n' w'.0 w'.1 in
-      let name : n ≡ n' = same_name_word n n' (serial-fits m c s s' l l' h h' n w.0 w.1) (serial-fits m c s' s l' l h' h n' w'.0 w'.1) (sym held.name ∙ ap (λ i. get_or c.heap (i + 1) 0) (sym place) ∙ held'.name) in
-      (name, λ o present.
-          let same : w.0 ≡ o = (let q : Some w.0 ≡ Some o = sym w.1 ∙ present in cc) in
-          let header = same_header (length w'.0.fields) (length w.0.fields) (space_index w'.0.home) (space_index w.0.home) (h'.closed.fields n' w'.0 w'.1).1 (h.closed.fields n w.0 w.1).1 (sym held'.header ∙ ap (λ i. get_or c.heap i 0) place ∙ held.header) in
-          record {
-            object = w'.0;
-            present = ap s'.objects name ∙ w'.1;
-            place = ap l'.at name ∙ place;
-            count = header.0 ∙ ap (λ (x : Thing). length x.fields) same;
-            space = header.1 ∙ ap (λ (x : Thing). space_index x.home) same;
-          })
+      let name : n ≡ n' = same_name_word n n' (serial-fits m c s s' l l' h h' n w.0 w.1) (serial-fits m c s' s l' l h' h n' w'.0 w'.1) (sym held.name ∙ ap (λ i. get_or c.heap (i + 1) 0) (sym place) ∙ held'.name) in (
+        name,
+        λ o present.
+            let same : w.0 ≡ o = (let q : Some w.0 ≡ Some o = sym w.1 ∙ present in cc) in
+            let header = same_header (length w'.0.fields) (length w.0.fields) (space_index w'.0.home) (space_index w.0.home) (h'.closed.fields n' w'.0 w'.1).1 (h.closed.fields n w.0 w.1).1 (sym held'.header ∙ ap (λ i. get_or c.heap i 0) place ∙ held.header) in
+            record {
+              object = w'.0;
+              present = ap s'.objects name ∙ w'.1;
+              place = ap l'.at name ∙ place;
+              count = header.0 ∙ ap (λ (x : Thing). length x.fields) same;
+              space = header.1 ∙ ap (λ (x : Thing). space_index x.home) same;
+            },
+      )
 
 module _ (m : Areas) (c : Contents) (s s' : State) (l l' : Places) (h : StandsAs m c s l) (h' : StandsAs m c s' l') where
   -- the names of a page are the same, one after another
@@ -101,17 +103,16 @@ module _ (m : Areas) (c : Contents) (s s' : State) (l l' : Places) (h : StandsAs
       let total : sum_by size ns ≡ sum_by size' ns' = sym (h.heap.marks p hp) ∙ h'.heap.marks p hp in
       let within : sum_by size (take (k + 1) ns) ≤ sum_by size ns = sum_by-take-le size ns (k + 1) in
       let room : k < length ns' = ⊎_elim
-          (λ (y : k < length ns'). y)
-          (λ (y : length ns' ≤ k). let all : sum_by size' (take k ns') ≡ sum_by size' ns' = ap (sum_by size') (take_all k ns' y) in absurd (omega (arith, all, total, within, more, words, before.1)))
-          (cases_lt k (length ns')) in
+      (λ (y : k < length ns'). y)
+      (λ (y : length ns' ≤ k). let all : sum_by size' (take k ns') ≡ sum_by size' ns' = ap (sum_by size') (take_all k ns' y) in absurd (omega (arith, all, total, within, more, words, before.1)))
+      (cases_lt k (length ns')) in
       let a' = stands-at m c.table c.heap s'.objects l' (λ _. 0) h'.heap p k hp room in
       let n' : Name = name_at l' p k in
       let same = same_at m c s s' l l' h h' n n' p k a a' before.1 in
       let known = same.1 w.0 w.1 in
       let words' : size' n' ≡ length known.object.fields + OBJECT_WORDS = ap size' (sym same.0) ∙ (let q : size' n ≡ length known.object.fields + OBJECT_WORDS = rw known.present refl in q) in
       let more' : sum_by size' (take (k + 1) ns') ≡ sum_by size' (take k ns') + size' n' = sum_by_more size' ns' k d room in
-      let next : suc k ≡ k + 1 = omega arith in
-      (
+      let next : suc k ≡ k + 1 = omega arith in (
         omega (arith, room),
         ap (λ i. sum_by size (take i ns)) next ∙ (let q : sum_by size (take (k + 1) ns) ≡ sum_by size' (take (k + 1) ns') = omega (arith, more, more', words, words', known.count, before.1) in q) ∙ ap (λ i. sum_by size' (take i ns')) (sym next),
       )
@@ -226,10 +227,10 @@ module _ (m : Areas) (c : Contents) (s : State) (l : Places) (h : StandsAs m c s
       (λ (from : start ≤ a). ⊎_elim
       (λ (inside : a - start < length w.0.fields). inl (w.0, a - start, lt, w.1, inside, omega (arith, from)))
       (λ (past : length w.0.fields ≤ a - start). inr (λ (q : FieldAt s l a p k).
-          let same : Some w.0 ≡ Some q.0 = sym w.1 ∙ q.3 in
-          let thing : w.0 ≡ q.0 = cc in
-          let long : length w.0.fields ≡ length q.0.fields = ap (λ (x : Thing). length x.fields) thing in
-          omega (arith, past, q.4, q.5, long)))
+      let same : Some w.0 ≡ Some q.0 = sym w.1 ∙ q.3 in
+      let thing : w.0 ≡ q.0 = cc in
+      let long : length w.0.fields ≡ length q.0.fields = ap (λ (x : Thing). length x.fields) thing in
+      omega (arith, past, q.4, q.5, long)))
       (cases_lt (a - start) (length w.0.fields)))
       (cases_lt a start))
       (λ (past : length (names_of l p) ≤ k). inr (λ (q : FieldAt s l a p k). omega (arith, past, q.2)))
@@ -257,10 +258,10 @@ module _ (m : Areas) (c : Contents) (s : State) (l : Places) (h : StandsAs m c s
       let q : FieldAt s l a f.0 k = f.2.1.1 in
       inl (name_at l f.0 k, q.0, q.1, q.3, q.4, q.5))
       (λ (none : (p : ℕ) → p < m.pages → ((p < m.pages) × ((k : ℕ) × FieldAt s l a p k)) → ⊥). inr (λ (f : IsField l.at s a).
-          let at = h.heap.present f.0 f.1 f.3 in
-          let hp : at.0 < m.pages = omega (arith, at.2.page, h.heap.count) in
-          let same : name_at l at.0 at.1 ≡ f.0 = get_or_default (names_of l at.0) at.1 (record { thread = 0; serial = 0 }) f.0 at.2.place ∙ at.2.name in
-          none at.0 hp (hp, (at.1, (f.1, f.2, at.2.place, ap s.objects same ∙ f.3, f.4, f.5 ∙ ap (λ (x : Name). l.at x + OBJECT_WORDS + f.2) (sym same))))))
+      let at = h.heap.present f.0 f.1 f.3 in
+      let hp : at.0 < m.pages = omega (arith, at.2.page, h.heap.count) in
+      let same : name_at l at.0 at.1 ≡ f.0 = get_or_default (names_of l at.0) at.1 (record { thread = 0; serial = 0 }) f.0 at.2.place ∙ at.2.name in
+      none at.0 hp (hp, (at.1, (f.1, f.2, at.2.place, ap s.objects same ∙ f.3, f.4, f.5 ∙ ap (λ (x : Name). l.at x + OBJECT_WORDS + f.2) (sym same))))))
       (search_below (λ p. (p < m.pages) × ((k : ℕ) × FieldAt s l a p k)) (find_page a) m.pages)
 
 -- whether a slot is recorded
@@ -285,12 +286,12 @@ recorded-told m c some s h = record {
   crossing = λ n x o p f e lt refers ex enters. ⊎_elim
       (λ (y : IsRecorded c.heads c.sets c.buffers (h.places.at n + OBJECT_WORDS + f)). y)
       (λ (no : IsRecorded c.heads c.sets c.buffers (h.places.at n + OBJECT_WORDS + f) → ⊥). absurd (∥∥₁_elim some (hlevel props) (λ q.
-          no (crossing-known m c (view s) (view q.0) h.places q.1.places h.stands q.1.stands (homes_valid m c s h) (homes_valid m c q.0 q.1) n x o p f q.2 e lt refers ex enters))))
+      no (crossing-known m c (view s) (view q.0) h.places q.1.places h.stands q.1.stands (homes_valid m c s h) (homes_valid m c q.0 q.1) n x o p f q.2 e lt refers ex enters))))
       (find_recorded c.heads c.sets c.buffers (h.places.at n + OBJECT_WORDS + f));
   fields = λ a r. ⊎_elim
       (λ (y : IsField h.places.at (view s) a). y)
       (λ (no : IsField h.places.at (view s) a → ⊥). absurd (∥∥₁_elim some (hlevel props) (λ q.
-          no (field-of m c (view s) (view q.0) h.places q.1.places h.stands q.1.stands a (q.2.fields a r)))))
+      no (field-of m c (view s) (view q.0) h.places q.1.places h.stands q.1.stands a (q.2.fields a r)))))
       (find_field m c (view s) h.places h.stands a);
   read = λ t u d k x p ht hm lt e ex home ne. ∥∥₁_elim some (hlevel props) (λ q.
       read-known m c (view s) (view q.0) h.places q.1.places h.stands q.1.stands (homes_valid m c s h) (homes_valid m c q.0 q.1) t u d k x p q.2 ht hm lt e ex home ne);

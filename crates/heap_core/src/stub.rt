@@ -21,8 +21,7 @@ pub fn collect<W: Words>(words: &mut W, map: Areas, thread: u8)
     ensures room { RoomCollected map (contents map (W.words words.old)) (contents map (W.words words.new)) thread }
     ensures sound { Sound map (W.words words.new) }
     ensures base { W.base words.new ≡ W.base words.old }
-{
-}
+{}
 
 /// Stub.
 pub fn end_region<W: Words>(words: &mut W, map: Areas, thread: u8) -> Result<u64, Shortage>

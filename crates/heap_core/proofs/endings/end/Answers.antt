@@ -34,11 +34,15 @@ returns-in-Err-clause-ended g c =
     let m = c.args.map in
     let ended = rw c.depth.ensures.words at c.in-Err.ensures.ended in
     let e = c.end_collected.ensures.ended in
-    inr (omega (arith, c.depth.ensures.depth, c.if-depth-eq0.false), e.full, λ s h r.
-        let short = ended s h r in
-        rw e.collected (record {
-          first = contents m (g.W.Words.words c.end_region.new.words);
-          found = c.in-Err.field-0;
-          short = short;
-          ends = e.ends s short.later short.recorded;
-        }))
+    inr (
+      omega (arith, c.depth.ensures.depth, c.if-depth-eq0.false),
+      e.full,
+      λ s h r.
+          let short = ended s h r in
+          rw e.collected (record {
+            first = contents m (g.W.Words.words c.end_region.new.words);
+            found = c.in-Err.field-0;
+            short = short;
+            ends = e.ends s short.later short.recorded;
+          }),
+    )
