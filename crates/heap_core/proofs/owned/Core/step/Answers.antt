@@ -58,3 +58,8 @@ returns-clause-records g c =
 
 pub returns-clause-room : goal.returns-clause-room
 returns-clause-room g c = c.answer.ensures.done.room
+
+pub returns-clause-reads : goal.returns-clause-reads
+returns-clause-reads g c =
+    let core = c.args.self.now in
+    λ s h. c.answer.ensures.reads s h (recorded-told core.map (contents core.map (g.W.Words.words core.words)) core.stands s h)
