@@ -8,8 +8,10 @@ ghost use Rattle.yak_model.specs.Graph.{standard_limits};
 ghost use Rattle.yak_model.specs.Spaces.{SpaceState, TurnsAll, opening_spaces};
 ghost use Rattle.yak_model.specs.Stands.{Stands};
 ghost use Rattle.yak_model.specs.Recorded.{Recorded};
+ghost use Rattle.epoch_lattice.specs.declared.Space.TheVariants.{Control};
 ghost use Rattle.yak_model.specs.History.{Entry};
-ghost use Rattle.heap_core.specs.Done.{CollectsWhere, EndsSo, FillsHeap, PacksControl, StepRecords, StepRoom, TellsFull, TellsPages, TellsShortage};
+ghost use Rattle.yak_model.specs.Packed.{IsPacked};
+ghost use Rattle.heap_core.specs.Done.{CollectsWhere, EndsSo, FillsHeap, StepRecords, StepRoom, TellsFull, TellsPages, TellsShortage};
 ghost use Rattle.heap_core.specs.EpochEnds.{ReadsFew};
 ghost use Rattle.heap_core.specs.Lawful.{AreLawful, PackedIfAsked};
 ghost use Rattle.heap_core.specs.Records.{SomeRecorded, StandsRecorded};
@@ -68,7 +70,8 @@ impl<W: Words> Core<W> {
         Core { words, map }
     }
 
-    /// Makes a call of a thread.
+    /// Makes a call of a thread. Where a new object doesn't fit the thread's current page and no page is free, and where an end
+    /// needs more pages than are free, one collection of the control space comes first.
     pub fn step(&mut self, thread: u8, call: Call) -> Stepped
         requires thread { HasThread self.old.map thread }
         requires number { IsCall call }
@@ -80,7 +83,7 @@ impl<W: Words> Core<W> {
         ensures shortage { (s : SpaceState) → Stands self.old.map (contents self.old.map (W.words self.old.words)) s → TellsShortage self.old.map s thread result.reply result.shortage }
         ensures ended { EndsSo self.old.map (contents self.old.map (W.words self.old.words)) (contents self.new.map (W.words self.new.words)) thread call result }
         ensures census { TellsPages (contents self.old.map (W.words self.old.words)) call result.reply }
-        ensures packed { (s : SpaceState) (h : Stands self.new.map (contents self.new.map (W.words self.new.words)) s) → PacksControl self.new.map (contents self.new.map (W.words self.new.words)) s h call }
+        ensures packed { call ≡ Call.Collect → (s : SpaceState) (h : Stands self.new.map (contents self.new.map (W.words self.new.words)) s) → IsPacked self.new.map (contents self.new.map (W.words self.new.words)) s h Control }
         ensures records { (s : SpaceState) (h : Stands self.old.map (contents self.old.map (W.words self.old.words)) s) → StepRecords self.old.map s h.places.at (contents self.old.map (W.words self.old.words)) (contents self.new.map (W.words self.new.words)) thread call result.reply result.collected }
         ensures room { StepRoom self.old.map (contents self.old.map (W.words self.old.words)) (contents self.new.map (W.words self.new.words)) thread call result.reply result.collected }
         ensures reads { (s : SpaceState) (h : Stands self.old.map (contents self.old.map (W.words self.old.words)) s) → ReadsFew self.old.map (contents self.old.map (W.words self.old.words)) s h thread call result (W.reads self.old.words) (W.reads self.new.words) }
