@@ -1,8 +1,14 @@
 //! The collection of the control space: which of its objects are kept, and where a slide puts them.
 #![tactic(auto)]
 
+mod clearing;
+mod collecting;
 mod marking;
+mod moving;
+mod resetting;
 mod sliding;
+mod stub;
 
+pub use collecting::collect;
 pub use marking::mark;
 pub use sliding::plan_slide;
