@@ -7,3 +7,5 @@ pub mod Costs
 pub mod Lives
 pub mod Whole
 pub mod Tables
+pub mod Drops
+pub mod RunsTold

@@ -1,6 +1,6 @@
 //! The pool and the current control pages after a slide.
 
-ghost use Rattle.std.specs.Prelude.{◌≡◌, ◌≢◌, ◌≤◌, ◌<◌, ◌+◌};
+ghost use Rattle.std.specs.Prelude.{◌≡◌, ◌≢◌, ◌≤◌, ◌<◌, ◌+◌, ℕ};
 ghost use Rattle.heap_words.specs.Map.{HasThread};
 ghost use Rattle.heap_words.specs.Contents.{Contents, Sound, contents};
 ghost use Rattle.region_pages.specs.Freeing.{with_pool_rebuilt};
