@@ -9,3 +9,5 @@ pub mod Whole
 pub mod Tables
 pub mod Drops
 pub mod RunsTold
+pub mod Slides
+pub mod Leads

@@ -10,6 +10,8 @@ use Rattle.heap_words.specs.declared.map.Areas.{Areas}
 use Rattle.heap_words.specs.Map.{page_words}
 use Rattle.heap_words.specs.Contents.{Contents}
 use Rattle.yak_model.specs.Placed.{used_mark}
+use Rattle.yak_model.specs.Plans.{Move}
+use Rattle.relocation.specs.Fields.{Lined}
 use Rattle.relocation.specs.Moves.{HasHeader, size_at}
 use Rattle.relocation.specs.Slide.{IsPageOf, PageRun, Runs, behind, object_at}
 use Rattle.relocation.proofs.SlidObjects.{behind-first, behind-next}
@@ -59,7 +61,7 @@ search_end heap a z (suc n) = ⊎_elim
     (cases_eq (behind heap a n) z)
 
 module _ (m : Areas) (c : Contents) (p : ℕ) (some : ∥ PageRun m c p ∥₁) where
-  one_end : (k : ℕ) → object_at m c.heap p k ≡ page_words m * p + used_mark c.table p → (r : PageRun m c p) → k ≡ r.objects
+  pub one_end : (k : ℕ) → object_at m c.heap p k ≡ page_words m * p + used_mark c.table p → (r : PageRun m c p) → k ≡ r.objects
   one_end k e r = elim (cases_order k r.objects) [
     | inl same ↦ same
     | inr (inl lt) ↦ absurd (let l = behind-less c.heap (page_words m * p) k r.objects lt in let q = r.ends in omega (arith, l, q, e))
@@ -92,3 +94,11 @@ module _ (m : Areas) (c : Contents) (p : ℕ) (some : ∥ PageRun m c p ∥₁) 
 
 pub runs-told : (m : Areas) (slid : ℕ) (c : Contents) → ∥ Runs m slid c ∥₁ → Runs m slid c
 runs-told m slid c some p lt control = run-told m c p (∥∥₁_elim some (hlevel props) (λ runs. ∣ runs p lt control ∣₁))
+
+pub lined-told : (m : Areas) (heap : List ℕ) (count : ℕ) (moves : ℕ → Move) → ∥ Lined m heap count moves ∥₁ → Lined m heap count moves
+lined-told m heap count moves some = record {
+  headers = λ k lt. header-told heap (moves k).old (∥∥₁_elim some (hlevel props) (λ l. ∣ l.headers k lt ∣₁));
+  within = λ k lt. ∥∥₁_elim some (hlevel props) (λ l. l.within k lt);
+  ordered = λ j k lt lk. ∥∥₁_elim some (hlevel props) (λ l. l.ordered j k lt lk);
+  lead = λ k lt i b low high e. ∥∥₁_elim some (hlevel props) (λ l. l.lead k lt i b low high e);
+}

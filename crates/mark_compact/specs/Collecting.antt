@@ -52,8 +52,7 @@ pub record Planned (m : Areas) (was : Contents) (s : SpaceState) (l : Places) (n
 -- All references lead where a plan brings the objects, which lie where they lay.
 pub record Led (m : Areas) (s : State) (l : Places) (dropped : Name → Bool) (was now : Contents) (count : ℕ) (moves : ℕ → Move) : Type 0 where
   pub frame : now ≡ record was { stacks = map (map (corrected_word (forward count moves))) was.stacks; heap = now.heap }
-  pub holds : Holds m now.heap l.at (forwarded count moves l.at) (λ n. slice_index now.heap (l.at n + 2)) (without s dropped).objects
-  pub heads : (n : Name) (o : Thing) (i : ℕ) → (without s dropped).objects n ≡ Some o → i < 3 → slice_index now.heap (l.at n + i) ≡ slice_index was.heap (l.at n + i)
+  pub holds : Holds m now.heap l.at (forwarded count moves l.at) (λ n. slice_index was.heap (l.at n + 2)) (without s dropped).objects
 
 -- The control objects that a collection keeps lie at the front of the control pages, and the pages that stay empty are free.
 pub record Lain (m : Areas) (was : Contents) (s : SpaceState) (l : Places) (now : Contents) (count : ℕ) (moves : ℕ → Move) : Type 0 where

@@ -40,9 +40,9 @@ fn correct_references<W: Words>(words: &mut W, map: Areas, plan: &Plan)
     ensures sound { Sound map (W.words words.new) }
     ensures base { W.base words.new ≡ W.base words.old }
 {
-    correct_stacks(words, map, plan);
     correct_regions(words, map, plan);
     correct_moves(words, map, plan);
+    correct_stacks(words, map, plan);
 }
 
 /// Moves the objects of a plan, and enters in the page table how far the pages are used.

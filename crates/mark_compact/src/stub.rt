@@ -31,7 +31,7 @@ pub fn correct_stacks<W: Words>(words: &mut W, map: Areas, plan: &Plan)
 pub fn correct_regions<W: Words>(words: &mut W, map: Areas, plan: &Plan)
     requires sound { Sound map (W.words words.old) }
     requires plan { (let c = contents map (W.words words.old) in Numbered map c.heap plan.now.count (move_at c.scratch)) }
-    requires runs { (let c = contents map (W.words words.old) in ∥ RegionRuns map c plan.now.count (move_at c.scratch) ∥₁) }
+    requires runs { (let c = contents map (W.words words.old) in RegionRuns map c plan.now.count (move_at c.scratch)) }
     ensures corrected { (let c = contents map (W.words words.old) in (r : RegionRuns map c plan.now.count (move_at c.scratch)) → RegionsCorrected map (forward plan.now.count (move_at c.scratch)) c plan.now.count (move_at c.scratch) r (contents map (W.words words.new)).heap) }
     ensures only_heap { OnlyHeap map (W.words words.old) (W.words words.new) }
     ensures plan { (let c = contents map (W.words words.old) in Numbered map (contents map (W.words words.new)).heap plan.now.count (move_at c.scratch)) }
