@@ -11,3 +11,4 @@ pub mod Drops
 pub mod RunsTold
 pub mod Slides
 pub mod Leads
+pub mod Lies

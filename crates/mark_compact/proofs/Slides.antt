@@ -29,7 +29,7 @@ use Rattle.relocation.proofs.Moving.{fields_at-header}
 use Rattle.relocation.proofs.Lawful.{kept}
 use Rattle.relocation.proofs.SlidLawful.{kept-false, name_at, runs_of, slid_object, slide-present, stands-at, walk-at}
 use Rattle.relocation.proofs.Slidden.{Slid, pick, slide-known}
-use Rattle.heap_walks.proofs.Objects.{kept_word}
+use Rattle.heap_walks.proofs.Objects.{kept_word, same_address}
 use Rattle.mark_compact.specs.Given.{GivenBack, IsSlid}
 use Rattle.mark_compact.specs.Collecting.{Planned}
 use Rattle.mark_compact.specs.declared.sliding.TheConstants.{CONTROL_WORD}
@@ -217,3 +217,25 @@ module _ (m : Areas) (was : Contents) (s : SpaceState) (h : Stands m was s) (d :
     limits = λ n o e. let old = kept (view s) p.dropped n o e in ((h.stands.closed.fields n o old).1, index-fits n o old);
     stands = λ n o e. numbers.held n o (kept (view s) p.dropped n o e);
   }
+
+  -- the work word of a kept object that isn't moved is as the marking left it
+  pub work-still : (n : Name) (o : Thing) → object_of s n ≡ Some o → ((k : ℕ) → k < count → h.places.at n ≢ (moves k).old) → get_or d.heap (h.places.at n + 2) 0 ≡ p.work n
+  work-still n o e none =
+      ap (λ (ws : List ℕ). get_or ws (h.places.at n + 2) 0) heap-planned
+      ∙ slid.sliding.others (h.places.at n + 2) (λ k lk q. none k lk (omega (arith, q)))
+      ∙ (p.stands.held n o e).work_word
+
+  -- no object of a region is moved
+  pub unmoved : (n : Name) (o : Thing) → object_of s n ≡ Some o → o.home ≢ Control → (k : ℕ) → k < count → h.places.at n ≢ (moves k).old
+  unmoved n o e ne k lt at =
+      let x = object k lt in
+      let same : n ≡ x.0 = same_address m (laid m was s h) n x.0 o x.1 h.stands e x.3 (at ∙ sym x.4) in
+      let thing : o ≡ x.1 = one_thing o x.1 (sym e ∙ ap (object_of s) same ∙ x.3) in
+      ne (ap (λ (t : Thing). t.home) thing ∙ moved-home k lt)
+
+  -- a moved object is of Control
+  pub moved-name : (n : Name) (o : Thing) (k : ℕ) → object_of s n ≡ Some o → k < count → h.places.at n ≡ (moves k).old → o.home ≡ Control
+  moved-name n o k e lt at = elim (control_case o.home) [
+    | inl control ↦ control
+    | inr ne ↦ absurd (unmoved n o e ne k lt at)
+  ]

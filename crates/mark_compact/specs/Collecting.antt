@@ -65,7 +65,7 @@ pub record Lain (m : Areas) (was : Contents) (s : SpaceState) (l : Places) (now 
   pub heap : HeapStands m now.table now.heap (without (view s) dropped).objects places (λ _. 0)
   pub packed : PackedAs m now.table places.pages (without (view s) dropped).objects Control
   pub others : (p : ℕ) → (IsPageOf CONTROL_WORD was.table p → ⊥) → row now.table p ≡ row was.table p
-  pub control : (p : ℕ) → IsPageOf CONTROL_WORD was.table p → (space_word now.table p ≡ CONTROL_WORD) ⊎ (space_word now.table p ≡ 0)
+  pub control : (p : ℕ) → p < m.pages → IsPageOf CONTROL_WORD was.table p → (space_word now.table p ≡ CONTROL_WORD) ⊎ (space_word now.table p ≡ 0)
   pub still : (n : Name) (o : Thing) → object_of s n ≡ Some o → o.home ≢ Control → places.at n ≡ l.at n
   pub moved : (n : Name) (o : Thing) → (without (view s) dropped).objects n ≡ Some o → o.home ≡ Control → (k : ℕ) × (k < count) × (places.at n ≡ (moves k).new)
   pub are_moved : AreMoved (without (view s) dropped).objects places.at count moves

@@ -1,6 +1,6 @@
 use Rattle.std.proofs.Props.{props}
 use Rattle.std.proofs.Math.Logic.{∥∥₁_elim, ∥∥₁_map}
-use Rattle.std.proofs.Common.{◌≡◌, ℕ, ◌+◌, ◌*◌, ◌<◌, List, get_or, map, sym, ap, subst, ◌∙◌, arith}
+use Rattle.std.proofs.Common.{◌≡◌, ℕ, ◌+◌, ◌-◌, ◌*◌, ◌<◌, List, [], get_or, map, sym, ap, subst, ◌∙◌, arith}
 use Rattle.heap_words.specs.Contents.{Contents, contents, stack_of}
 use Rattle.yak_model.specs.Placed.{Holds}
 use Rattle.yak_model.specs.Plans.{forward, forwarded}
