@@ -12,3 +12,4 @@ pub mod RunsTold
 pub mod Slides
 pub mod Leads
 pub mod Lies
+pub mod Currents
