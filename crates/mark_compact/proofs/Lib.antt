@@ -13,3 +13,5 @@ pub mod Slides
 pub mod Leads
 pub mod Lies
 pub mod Currents
+pub mod Logged
+pub mod Rooms
