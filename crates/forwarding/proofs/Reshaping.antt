@@ -1,6 +1,6 @@
 -- A state with other homes, made from one and a function that gives the homes.
-use Rattle.std.proofs.Common.{◌≡◌, ◌≢◌, ℕ, Option, Some, None, IsSome, is_some, cond, true, false, true≢false, List, [], ◌∷◌, refl, sym, ap, subst, ◌∙◌}
-use Rattle.std.specs.FinMap.{find, get, entries, from_entries, get-entries, get-from_entries}
+use Rattle.std.proofs.Common.{◌≡◌, ◌≢◌, ℕ, Option, Some, None, IsSome, is_some, cond, true≢false, List, [], ◌∷◌, refl, sym, ap, subst, ◌∙◌}
+use Rattle.std.specs.FinMap.{find, entries, from_entries, get-entries, get-from_entries}
 use Rattle.std.proofs.Math.Logic.{⊎_elim}
 use Rattle.object_layout.specs.declared.names.Name.{Name}
 use Rattle.epoch_lattice.specs.declared.Space.{Space}
