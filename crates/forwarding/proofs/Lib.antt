@@ -1,2 +1,3 @@
+pub mod RegionSteps
 pub mod Reshaping
 pub mod StackSteps

@@ -1,3 +1,4 @@
 pub mod Corrected
 pub mod Crossing
 pub mod Reshaped
+pub mod Row
