@@ -138,3 +138,96 @@ fields-header f was now a n one h = (h.0, h.1, one.outside a (inl (omega arith))
 
 pub fields-size : (f : ℕ → ℕ) (was now : List ℕ) (a n : ℕ) → FieldsCorrected f was now a n → size_at now a ≡ size_at was a
 fields-size f was now a n one = ap (λ k. k + 3) (fields_at-same was now a (one.outside a (inl (omega arith))))
+
+-- ---- the pages of regions
+
+-- a field of a page lies in the page
+field-low : (m : Areas) (c : Contents) (p : ℕ) (run : PageRun m c p) (i : ℕ) → IsFieldIn m c p run i → (page_words m * p ≤ i) × (i < page_words m * p + page_words m)
+field-low m c p run i field =
+    let low = behind-from c.heap (page_words m * p) field.0 in
+    let high = behind-more c.heap (page_words m * p) field.0 run.objects field.1 in
+    (omega (arith, low, field.2), omega (arith, high, run.ends, run.fits, field.3))
+
+-- how far the pages are done: the fields of the pages of regions among the first pages were corrected
+pub record PagesDone (m : Areas) (f : ℕ → ℕ) (c : Contents) (count : ℕ) (moves : ℕ → Move) (r : RegionRuns m c count moves) (now : List ℕ) (pages : ℕ) : Type 0 where
+  pub size : length now ≡ length c.heap
+  pub fields : (p : ℕ) (h : p < m.pages) (x : IsRegional c p) (i : ℕ) → p < pages → IsFieldIn m c p (r.run p h x) i → get_or now i 0 ≡ corrected_word f (get_or c.heap i 0)
+  pub others : (i : ℕ) → ((p : ℕ) (h : p < m.pages) (x : IsRegional c p) → p < pages → IsFieldIn m c p (r.run p h x) i → ⊥) → get_or now i 0 ≡ get_or c.heap i 0
+  pub rest : (i : ℕ) → page_words m * pages ≤ i → get_or now i 0 ≡ get_or c.heap i 0
+
+pub pages-none : (m : Areas) (f : ℕ → ℕ) (c : Contents) (count : ℕ) (moves : ℕ → Move) (r : RegionRuns m c count moves) → PagesDone m f c count moves r c.heap 0
+pages-none m f c count moves r = record {
+  size = refl;
+  fields = λ p h x i lt. absurd (omega arith);
+  others = λ i none. refl;
+  rest = λ i le. refl;
+}
+
+-- the objects of the next page, in words that have not changed from its start on
+pub region-row : (m : Areas) (c : Contents) (count : ℕ) (moves : ℕ → Move) (r : RegionRuns m c count moves) (now : List ℕ) (p : ℕ) (h : p < m.pages) (x : IsRegional c p) → ((i : ℕ) → page_words m * p ≤ i → get_or now i 0 ≡ get_or c.heap i 0) → ObjectRow m now p (used_mark c.table p) (r.run p h x).objects (object_at m c.heap p)
+region-row m c count moves r now p h x same =
+    let run = r.run p h x in
+    let low : (k : ℕ) → page_words m * p ≤ object_at m c.heap p k = λ k. behind-from c.heap (page_words m * p) k in
+    let size : (k : ℕ) → size_at now (object_at m c.heap p k) ≡ size_at c.heap (object_at m c.heap p k) = λ k. ap (λ n. n + 3) (fields_at-same c.heap now (object_at m c.heap p k) (same (object_at m c.heap p k) (low k))) in
+    record {
+      headers = λ k lt. (let e = run.headers k lt in (e.0, e.1, same (object_at m c.heap p k) (low k) ∙ e.2));
+      first = behind-first c.heap (page_words m * p);
+      next = λ k lt. behind-next c.heap (page_words m * p) k ∙ ap (λ n. object_at m c.heap p k + n) (sym (size k));
+      last = run.ends;
+      fits = run.fits;
+      lead = λ k lt i b le less e. r.lead p h x i b (k, lt, le, (let q : i < object_at m c.heap p k + size_at c.heap (object_at m c.heap p k) = omega (arith, less, size k) in q)) (sym (same i (omega (arith, low k, le))) ∙ e);
+    }
+
+-- a page of a region more
+pub pages-more : (m : Areas) (f : ℕ → ℕ) (c : Contents) (count : ℕ) (moves : ℕ → Move) (r : RegionRuns m c count moves) (now next : List ℕ) (page : ℕ) → page < m.pages → IsRegional c page → PagesDone m f c count moves r now page → length next ≡ length now → ((n : ℕ) (at : ℕ → ℕ) → ObjectRow m now page (used_mark c.table page) n at → MovesCorrected f now next n (staying at)) → PagesDone m f c count moves r next (page + 1)
+pages-more m f c count moves r now next page in_heap regional done long step =
+    let same : (p : ℕ) → p ≡ page → (i : ℕ) → page_words m * p ≤ i → get_or now i 0 ≡ get_or c.heap i 0 = λ p e i le. done.rest i (rw (← e) le) in
+    let one : (p : ℕ) → p ≡ page → (h : p < m.pages) (x : IsRegional c p) → MovesCorrected f now next (r.run p h x).objects (staying (object_at m c.heap p)) = λ p e h x.
+    subst (λ q. (n : ℕ) (at : ℕ → ℕ) → ObjectRow m now q (used_mark c.table q) n at → MovesCorrected f now next n (staying at)) (sym e) step (r.run p h x).objects (object_at m c.heap p) (region-row m c count moves r now p h x (same p e)) in
+    let own = one page refl in_heap regional in
+    let low : (k : ℕ) → page_words m * page ≤ object_at m c.heap page k = λ k. behind-from c.heap (page_words m * page) k in
+    let size : (p : ℕ) → p ≡ page → (k : ℕ) → size_at now (object_at m c.heap p k) ≡ size_at c.heap (object_at m c.heap p k) = λ p e k. ap (λ n. n + 3) (fields_at-same c.heap now (object_at m c.heap p k) (same p e (object_at m c.heap p k) (behind-from c.heap (page_words m * p) k))) in
+    record {
+      size = long ∙ done.size;
+      fields = λ p h x i lt field. ⊎_elim
+          (λ (e : p ≡ page).
+          let k = field.0 in
+          let in_now : i < object_at m c.heap p k + size_at now (object_at m c.heap p k) = omega (arith, field.3, size p e k) in
+          (one p e h x).fields k i field.1 field.2 in_now ∙ ap (corrected_word f) (same p e i (omega (arith, field-low m c p (r.run p h x) i field))))
+          (λ (ne : p ≡ page → ⊥).
+          let less : p < page = omega arith in
+          let high = (field-low m c p (r.run p h x) i field).1 in
+          own.others i (λ k lk. inl (let q = low k in omega (arith, q, high, less))) ∙ done.fields p h x i less field)
+          (cases_eq p page);
+      others = λ i none.
+          own.others i (λ k lk. ⊎_elim
+          (λ (before : i < object_at m c.heap page k + 3). inl before)
+          (λ (from : object_at m c.heap page k + 3 ≤ i). ⊎_elim
+          (λ (inside : i < object_at m c.heap page k + size_at now (object_at m c.heap page k)). absurd (none page in_heap regional (omega arith) (k, lk, from, (let q : i < object_at m c.heap page k + size_at c.heap (object_at m c.heap page k) = omega (arith, inside, size page refl k) in q))))
+          (λ (past : object_at m c.heap page k + size_at now (object_at m c.heap page k) ≤ i). inr past)
+          (cases_lt i (object_at m c.heap page k + size_at now (object_at m c.heap page k))))
+          (cases_lt i (object_at m c.heap page k + 3)))
+          ∙ done.others i (λ p h x lt field. none p h x (omega arith) field);
+      rest = λ i le.
+          own.others i (λ k lk. inr (let end = row-within m now page (used_mark c.table page) (r.run page in_heap regional).objects (object_at m c.heap page) (region-row m c count moves r now page in_heap regional (same page refl)) k lk in let fits = (r.run page in_heap regional).fits in omega (arith, end.1, fits, le)))
+          ∙ done.rest i (omega arith);
+    }
+
+-- a page that is no region's
+pub pages-other : (m : Areas) (f : ℕ → ℕ) (c : Contents) (count : ℕ) (moves : ℕ → Move) (r : RegionRuns m c count moves) (now : List ℕ) (page : ℕ) → (IsRegional c page → ⊥) → PagesDone m f c count moves r now page → PagesDone m f c count moves r now (page + 1)
+pages-other m f c count moves r now page none done = record {
+  size = done.size;
+  fields = λ p h x i lt field. ⊎_elim
+      (λ (e : p ≡ page). absurd (none (subst (IsRegional c) e x)))
+      (λ (ne : p ≡ page → ⊥). done.fields p h x i (omega arith) field)
+      (cases_eq p page);
+  others = λ i nowhere. done.others i (λ p h x lt field. nowhere p h x (omega arith) field);
+  rest = λ i le. done.rest i (omega arith);
+}
+
+pub pages-all : (m : Areas) (f : ℕ → ℕ) (c : Contents) (count : ℕ) (moves : ℕ → Move) (r : RegionRuns m c count moves) (now : List ℕ) (pages : ℕ) → m.pages ≤ pages → PagesDone m f c count moves r now pages → RegionsCorrected m f c count moves r now
+pages-all m f c count moves r now pages le done = record {
+  size = done.size;
+  fields = λ p h x i field. done.fields p h x i (omega arith) field;
+  others = λ i none. done.others i (λ p h x lt field. none p h x field);
+}
