@@ -2,3 +2,4 @@ pub mod Corrected
 pub mod Crossing
 pub mod Reshaped
 pub mod Row
+pub mod Settled

@@ -3,9 +3,11 @@
 #![tactic(auto)]
 
 mod regions;
+mod settling;
 mod stacks;
 
 pub use regions::correct_regions;
+pub use settling::settle_pages;
 pub use stacks::{correct_stack, correct_stacks};
 
 /// The word of the control space in the page table. Those of regions are past it.
