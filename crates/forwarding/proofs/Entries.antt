@@ -1,5 +1,5 @@
 -- The fields that are filed, one after another, and what their words tell of the objects.
-use Rattle.std.proofs.Common.{◌≡◌, ◌≢◌, ◌↔◌, ◌⊎◌, ℕ, ◌+◌, ◌-◌, ◌*◌, ◌≤◌, ◌<◌, Option, Some, IsSome, List, All, length, get_or, zero, suc, inl, inr, refl, sym, ap, subst, ◌∙◌, arith}
+use Rattle.std.proofs.Common.{◌≡◌, ◌≢◌, ◌↔◌, ◌⊎◌, ℕ, ◌+◌, ◌-◌, ◌*◌, ◌≤◌, ◌<◌, Option, Some, None, IsSome, true≢false, List, All, length, get_or, zero, suc, inl, inr, refl, sym, ap, subst, ◌∙◌, arith}
 use Rattle.std.proofs.lemmas.Bool.{cases_eq, cases_lt}
 use Rattle.std.proofs.lemmas.List.Elements.{All-get_or}
 use Rattle.std.proofs.Math.Logic.{⊎_elim}
@@ -108,6 +108,7 @@ goal-of objects at (Int i) b fits e = absurd (omega (arith, e))
 goal-of objects at (Object x) b fits e = (x, refl, fits, (let q : b ≡ at x = omega (arith, e) in q))
 
 some-of : {A : Type 0} (x : Option A) → IsSome x → (a : A) × (x ≡ Some a)
+some-of None h = absurd (true≢false (sym h))
 some-of (Some a) h = (a, refl)
 
 -- the datum of a field, by its place

@@ -89,7 +89,7 @@ pub fn record_moved<W: Words>(words: &mut W, map: Areas, plan: &Plan)
     requires sound { Sound map (W.words words.old) }
     requires sets { SetsHold map (contents map (W.words words.old)) }
     requires room { MOVE_WORDS * plan.now.count ≤ heap_length map }
-    requires some { (let c = contents map (W.words words.old) in ∥ (objects : Name → Option Thing) × (at : Name → ℕ) × (work : Name → ℕ) × Holds map c.heap at at work objects × AreData objects × AreMoved objects at plan.now.count (move_at c.scratch) ∥₁) }
+    requires some { (let c = contents map (W.words words.old) in ∥ ((objects : Name → Option Thing) × (at : Name → ℕ) × (work : Name → ℕ) × Holds map c.heap at at work objects × AreData objects × AreMoved objects at plan.now.count (move_at c.scratch)) ∥₁) }
     ensures filed { (let c = contents map (W.words words.old) in let moves = move_at c.scratch in (objects : Name → Option Thing) (at work : Name → ℕ) → Holds map c.heap at at work objects → AreData objects → AreMoved objects at plan.now.count moves → AreValid objects → (i : ℕ) → IsFiled (contents map (W.words words.new)) i ↔ (IsFiled c i ⊎ IsCrossing objects at plan.now.count moves i)) }
     ensures sets { SetsHold map (contents map (W.words words.new)) }
     ensures others { contents map (W.words words.new) ≡ with_sets (contents map (W.words words.old)) (contents map (W.words words.new)) }
