@@ -1,6 +1,6 @@
 -- The fields that are filed, one after another, and what their words tell of the objects.
-use Rattle.std.proofs.Common.{◌≡◌, ◌≢◌, ◌↔◌, ◌⊎◌, ℕ, ◌+◌, ◌-◌, ◌*◌, ◌≤◌, ◌<◌, Option, Some, None, IsSome, true≢false, List, All, length, get_or, zero, suc, inl, inr, refl, sym, ap, subst, ◌∙◌, arith}
-use Rattle.std.proofs.lemmas.Bool.{cases_eq, cases_lt}
+use Rattle.std.proofs.Common.{◌≡◌, ◌↔◌, ◌⊎◌, ℕ, ◌+◌, ◌-◌, ◌*◌, ◌≤◌, ◌<◌, Option, Some, None, IsSome, true≢false, List, length, get_or, suc, inl, inr, refl, sym, ap, subst, ◌∙◌, arith}
+use Rattle.std.proofs.lemmas.Bool.{cases_eq}
 use Rattle.std.proofs.lemmas.List.Elements.{All-get_or}
 use Rattle.std.proofs.Math.Logic.{⊎_elim}
 use Rattle.object_layout.specs.declared.headers.Header.{Header}
@@ -17,7 +17,6 @@ use Rattle.yak_model.specs.declared.datum.Datum.TheVariants.{Null, Int, Object}
 use Rattle.yak_model.specs.State.{IsDatum, Thing}
 use Rattle.yak_model.specs.Placed.{Holds, datum_word}
 use Rattle.yak_model.specs.Plans.{Move}
-use Rattle.yak_model.specs.Recorded.{Enters}
 use Rattle.relocation.specs.Moves.{size_at}
 use Rattle.forwarding.specs.Crossing.{AreData, AreMoved, AreValid, IsCrossing}
 use Rattle.forwarding.specs.Entering.{EntersFrom, IsEntering, IsEnteringAmong, words_brought}
@@ -190,20 +189,23 @@ crossing-told m heap objects at work count moves i holds valid x =
     let place = x.place in
     let moved = x.moved in
     let lt = x.within in
-    let word : get_or heap i 0 ≡ 2 * (at x.to + 1) = ap (λ j. get_or heap j 0) place ∙ own.fields x.field lt ∙ ap (datum_word at) x.refers in
-    (x.move, x.among, record {
-      header = record { fields = length x.object.fields; space = space_index x.object.home };
-      fits = holds.limits x.from x.object x.present;
-      told = ap (λ a. get_or heap a 0) (sym moved) ∙ own.header;
-      low = omega (arith, place, moved);
-      high = omega (arith, place, moved, lt);
-      enters = record {
-        goal = at x.to;
-        refers = word;
-        header = record { fields = length x.goal.fields; space = space_index x.goal.home };
-        fits = holds.limits x.to x.goal x.reached;
-        told = there.header;
-        region = λ e. x.enters.0 (number-own x.goal.home Control (valid x.to x.goal x.reached) _ e);
-        other = λ e. x.enters.1 (number-own x.goal.home x.object.home (valid x.to x.goal x.reached) (valid x.from x.object x.present) e);
-      };
-    })
+    let word : get_or heap i 0 ≡ 2 * (at x.to + 1) = ap (λ j. get_or heap j 0) place ∙ own.fields x.field lt ∙ ap (datum_word at) x.refers in (
+      x.move,
+      x.among,
+      record {
+        header = record { fields = length x.object.fields; space = space_index x.object.home };
+        fits = holds.limits x.from x.object x.present;
+        told = ap (λ a. get_or heap a 0) (sym moved) ∙ own.header;
+        low = omega (arith, place, moved);
+        high = omega (arith, place, moved, lt);
+        enters = record {
+          goal = at x.to;
+          refers = word;
+          header = record { fields = length x.goal.fields; space = space_index x.goal.home };
+          fits = holds.limits x.to x.goal x.reached;
+          told = there.header;
+          region = λ e. x.enters.0 (number-own x.goal.home Control (valid x.to x.goal x.reached) _ e);
+          other = λ e. x.enters.1 (number-own x.goal.home x.object.home (valid x.to x.goal x.reached) (valid x.from x.object x.present) e);
+        };
+      },
+    )

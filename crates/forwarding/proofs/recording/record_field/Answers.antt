@@ -1,4 +1,4 @@
-use Rattle.std.proofs.Common.{◌≡◌, ◌↔◌, ◌⊎◌, ◌<◌, ◌+◌, ◌*◌, arith, subst, sym, ap, ◌∙◌, List, ℕ, get_or}
+use Rattle.std.proofs.Common.{◌≡◌, ◌↔◌, ◌⊎◌, ◌+◌, ◌*◌, arith, subst, sym, ap, ◌∙◌, List, ℕ, get_or}
 use Rattle.object_layout.specs.Layout.{header_word}
 use Rattle.heap_words.specs.Contents.{Contents, contents}
 use Rattle.remember_sets.specs.Filed.{IsFiled}

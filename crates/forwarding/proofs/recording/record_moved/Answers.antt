@@ -1,10 +1,7 @@
-use Rattle.std.proofs.Common.{◌≡◌, ◌↔◌, ◌⊎◌, ◌≤◌, ◌<◌, ◌+◌, ◌*◌, arith, subst, sym, ap, ◌∙◌, List, ℕ, get_or, refl}
+use Rattle.std.proofs.Common.{◌≡◌, ◌↔◌, ◌⊎◌, ◌≤◌, ◌+◌, ◌*◌, arith, subst, sym, ap, ◌∙◌, List, ℕ, get_or, refl}
 use Rattle.std.proofs.Props.{props}
 use Rattle.std.proofs.Math.Logic.{∥∥₁_elim}
-use Rattle.object_layout.specs.declared.headers.Header.{Header}
-use Rattle.object_layout.specs.declared.TheConstants.{OBJECT_WORDS}
-use Rattle.object_layout.specs.Layout.{IsHeader, header_word}
-use Rattle.heap_words.specs.Map.{heap_length}
+use Rattle.object_layout.specs.Layout.{header_word}
 use Rattle.heap_words.specs.Contents.{Contents, contents}
 use Rattle.yak_model.specs.Plans.{Move}
 use Rattle.relocation.specs.Moves.{fields_at, move_at}

@@ -1,7 +1,6 @@
-use Rattle.std.proofs.Common.{◌≡◌, ◌↔◌, ◌⊎◌, ◌≤◌, ◌<◌, ◌+◌, ◌*◌, arith, subst, sym, ap, ◌∙◌, List, ℕ, get_or}
+use Rattle.std.proofs.Common.{◌≡◌, ◌↔◌, ◌⊎◌, ◌+◌, arith, subst, sym, ap, ◌∙◌, List, ℕ, get_or}
 use Rattle.object_layout.specs.declared.headers.Header.{Header}
 use Rattle.object_layout.specs.declared.TheConstants.{OBJECT_WORDS}
-use Rattle.object_layout.specs.Layout.{header_word}
 use Rattle.heap_words.specs.Contents.{Contents, Sound, contents}
 use Rattle.relocation.specs.Moves.{fields_at}
 use Rattle.relocation.proofs.Moving.{fields_at-header}
