@@ -13,7 +13,7 @@ ghost use Rattle.relocation.specs.declared.plans.TheConstants.{MOVE_WORDS};
 ghost use Rattle.relocation.specs.Moves.{fields_at, move_at};
 ghost use Rattle.remember_sets.specs.Filed.{IsFiled, SetsHold, with_sets};
 ghost use Rattle.forwarding.specs.Crossing.{AreData, AreMoved, AreValid, IsCrossing};
-ghost use Rattle.forwarding.specs.Entering.{EntersFrom, IsEntering, IsEnteringAmong, words_brought};
+ghost use Rattle.forwarding.specs.Entering.{EntersFrom, IsEntering, words_brought};
 
 use heap_words::{Areas, Words, get_heap};
 use object_layout::{Addr, OBJECT_WORDS, address, decode_header};
