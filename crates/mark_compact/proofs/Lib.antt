@@ -15,3 +15,4 @@ pub mod Lies
 pub mod Currents
 pub mod Logged
 pub mod Rooms
+pub mod After

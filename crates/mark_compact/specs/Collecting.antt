@@ -15,9 +15,9 @@ use Rattle.yak_model.specs.Packed.{PackedAs}
 use Rattle.yak_model.specs.Stands.{current}
 use Rattle.yak_model.specs.Recorded.{IsRecorded}
 use Rattle.remember_sets.specs.Filed.{IsFiled, LiesIn, SetsHold, with_no_logs, with_sets}
-use Rattle.relocation.specs.Moves.{corrected_word}
 use Rattle.relocation.specs.Slide.{Drops, IsPageOf, Runs}
 use Rattle.relocation.specs.declared.plans.TheConstants.{MOVE_WORDS}
+use Rattle.forwarding.specs.Corrected.{corrected_stacks}
 use Rattle.forwarding.specs.Crossing.{AreMoved}
 use Rattle.mark_compact.specs.Given.{IsSlid}
 use Rattle.mark_compact.specs.declared.sliding.TheConstants.{CONTROL_WORD}
@@ -51,7 +51,7 @@ pub record Planned (m : Areas) (was : Contents) (s : SpaceState) (l : Places) (n
 
 -- All references lead where a plan brings the objects, which lie where they lay.
 pub record Led (m : Areas) (s : State) (l : Places) (dropped : Name → Bool) (was now : Contents) (count : ℕ) (moves : ℕ → Move) : Type 0 where
-  pub frame : now ≡ record was { stacks = map (map (corrected_word (forward count moves))) was.stacks; heap = now.heap }
+  pub frame : now ≡ record was { stacks = corrected_stacks (forward count moves) was.stacks; heap = now.heap }
   pub holds : Holds m now.heap l.at (forwarded count moves l.at) (λ n. slice_index was.heap (l.at n + 2)) (without s dropped).objects
 
 -- The control objects that a collection keeps lie at the front of the control pages, and the pages that stay empty are free.

@@ -11,7 +11,7 @@ ghost use Rattle.mark_compact.specs.Collected.{RoomCollected, StateCollected};
 use crate::clearing::clear_slots;
 use crate::moving::slide;
 use crate::resetting::reset_pages;
-use crate::stub::record_moved;
+use forwarding::record_moved;
 use heap_words::{Areas, Words};
 
 /// Collects the control space. The control objects to which no walk leads from a stack or from an object of a region are

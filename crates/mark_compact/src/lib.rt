@@ -7,7 +7,6 @@ mod marking;
 mod moving;
 mod resetting;
 mod sliding;
-mod stub;
 
 pub use collecting::collect;
 pub use marking::mark;

@@ -11,7 +11,7 @@ ghost use Rattle.mark_compact.specs.Collecting.{Lain, Led, Planned};
 
 use crate::marking::mark;
 use crate::sliding::{CONTROL_WORD, plan_slide};
-use crate::stub::{correct_regions, correct_stacks, settle_pages};
+use forwarding::{correct_regions, correct_stacks, settle_pages};
 use heap_words::{Areas, Words};
 use relocation::{Plan, correct_moves, move_all};
 

@@ -4,8 +4,9 @@ use Rattle.std.proofs.Common.{◌≡◌, ℕ, ◌+◌, ◌-◌, ◌*◌, ◌<◌
 use Rattle.heap_words.specs.Contents.{Contents, contents, stack_of}
 use Rattle.yak_model.specs.Placed.{Holds}
 use Rattle.yak_model.specs.Plans.{forward, forwarded}
-use Rattle.relocation.specs.Moves.{AllMovable, corrected_word, heap_of, move_at, scratch_of}
+use Rattle.relocation.specs.Moves.{AllMovable, heap_of, move_at, scratch_of}
 use Rattle.relocation.specs.Fields.{Lined, MovesCorrected}
+use Rattle.forwarding.specs.Corrected.{corrected_stacks}
 use Rattle.mark_compact.proofs.RunsTold.{lined-told}
 use Rattle.mark_compact.proofs.Slides.{frame, kept_objects}
 use Rattle.mark_compact.proofs.Leads.{header-two, holds-two, lined, movable-same, region-runs-told, regions, stack-lead}
@@ -50,8 +51,8 @@ returns-clause-led g c was s h p =
     let done : MovesCorrected (forward count (move_at d.scratch)) (heap_of m mid) (heap_of m last) count (move_at d.scratch) = subst (λ (sc : List ℕ). MovesCorrected (forward count (move_at sc)) (heap_of m mid) (heap_of m last) count (move_at sc)) scratch c.correct_moves.ensures.fields in
     record {
       frame = c.correct_stacks.ensures.corrected
-          ∙ ap (λ (x : Contents). record x { stacks = map (map (corrected_word (forward count (move_at x.scratch)))) x.stacks }) before
-          ∙ ap (λ (ws : List ℕ). record d { stacks = map (map (corrected_word (forward count (move_at d.scratch)))) d.stacks; heap = ws }) (sym heap);
+          ∙ ap (λ (x : Contents). record x { stacks = corrected_stacks (forward count (move_at x.scratch)) x.stacks }) before
+          ∙ ap (λ (ws : List ℕ). record d { stacks = corrected_stacks (forward count (move_at d.scratch)) d.stacks; heap = ws }) (sym heap);
       holds = subst (λ (ws : List ℕ). Holds m ws h.places.at (forwarded count (move_at d.scratch) h.places.at) (λ n. get_or d.heap (h.places.at n + 2) 0) (kept_objects m was s h d count (move_at d.scratch) p c.requires.sound.areas)) (sym heap)
           (holds-two m was s h d count (move_at d.scratch) p c.requires.sound.areas (heap_of m mid) (c.correct_regions.ensures.corrected (regions m was s h d count (move_at d.scratch) p c.requires.sound.areas)) (heap_of m last) done);
     }

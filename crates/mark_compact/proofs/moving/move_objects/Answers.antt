@@ -39,23 +39,6 @@ settle_pages-requires-clause-moved g c =
     let w = (c.requires.movable.each k lt).new in
     (x.0, omega (arith, w, x.1)))
 
-pub settle_pages-requires-clause-in_page : goal.settle_pages-requires-clause-in_page
-settle_pages-requires-clause-in_page g c =
-    let m = c.args.map in
-    let first = contents m (g.W.Words.words c.args.words.now) in
-    let mid = g.W.Words.words c.move_all.new.words in
-    let count = c.args.plan.count in
-    let moves = move_at first.scratch in
-    let scratch : scratch_of m mid ≡ first.scratch = ap (λ (x : Contents). x.scratch) c.move_all.ensures.only_heap in
-    subst (λ (sc : List ℕ). (k : ℕ) → k < count → IsInOnePage m (move_at sc k).new (size_at (heap_of m mid) (move_at sc k).new)) (sym scratch)
-    (λ k lt.
-    let all : (page_words m * ((moves k).new / page_words m) ≤ (moves k).new) × ((moves k).new + size_at (heap_of m mid) (moves k).new ≤ page_words m * ((moves k).new / page_words m) + page_words m) × ((moves k).new / page_words m < m.pages) = (
-      ∥∥₁_elim c.requires.led (hlevel props) (λ q. (new-in_page m q.0 q.2 q.3 q.1 count moves q.4 c.requires.sound.areas first q.5 c.requires.movable (heap_of m mid) c.move_all.ensures.moved k lt).0),
-      ∥∥₁_elim c.requires.led (hlevel props) (λ q. (new-in_page m q.0 q.2 q.3 q.1 count moves q.4 c.requires.sound.areas first q.5 c.requires.movable (heap_of m mid) c.move_all.ensures.moved k lt).1),
-      ∥∥₁_elim c.requires.led (hlevel props) (λ q. (new-in_page m q.0 q.2 q.3 q.1 count moves q.4 c.requires.sound.areas first q.5 c.requires.movable (heap_of m mid) c.move_all.ensures.moved k lt).2),
-    ) in
-    ((moves k).new / page_words m, all.2, all.0, all.1))
-
 pub returns-clause-lain : goal.returns-clause-lain
 returns-clause-lain g c was planned s h p led =
     let m = c.args.map in
