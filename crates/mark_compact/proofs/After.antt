@@ -1,5 +1,5 @@
 -- The state after a collection.
-use Rattle.std.proofs.Common.{◌≡◌, ◌≢◌, ◌⊎◌, ◌↔◌, ℕ, ◌+◌, ◌-◌, ◌*◌, ◌/◌, ◌≤◌, ◌<◌, Bool, true, false, cond, Option, Some, None, IsSome, is_some, List, [], ◌∷◌, take, drop, length, map, get_or, set, refl, sym, ap, subst, ◌∙◌, arith, inl, inr, get_or-set_other}
+use Rattle.std.proofs.Common.{◌≡◌, ◌≢◌, ◌⊎◌, ◌↔◌, ℕ, ◌+◌, ◌-◌, ◌*◌, ◌/◌, ◌≤◌, ◌<◌, Bool, true, false, cond, Option, Some, None, IsSome, is_some, zero, suc, List, [], ◌∷◌, take, drop, length, map, get_or, set, refl, sym, ap, subst, ◌∙◌, arith, inl, inr, get_or-set_other}
 use Rattle.std.specs.Prelude.{replicate}
 use Rattle.std.specs.List.{All, Contains, flat_map}
 use Rattle.std.proofs.Math.Path.{fun_ext}
@@ -47,7 +47,7 @@ use Rattle.mark_compact.proofs.Slides.{one_thing}
 
 -- ---- the objects that are kept
 
-given : SpaceState → (Name → Bool) → Name → Option Space
+abbrev given : SpaceState → (Name → Bool) → Name → Option Space
 given s dropped n = cond (dropped n) None (home_of s n)
 
 given-some : (b : Bool) (x : Option Space) → IsSome (cond b None x) → IsSome x
@@ -75,7 +75,7 @@ pub record Steps (m : Areas) (c0 c1 c2 c3 c4 : Contents) (s : SpaceState) (l : P
   pub thread : HasThread m t
   pub cleared : Cleared m c0 c1
   pub lain : Lain m c1 s l c2 count moves
-  pub last : IsLast (with_pool_rebuilt c2).table m.pages last
+  pub ends : IsLast (with_pool_rebuilt c2).table m.pages last
   pub pages : ControlPages (with_pool_rebuilt c2) c3 t last m.threads
   pub pool : PoolStands m c3.heads c3.pool c3.table
   pub sets : SetsHold m c4
@@ -89,8 +89,6 @@ region_above Control ne = absurd (ne refl)
 region_above (Region t d) ne = omega arith
 
 module _ (m : Areas) (c1 : Contents) (s : SpaceState) (h1 : Stands m c1 s) (c2 : Contents) (count : ℕ) (moves : ℕ → Move) (lain : Lain m c1 s h1.places c2 count moves) (areas : IsAreas m) where
-  abbrev left : Name → Option Thing
-  left = (without (view s) lain.dropped).objects
 
   was-there : (n : Name) (o : Thing) → (without (view s) lain.dropped).objects n ≡ Some o → object_of s n ≡ Some o
   was-there n o e = kept (view s) lain.dropped n o e
@@ -156,8 +154,6 @@ module _ (m : Areas) (c0 c1 c2 c3 c4 : Contents) (s : SpaceState) (h : Stands m 
   currents4 : c4.currents ≡ c3.currents
   currents4 = ap (λ (x : Contents). x.currents) st.others
 
-  length_free : ℕ
-  length_free = length (free_below c2.table (length c2.table))
 
   heads3 : c3.heads ≡ set (set c1.heads 1 0) 2 (length (free_below c2.table (length c2.table)))
   heads3 = ap (λ (x : Contents). x.heads) st.pages.frame ∙ ap (λ (x : Contents). set (set x.heads 1 0) 2 (length (free_below c2.table (length c2.table)))) frame2
@@ -202,10 +198,10 @@ module _ (m : Areas) (c0 c1 c2 c3 c4 : Contents) (s : SpaceState) (h : Stands m 
     zero = record { heads = subst (All (λ w. w ≡ 0)) (sym unused4) h1.stands.zero.heads; blocks = subst (All (All (λ w. w ≡ 0))) (sym rests4) h1.stands.zero.blocks };
     pool = subst (λ (x : Contents). PoolStands m x.heads x.pool x.table) (sym st.others) (pool-with_entries m c3.heads c3.pool c3.table (set_entries c4.heads) st.pool);
     currents = subst (λ (cs : List (List ℕ)). Rattle.yak_model.specs.Stands.CurrentsStand m cs c4.table) (sym currents4) (subst (λ (tb : List (List ℕ)). Rattle.yak_model.specs.Stands.CurrentsStand m c3.currents tb) (sym table4)
-        (currents-now m c1.table c2.table same-regions (with_pool_rebuilt c2) c3 t last st.thread stand2 st.pages st.last));
+        (currents-now m c1.table c2.table same-regions (with_pool_rebuilt c2) c3 t last st.thread stand2 st.pages st.ends));
     sets = st.sets;
     dense = subst (λ (cs : List (List ℕ)). Rattle.yak_model.specs.Stands.RegionsDense m c4.table cs there.pages v.objects) (sym currents4) (subst (λ (tb : List (List ℕ)). Rattle.yak_model.specs.Stands.RegionsDense m tb c3.currents there.pages v.objects) (sym table4)
-        (dense-now m c1.table c2.table same-regions (with_pool_rebuilt c2) c3 t last st.thread stand2 st.pages st.last c1.heap c2.heap (object_of s) v.objects h1.places there (λ _. 0) (λ _. 0) h1.stands.heap st.lain.heap
+        (dense-now m c1.table c2.table same-regions (with_pool_rebuilt c2) c3 t last st.thread stand2 st.pages st.ends c1.heap c2.heap (object_of s) v.objects h1.places there (λ _. 0) (λ _. 0) h1.stands.heap st.lain.heap
         (subst (λ (cs : List (List ℕ)). Rattle.yak_model.specs.Stands.RegionsDense m c1.table cs h1.places.pages (object_of s)) (sym currents2) h1.stands.dense)));
   }
 
@@ -262,8 +258,6 @@ module _ (m : Areas) (c0 c1 c2 c3 c4 : Contents) (s : SpaceState) (h : Stands m 
 
   -- ---- the state
 
-  abbrev homes : Name → Option Space
-  homes = given s st.lain.dropped
 
   present-before : (n : Name) → IsSome (given s st.lain.dropped n) → IsPresent s n
   present-before n e = given-some (st.lain.dropped n) (home_of s n) e

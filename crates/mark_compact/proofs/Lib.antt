@@ -16,3 +16,4 @@ pub mod Currents
 pub mod Logged
 pub mod Rooms
 pub mod After
+pub mod Emptied
