@@ -1,47 +1,41 @@
 -- The state after a collection.
-use Rattle.std.proofs.Common.{◌≡◌, ◌≢◌, ◌⊎◌, ◌↔◌, ℕ, ◌+◌, ◌-◌, ◌*◌, ◌/◌, ◌≤◌, ◌<◌, Bool, true, false, cond, Option, Some, None, IsSome, is_some, zero, suc, List, [], ◌∷◌, take, drop, length, map, get_or, set, refl, sym, ap, subst, ◌∙◌, arith, inl, inr, get_or-set_other}
+use Rattle.std.proofs.Common.{◌≡◌, ◌≢◌, ◌⊎◌, ◌↔◌, ℕ, ◌+◌, ◌-◌, ◌/◌, ◌<◌, Bool, true, false, cond, Option, Some, None, IsSome, zero, suc, List, [], take, length, map, get_or, set, refl, sym, ap, subst, ◌∙◌, arith, inl, inr, get_or-set_other}
 use Rattle.std.specs.Prelude.{replicate}
 use Rattle.std.specs.List.{All, Contains, flat_map}
 use Rattle.std.proofs.Math.Path.{fun_ext}
-use Rattle.std.proofs.lemmas.Bool.{cases_eq, cases_Bool}
 use Rattle.std.proofs.lemmas.List.{drop-set-lt}
 use Rattle.std.proofs.lemmas.List.Elements.{Contains-append_cases}
 use Rattle.std.proofs.Math.Logic.{⊎_elim}
 use Rattle.object_layout.specs.declared.names.Name.{Name}
 use Rattle.object_layout.specs.declared.TheConstants.{OBJECT_WORDS}
 use Rattle.heap_words.specs.declared.map.Areas.{Areas}
-use Rattle.heap_words.specs.Map.{HasThread, IsAreas, heap_length, max_depth, page_words}
-use Rattle.heap_words.specs.Cells.{row}
+use Rattle.heap_words.specs.Map.{HasThread, IsAreas, page_words}
 use Rattle.heap_words.specs.Contents.{Contents, InLimits}
 use Rattle.epoch_lattice.specs.declared.Space.{Space}
 use Rattle.epoch_lattice.specs.declared.Space.TheVariants.{Control, Region}
-use Rattle.epoch_lattice.specs.declared.TheConstants.{MAX_DEPTH}
 use Rattle.epoch_lattice.specs.Lattice.{IsValid, space_index}
-use Rattle.yak_model.specs.declared.datum.Datum.TheVariants.{Null, Object}
 use Rattle.yak_model.specs.Graph.{Content, Graph, Limits, Thread}
-use Rattle.yak_model.specs.Spaces.{Collects, IsLive, IsPresent, SpaceState, content_at, home_of}
-use Rattle.yak_model.specs.State.{State, Thing, object_of, stack, thing_of, view}
+use Rattle.yak_model.specs.Spaces.{Collects, IsPresent, SpaceState, content_at, home_of}
+use Rattle.yak_model.specs.State.{State, Thing, object_of, thing_of, view}
 use Rattle.yak_model.specs.Placed.{HeapStands, Holds, IsAt, Places, datum_word, space_word}
 use Rattle.yak_model.specs.Plans.{Move, without}
 use Rattle.yak_model.specs.Packed.{PackedAs}
 use Rattle.yak_model.specs.Stands.{IsWhole, NamesMade, PoolStands, RestsZero, SetsStand, Stands, StandsAs, current, free_pages, set_entries, unused_heads}
 use Rattle.yak_model.specs.Recorded.{Enters, IsField, IsRecorded, RecordedAs}
-use Rattle.yak_model.proofs.Data.{in_heap, home-index}
+use Rattle.yak_model.proofs.Data.{home-index}
 use Rattle.yak_model.proofs.Placed.{in_page}
 use Rattle.heap_walks.proofs.Seen.{seen}
 use Rattle.region_pages.specs.Freeing.{free_below, with_pool_rebuilt}
-use Rattle.remember_sets.specs.Filed.{IsFiled, LiesIn, SetsHold, with_sets}
-use Rattle.remember_sets.specs.declared.TheConstants.{SET_ENTRIES}
+use Rattle.remember_sets.specs.Filed.{IsFiled, SetsHold, with_sets}
 use Rattle.relocation.proofs.Lawful.{kept}
 use Rattle.relocation.proofs.SlidLawful.{keep-case}
-use Rattle.forwarding.specs.Crossing.{AreData, AreMoved, AreValid, IsCrossing}
+use Rattle.forwarding.specs.Crossing.{AreData, AreValid, IsCrossing}
 use Rattle.forwarding.specs.Reshaped.{Reshaped}
 use Rattle.forwarding.proofs.Reshaping.{reshape, reshaped-objects, reshaped-whole}
 use Rattle.mark_compact.specs.Collected.{StateCollected}
-use Rattle.mark_compact.specs.Collecting.{Cleared, ControlPages, IsLast, KeepsLive, Lain}
-use Rattle.mark_compact.specs.declared.sliding.TheConstants.{CONTROL_WORD}
-use Rattle.mark_compact.proofs.Drops.{control_case, control_word}
-use Rattle.mark_compact.proofs.Logged.{cleared-stands, none-long, pool-with_entries}
+use Rattle.mark_compact.specs.Collecting.{Cleared, ControlPages, IsLast, Lain}
+use Rattle.mark_compact.proofs.Drops.{control_case}
+use Rattle.mark_compact.proofs.Logged.{cleared-stands, pool-with_entries}
 use Rattle.mark_compact.proofs.Rooms.{SameRegions, currents-now, dense-now, spaces-open}
 use Rattle.mark_compact.proofs.Slides.{one_thing}
 
@@ -89,7 +83,6 @@ region_above Control ne = absurd (ne refl)
 region_above (Region t d) ne = omega arith
 
 module _ (m : Areas) (c1 : Contents) (s : SpaceState) (h1 : Stands m c1 s) (c2 : Contents) (count : ℕ) (moves : ℕ → Move) (lain : Lain m c1 s h1.places c2 count moves) (areas : IsAreas m) where
-
   was-there : (n : Name) (o : Thing) → (without (view s) lain.dropped).objects n ≡ Some o → object_of s n ≡ Some o
   was-there n o e = kept (view s) lain.dropped n o e
 
@@ -153,7 +146,6 @@ module _ (m : Areas) (c0 c1 c2 c3 c4 : Contents) (s : SpaceState) (h : Stands m 
 
   currents4 : c4.currents ≡ c3.currents
   currents4 = ap (λ (x : Contents). x.currents) st.others
-
 
   heads3 : c3.heads ≡ set (set c1.heads 1 0) 2 (length (free_below c2.table (length c2.table)))
   heads3 = ap (λ (x : Contents). x.heads) st.pages.frame ∙ ap (λ (x : Contents). set (set x.heads 1 0) 2 (length (free_below c2.table (length c2.table)))) frame2
@@ -257,7 +249,6 @@ module _ (m : Areas) (c0 c1 c2 c3 c4 : Contents) (s : SpaceState) (h : Stands m 
       some_space x y e = cc
 
   -- ---- the state
-
 
   present-before : (n : Name) → IsSome (given s st.lain.dropped n) → IsPresent s n
   present-before n e = given-some (st.lain.dropped n) (home_of s n) e

@@ -1,5 +1,5 @@
 -- The control objects that a collection drops: those without a mark.
-use Rattle.std.proofs.Common.{◌≡◌, ◌≢◌, ◌⊎◌, ℕ, ◌+◌, ◌≤◌, ◌<◌, Bool, true, false, cond, Option, Some, None, List, [], length, get_or, refl, sym, ap, subst, ◌∙◌, arith, inl, inr, is_some}
+use Rattle.std.proofs.Common.{◌≡◌, ◌≢◌, ◌⊎◌, ℕ, ◌+◌, ◌<◌, Bool, true, false, Option, Some, None, List, [], length, get_or, refl, sym, ap, subst, ◌∙◌, arith, inl, inr, is_some}
 use Rattle.std.proofs.lemmas.Bool.{cases_Bool, eqb-true, eq-eqb}
 use Rattle.std.proofs.lemmas.List.{get_or_default}
 use Rattle.std.specs.List.{Contains}
@@ -12,7 +12,7 @@ use Rattle.epoch_lattice.specs.declared.Space.TheVariants.{Control, Region}
 use Rattle.epoch_lattice.specs.Lattice.{space_index}
 use Rattle.yak_model.specs.declared.datum.Datum.{Datum}
 use Rattle.yak_model.specs.declared.datum.Datum.TheVariants.{Null, Int, Object}
-use Rattle.yak_model.specs.Spaces.{IsLive, IsPresent, SpaceState, home_of, here, onward}
+use Rattle.yak_model.specs.Spaces.{IsLive, SpaceState, home_of, here, onward}
 use Rattle.yak_model.specs.State.{IsClosed, IsDatum, Thing, object_of, view}
 use Rattle.yak_model.specs.Plans.{without}
 use Rattle.yak_model.specs.Stands.{Stands}

@@ -1,5 +1,5 @@
 -- The room that a collection leaves.
-use Rattle.std.proofs.Common.{◌≡◌, ◌≢◌, ◌⊎◌, ◌↔◌, ℕ, ◌+◌, ◌-◌, ◌≤◌, ◌<◌, List, [], length, get_or, refl, sym, ap, subst, ◌∙◌, arith, inl, inr}
+use Rattle.std.proofs.Common.{◌≡◌, ◌≢◌, ◌⊎◌, ℕ, ◌+◌, ◌-◌, ◌≤◌, ◌<◌, List, [], length, get_or, sym, ap, subst, ◌∙◌, arith, inl, inr}
 use Rattle.std.specs.Prelude.{replicate}
 use Rattle.std.specs.List.{All}
 use Rattle.std.proofs.Props.{props}
@@ -83,10 +83,13 @@ module _ (m : Areas) (c0 c1 c2 c3 c4 : Contents) (t last : ℕ) (ht : HasThread 
       ⊎_elim
       (λ (c : space_word c0.table p ≡ CONTROL_WORD). ⊎_elim
       (λ (same : space_word c4.table p ≡ CONTROL_WORD). inl (same ∙ sym c))
-      (λ (ne : space_word c4.table p ≡ CONTROL_WORD → ⊥). inr (c, ∥∥₁_elim some (hlevel props) (λ f. elim (f.control p lt (was ∙ c)) [
-        | inl one ↦ absurd (ne (now ∙ one))
-        | inr none ↦ now ∙ none
-      ])))
+      (λ (ne : space_word c4.table p ≡ CONTROL_WORD → ⊥). inr (
+        c,
+        ∥∥₁_elim some (hlevel props) (λ f. elim (f.control p lt (was ∙ c)) [
+          | inl one ↦ absurd (ne (now ∙ one))
+          | inr none ↦ now ∙ none
+        ]),
+      ))
       (cases_eq (space_word c4.table p) CONTROL_WORD))
       (λ (o : space_word c0.table p ≡ CONTROL_WORD → ⊥). inl (now ∙ ∥∥₁_elim some (hlevel props) (λ f. ap (λ (r : List ℕ). get_or r 0 0) (f.others p (λ e. o (sym was ∙ e)))) ∙ was))
       (cases_eq (space_word c0.table p) CONTROL_WORD)

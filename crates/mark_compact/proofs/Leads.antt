@@ -1,13 +1,12 @@
 -- References that follow the plan of a collection.
-use Rattle.std.proofs.Common.{◌≡◌, ◌≢◌, ◌⊎◌, ℕ, ◌+◌, ◌-◌, ◌*◌, ◌≤◌, ◌<◌, Bool, true, false, Option, Some, None, List, [], length, get_or, refl, sym, ap, subst, ◌∙◌, arith, inl, inr}
+use Rattle.std.proofs.Common.{◌≡◌, ◌≢◌, ◌⊎◌, ℕ, ◌+◌, ◌-◌, ◌*◌, ◌≤◌, ◌<◌, Some, List, length, get_or, refl, sym, ap, subst, ◌∙◌, arith, inl, inr}
 use Rattle.std.proofs.Props.{props}
-use Rattle.std.proofs.lemmas.Bool.{cases_eq, cases_lt, cases_order}
+use Rattle.std.proofs.lemmas.Bool.{cases_lt, cases_order}
 use Rattle.std.proofs.lemmas.List.{get_or_default}
 use Rattle.std.proofs.Math.Logic.{⊎_elim, ∥∥₁_elim}
 use Rattle.object_layout.specs.declared.names.Name.{Name}
 use Rattle.heap_words.specs.declared.map.Areas.{Areas}
 use Rattle.heap_words.specs.Map.{IsAreas, heap_length, page_words}
-use Rattle.heap_words.specs.Cells.{row}
 use Rattle.heap_words.specs.Contents.{Contents, stack_of}
 use Rattle.epoch_lattice.specs.declared.Space.{Space}
 use Rattle.epoch_lattice.specs.declared.Space.TheVariants.{Control, Region}
@@ -16,13 +15,13 @@ use Rattle.yak_model.specs.declared.datum.Datum.TheVariants.{Null}
 use Rattle.yak_model.specs.Graph.{slot_of}
 use Rattle.yak_model.specs.Spaces.{SpaceState}
 use Rattle.yak_model.specs.State.{Thing, object_of, view}
-use Rattle.yak_model.specs.Placed.{Holds, IsAt, datum_word, names_of, space_word, used_mark}
+use Rattle.yak_model.specs.Placed.{Holds, IsAt, names_of, space_word, used_mark}
 use Rattle.yak_model.specs.Plans.{Move, forward, forwarded}
 use Rattle.yak_model.specs.Stands.{Stands}
 use Rattle.yak_model.proofs.Data.{in_heap, refers}
 use Rattle.yak_model.proofs.Names.{same_or_other}
 use Rattle.yak_model.proofs.Stacks.{slot-fits, slot-word}
-use Rattle.relocation.specs.Moves.{AllMovable, HasHeader, Movable, corrected_word, size_at}
+use Rattle.relocation.specs.Moves.{AllMovable, HasHeader, corrected_word, size_at}
 use Rattle.relocation.specs.Fields.{Lined, MovesCorrected}
 use Rattle.relocation.specs.Slide.{IsPageOf, PageRun, object_at}
 use Rattle.relocation.proofs.Moving.{fields_at-same}
@@ -33,7 +32,7 @@ use Rattle.heap_walks.proofs.Objects.{lie_apart}
 use Rattle.forwarding.specs.Corrected.{IsFieldIn, IsRegional, RegionRuns, RegionsCorrected}
 use Rattle.mark_compact.specs.Collecting.{Planned}
 use Rattle.mark_compact.specs.declared.sliding.TheConstants.{CONTROL_WORD}
-use Rattle.mark_compact.proofs.Drops.{control_case, control_word}
+use Rattle.mark_compact.proofs.Drops.{control_case}
 use Rattle.mark_compact.proofs.RunsTold.{run-told}
 use Rattle.mark_compact.proofs.Slides
 use Rattle.mark_compact.proofs.Whole.{laid}

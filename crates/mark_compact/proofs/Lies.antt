@@ -1,12 +1,11 @@
 -- What the moves of a collection leave.
-use Rattle.std.proofs.Common.{◌≡◌, ◌≢◌, ◌⊎◌, ℕ, ◌+◌, ◌-◌, ◌*◌, ◌/◌, ◌≤◌, ◌<◌, Bool, true, false, cond, Option, Some, None, List, [], ◌∷◌, length, map, get_or, zero, suc, refl, sym, ap, subst, ◌∙◌, arith, inl, inr}
-use Rattle.std.specs.Prelude.{◌==◌}
+use Rattle.std.proofs.Common.{◌≡◌, ◌≢◌, ℕ, ◌+◌, ◌*◌, ◌/◌, ◌≤◌, ◌<◌, Option, Some, None, List, [], ◌∷◌, length, map, get_or, zero, suc, refl, sym, ap, subst, ◌∙◌, arith, inl, inr}
 use Rattle.std.proofs.Math.Path.{fun_ext}
 use Rattle.std.proofs.lemmas.Bool.{cases_eq, cases_lt}
 use Rattle.std.proofs.Math.Logic.{⊎_elim}
 use Rattle.object_layout.specs.declared.names.Name.{Name}
 use Rattle.object_layout.specs.declared.headers.Header.{Header}
-use Rattle.object_layout.specs.declared.TheConstants.{MAX_DEPTH, MAX_FIELDS, MAX_SPACE}
+use Rattle.object_layout.specs.declared.TheConstants.{MAX_DEPTH, MAX_SPACE}
 use Rattle.object_layout.specs.Layout.{IsHeader}
 use Rattle.heap_words.specs.declared.map.Areas.{Areas}
 use Rattle.heap_words.specs.Map.{IsAreas, heap_length, page_words}
@@ -15,11 +14,10 @@ use Rattle.heap_words.specs.Contents.{Contents}
 use Rattle.epoch_lattice.specs.declared.Space.{Space}
 use Rattle.epoch_lattice.specs.declared.Space.TheVariants.{Control, Region}
 use Rattle.epoch_lattice.specs.Lattice.{IsValid, space_index}
-use Rattle.yak_model.specs.declared.datum.Datum.{Datum}
 use Rattle.yak_model.specs.Spaces.{SpaceState}
-use Rattle.yak_model.specs.State.{State, Thing, object_of, view}
-use Rattle.yak_model.specs.Placed.{HeapStands, Holds, Places, datum_word, names_of, space_word, used_mark}
-use Rattle.yak_model.specs.Plans.{IsInOnePage, Move, after_moves, by_move, cleared, forward, forwarded, rehomed, without}
+use Rattle.yak_model.specs.State.{Thing, object_of, view}
+use Rattle.yak_model.specs.Placed.{HeapStands, Holds, Places, datum_word, names_of, space_word}
+use Rattle.yak_model.specs.Plans.{Move, after_moves, by_move, cleared, forward, forwarded, rehomed, without}
 use Rattle.yak_model.specs.Packed.{PackedAs}
 use Rattle.yak_model.specs.Stands.{Stands, pages_of}
 use Rattle.relocation.specs.Moves.{AllMovable, HasHeader, Moved, corrected_word, fields_at, size_at}
@@ -33,10 +31,8 @@ use Rattle.relocation.proofs.SlidLaid.{places_of}
 use Rattle.relocation.proofs.SlidPages.{pages_before-gap}
 use Rattle.relocation.proofs.Slidden.{pick, slide-packed}
 use Rattle.relocation.proofs.SlidLawful.{slide-present}
-use Rattle.forwarding.specs.Crossing.{AreMoved}
 use Rattle.mark_compact.specs.Collecting.{Lain, Led, Planned}
 use Rattle.mark_compact.specs.declared.sliding.TheConstants.{CONTROL_WORD}
-use Rattle.mark_compact.proofs.Drops.{control_case, control_word}
 use Rattle.mark_compact.proofs.Slides
 use Rattle.mark_compact.proofs.Slides.{size_told, small}
 use Rattle.mark_compact.proofs.Tables.{pages_of-before}

@@ -1,9 +1,9 @@
 -- The slots before a collection.
-use Rattle.std.proofs.Common.{◌≡◌, ◌≢◌, ℕ, ◌+◌, ◌-◌, ◌≤◌, ◌<◌, List, [], ◌∷◌, take, drop, length, get_or, set, zero, suc, refl, sym, ap, subst, ◌∙◌, arith, inl, inr, get_or-set_other}
+use Rattle.std.proofs.Common.{◌≡◌, ℕ, ◌+◌, ◌-◌, ◌≤◌, ◌<◌, List, [], ◌∷◌, length, get_or, set, zero, suc, refl, sym, ap, subst, ◌∙◌, arith, inr, get_or-set_other}
 use Rattle.std.specs.Prelude.{replicate}
 use Rattle.std.proofs.Props.{props}
-use Rattle.std.proofs.Math.Logic.{⊎_elim, ∥∥₁_elim}
-use Rattle.std.proofs.lemmas.List.{get_or_default, drop-set-lt, length-replicate}
+use Rattle.std.proofs.Math.Logic.{∥∥₁_elim}
+use Rattle.std.proofs.lemmas.List.{get_or_default, drop-set-lt}
 use Rattle.std.proofs.lemmas.List.Elements.{Contains-append_left, Contains-append_right}
 use Rattle.std.specs.List.{All, Contains, flat_map}
 use Rattle.heap_words.specs.declared.map.Areas.{Areas}
@@ -25,7 +25,6 @@ use Rattle.mark_compact.specs.Collecting.{Cleared}
 -- the words stand for some state whose crossing references are recorded
 abbrev pub SomeRecorded : Areas → Contents → Type 0
 SomeRecorded m c = ∥ ((s : SpaceState) × (h : Stands m c s) × Recorded m c s h) ∥₁
-
 
 member : (bs : List (List ℕ)) (k j : ℕ) (d : ℕ) → k < length bs → j < length (get_or bs k []) → Contains (flat_map (λ (b : List ℕ). b) bs) (get_or (get_or bs k []) j d)
 member [] k j d lt lj = absurd (omega (arith, lt))

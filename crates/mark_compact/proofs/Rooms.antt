@@ -1,6 +1,6 @@
 -- Pages and current pages after a collection: those of regions are as before.
-use Rattle.std.proofs.Common.{◌≡◌, ◌≢◌, ◌⊎◌, ℕ, ◌+◌, ◌-◌, ◌*◌, ◌≤◌, ◌<◌, Bool, true, false, cond, Option, Some, None, List, [], ◌∷◌, length, get_or, zero, suc, refl, sym, ap, subst, ◌∙◌, arith, inl, inr}
-use Rattle.std.specs.Prelude.{◌==◌, slice_index}
+use Rattle.std.proofs.Common.{◌≡◌, ◌≢◌, ◌⊎◌, ℕ, ◌+◌, ◌-◌, ◌≤◌, ◌<◌, cond, Option, List, [], ◌∷◌, length, get_or, zero, suc, refl, sym, ap, ◌∙◌, arith, inl, inr}
+use Rattle.std.specs.Prelude.{◌==◌}
 use Rattle.std.specs.List.{sum_by}
 use Rattle.std.proofs.lemmas.Bool.{cases_eq, cases_lt, ne_eqb}
 use Rattle.std.proofs.lemmas.List.{get_or_past}
@@ -8,16 +8,15 @@ use Rattle.std.proofs.lemmas.List.Sums.{sum_by-cons}
 use Rattle.std.proofs.Math.Logic.{⊎_elim}
 use Rattle.object_layout.specs.declared.names.Name.{Name}
 use Rattle.heap_words.specs.declared.map.Areas.{Areas}
-use Rattle.heap_words.specs.Map.{HasThread, max_depth, page_words}
+use Rattle.heap_words.specs.Map.{HasThread}
 use Rattle.heap_words.specs.Cells.{row}
 use Rattle.heap_words.specs.Contents.{Contents}
-use Rattle.epoch_lattice.specs.declared.Space.{Space}
 use Rattle.epoch_lattice.specs.declared.Space.TheVariants.{Control, Region}
 use Rattle.epoch_lattice.specs.Lattice.{inner_of, space_index}
-use Rattle.yak_model.specs.State.{IsOpen, Thing}
+use Rattle.yak_model.specs.State.{Thing}
 use Rattle.yak_model.specs.Placed.{HeapStands, Places, space_word, used_mark}
 use Rattle.yak_model.specs.Stands.{CurrentsStand, RegionsDense, SpacesOpen, current, pages_of, words_of}
-use Rattle.region_pages.specs.Counts.{used_by, used_of}
+use Rattle.region_pages.specs.Counts.{used_of}
 use Rattle.region_pages.proofs.Counting.{used_is}
 use Rattle.relocation.specs.Slide.{IsPageOf}
 use Rattle.mark_compact.specs.Collecting.{ControlPages, IsLast}

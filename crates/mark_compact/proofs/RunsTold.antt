@@ -1,10 +1,10 @@
 -- Pages that are runs of whole objects, where it isn't told how: a search finds the run.
-use Rattle.std.proofs.Common.{◌≡◌, ◌≢◌, ◌⊎◌, ℕ, ◌+◌, ◌-◌, ◌*◌, ◌/◌, ◌%◌, ◌≤◌, ◌<◌, List, length, get_or, zero, suc, refl, sym, ap, subst, ◌∙◌, arith, inl, inr}
+use Rattle.std.proofs.Common.{◌≡◌, ◌≢◌, ◌⊎◌, ℕ, ◌+◌, ◌-◌, ◌*◌, ◌/◌, ◌%◌, ◌≤◌, ◌<◌, List, get_or, zero, suc, sym, subst, arith, inl, inr}
 use Rattle.std.proofs.Props.{props}
-use Rattle.std.proofs.lemmas.Bool.{cases_eq, cases_lt, cases_order}
+use Rattle.std.proofs.lemmas.Bool.{cases_eq, cases_order}
 use Rattle.std.proofs.Math.Logic.{⊎_elim, ∥∥₁_elim}
 use Rattle.object_layout.specs.declared.headers.Header.{Header}
-use Rattle.object_layout.specs.declared.TheConstants.{HEADER_BASE, SPACE_UNIT, MAX_FIELDS, MAX_SPACE}
+use Rattle.object_layout.specs.declared.TheConstants.{HEADER_BASE, SPACE_UNIT}
 use Rattle.object_layout.specs.Layout.{IsHeader, header_word}
 use Rattle.heap_words.specs.declared.map.Areas.{Areas}
 use Rattle.heap_words.specs.Map.{page_words}
@@ -12,8 +12,8 @@ use Rattle.heap_words.specs.Contents.{Contents}
 use Rattle.yak_model.specs.Placed.{used_mark}
 use Rattle.yak_model.specs.Plans.{Move}
 use Rattle.relocation.specs.Fields.{Lined}
-use Rattle.relocation.specs.Moves.{HasHeader, size_at}
-use Rattle.relocation.specs.Slide.{IsPageOf, PageRun, Runs, behind, object_at}
+use Rattle.relocation.specs.Moves.{HasHeader}
+use Rattle.relocation.specs.Slide.{PageRun, Runs, behind, object_at}
 use Rattle.relocation.proofs.SlidObjects.{behind-first, behind-next}
 
 -- the header that a word is

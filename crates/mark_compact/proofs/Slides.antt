@@ -1,5 +1,5 @@
 -- What is known of the planned slide of a collection.
-use Rattle.std.proofs.Common.{◌≡◌, ◌≢◌, ◌⊎◌, ℕ, ◌+◌, ◌-◌, ◌*◌, ◌/◌, ◌≤◌, ◌<◌, Bool, true, false, Option, Some, None, List, [], length, get_or, refl, sym, ap, subst, ◌∙◌, arith, inl, inr}
+use Rattle.std.proofs.Common.{◌≡◌, ◌≢◌, ℕ, ◌+◌, ◌-◌, ◌*◌, ◌≤◌, ◌<◌, Option, Some, List, length, get_or, refl, sym, ap, subst, ◌∙◌, arith, inl, inr}
 use Rattle.std.specs.List.{All}
 use Rattle.std.proofs.lemmas.Bool.{cases_eq, cases_lt}
 use Rattle.std.proofs.lemmas.List.{get_or_default}
@@ -16,21 +16,21 @@ use Rattle.epoch_lattice.specs.declared.Space.{Space}
 use Rattle.epoch_lattice.specs.declared.Space.TheVariants.{Control, Region}
 use Rattle.epoch_lattice.specs.Lattice.{space_index}
 use Rattle.yak_model.specs.Spaces.{SpaceState}
-use Rattle.yak_model.specs.State.{IsOpen, Thing, State, object_of, view}
-use Rattle.yak_model.specs.Placed.{HeapStands, Holds, IsAt, Places, names_of, size_by, space_word, words_by}
+use Rattle.yak_model.specs.State.{IsOpen, Thing, object_of, view}
+use Rattle.yak_model.specs.Placed.{HeapStands, Holds, IsAt, names_of, size_by, space_word, words_by}
 use Rattle.yak_model.specs.Plans.{Move, without}
 use Rattle.yak_model.specs.Stands.{Stands}
 use Rattle.yak_model.proofs.Data.{home-index, in_heap}
 use Rattle.yak_model.proofs.Stacks.{all-at}
 use Rattle.yak_model.proofs.Placed.{in_page}
-use Rattle.relocation.specs.Moves.{HasHeader, fields_at, size_at}
-use Rattle.relocation.specs.Slide.{IsPageOf, Runs, Sliding}
+use Rattle.relocation.specs.Moves.{HasHeader, size_at}
+use Rattle.relocation.specs.Slide.{IsPageOf, Runs}
 use Rattle.relocation.proofs.Moving.{fields_at-header}
 use Rattle.relocation.proofs.Lawful.{kept}
-use Rattle.relocation.proofs.SlidLawful.{kept-false, name_at, runs_of, slid_object, slide-present, stands-at, walk-at}
+use Rattle.relocation.proofs.SlidLawful.{kept-false, name_at, runs_of, slide-present, walk-at}
 use Rattle.relocation.proofs.Slidden.{Slid, pick, slide-known}
 use Rattle.heap_walks.proofs.Objects.{kept_word, same_address}
-use Rattle.mark_compact.specs.Given.{GivenBack, IsSlid}
+use Rattle.mark_compact.specs.Given.{IsSlid}
 use Rattle.mark_compact.specs.Collecting.{Planned}
 use Rattle.mark_compact.specs.declared.sliding.TheConstants.{CONTROL_WORD}
 use Rattle.mark_compact.proofs.Drops.{control_case, control_word}

@@ -1,9 +1,7 @@
-use Rattle.std.proofs.Common.{◌≡◌, ◌⊎◌, ℕ, List, ap, sym, subst, ◌∙◌}
-use Rattle.std.proofs.Math.Logic.{⊎_elim}
-use Rattle.std.specs.List.{Contains}
+use Rattle.std.proofs.Common.{ℕ, List, ap, sym, subst}
 use Rattle.heap_words.specs.Contents.{Contents, contents}
 use Rattle.epoch_lattice.specs.declared.Space.TheVariants.{Control}
-use Rattle.remember_sets.specs.Filed.{IsFiled, LiesIn, logged, with_no_logs, with_sets}
+use Rattle.remember_sets.specs.Filed.{LiesIn, with_no_logs}
 use Rattle.remember_sets.proofs.Frames.{with_sets-step}
 use Rattle.mark_compact.proofs.clearing.clear_slots.Goals as goal
 

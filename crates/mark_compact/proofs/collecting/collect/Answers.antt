@@ -1,14 +1,12 @@
 use Rattle.std.proofs.Props.{props}
 use Rattle.std.proofs.Math.Logic.{∥∥₁_elim, ∥∥₁_map}
-use Rattle.std.proofs.Common.{◌≡◌, ◌↔◌, ◌⊎◌, ℕ, ◌*◌, ◌≤◌, List, take, ap, sym, subst, ◌∙◌, arith}
-use Rattle.object_layout.specs.declared.names.Name.{Name}
+use Rattle.std.proofs.Common.{◌≡◌, ◌↔◌, ◌⊎◌, ℕ, List, ap, sym, subst}
 use Rattle.heap_words.specs.Contents.{Contents, contents}
-use Rattle.region_pages.specs.Freeing.{with_pool_rebuilt}
-use Rattle.yak_model.specs.State.{Thing, view}
+use Rattle.yak_model.specs.State.{view}
 use Rattle.yak_model.specs.Placed.{Holds}
 use Rattle.yak_model.specs.Plans.{without}
 use Rattle.relocation.specs.Moves.{move_at}
-use Rattle.remember_sets.specs.Filed.{IsFiled, SetsHold}
+use Rattle.remember_sets.specs.Filed.{IsFiled}
 use Rattle.forwarding.specs.Crossing.{AreMoved, IsCrossing}
 use Rattle.mark_compact.proofs.Tables.{length-table}
 use Rattle.mark_compact.proofs.Logged.{buffers-told, cleared-stands, sets-rebuilt, sets-told}
@@ -61,8 +59,7 @@ record_moved-requires-clause-some g c =
     ∥∥₁_map c.requires.recorded (λ q.
     let h = cleared-stands m old mid q.0 q.1 c.clear_slots.ensures.cleared in
     let lain = c.slide-plan.ensures.lain q.0 h in
-    let objects = (without (view q.0) lain.dropped).objects in
-    (
+    let objects = (without (view q.0) lain.dropped).objects in (
       objects,
       lain.places.at,
       (λ n. 0),

@@ -1,7 +1,7 @@
 use Rattle.std.proofs.Props.{props}
 use Rattle.std.proofs.Math.Logic.{∥∥₁_elim, ∥∥₁_map}
-use Rattle.std.proofs.Common.{◌≡◌, ℕ, ◌+◌, ◌-◌, ◌*◌, ◌<◌, List, [], get_or, map, sym, ap, subst, ◌∙◌, arith}
-use Rattle.heap_words.specs.Contents.{Contents, contents, stack_of}
+use Rattle.std.proofs.Common.{◌≡◌, ℕ, ◌+◌, ◌-◌, List, [], get_or, sym, ap, subst, ◌∙◌}
+use Rattle.heap_words.specs.Contents.{Contents, contents}
 use Rattle.yak_model.specs.Placed.{Holds}
 use Rattle.yak_model.specs.Plans.{forward, forwarded}
 use Rattle.relocation.specs.Moves.{AllMovable, heap_of, move_at, scratch_of}

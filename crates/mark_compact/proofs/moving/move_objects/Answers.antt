@@ -1,16 +1,15 @@
 use Rattle.std.proofs.Props.{props}
-use Rattle.std.proofs.Math.Logic.{∥∥₁_elim, ∥∥₁_map}
-use Rattle.std.proofs.Common.{◌≡◌, ℕ, ◌+◌, ◌*◌, ◌/◌, ◌<◌, ◌≤◌, List, get_or, refl, sym, ap, subst, ◌∙◌, arith}
+use Rattle.std.proofs.Math.Logic.{∥∥₁_elim}
+use Rattle.std.proofs.Common.{◌≡◌, ℕ, ◌+◌, ◌*◌, ◌/◌, ◌<◌, ◌≤◌, List, get_or, sym, ap, subst, ◌∙◌, arith}
 use Rattle.heap_words.specs.Map.{page_words, heap_length}
 use Rattle.heap_words.specs.Contents.{Contents, contents}
 use Rattle.yak_model.specs.State.{view}
-use Rattle.yak_model.specs.Plans.{IsInOnePage}
 use Rattle.relocation.specs.Moves.{HasHeader, heap_of, move_at, scratch_of, size_at}
 use Rattle.relocation.proofs.Settled.{TableAfter}
 use Rattle.mark_compact.specs.Collecting.{Lain}
 use Rattle.mark_compact.specs.declared.sliding.TheConstants.{CONTROL_WORD}
 use Rattle.mark_compact.proofs.Tables.{length-table}
-use Rattle.mark_compact.proofs.Lies.{control-now, lain, moved-header, new-in_page, room, size-new, tight}
+use Rattle.mark_compact.proofs.Lies.{control-now, lain, moved-header, room, size-new, tight}
 use Rattle.mark_compact.proofs.moving.move_objects.Goals as goal
 
 pub move_all-requires-clause-within : goal.move_all-requires-clause-within

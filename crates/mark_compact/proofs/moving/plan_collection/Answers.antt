@@ -1,6 +1,6 @@
 use Rattle.std.proofs.Math.Logic.{∥∥₁_map}
-use Rattle.std.proofs.Common.{◌≡◌, arith, refl, ap}
-use Rattle.heap_words.specs.Contents.{Contents, contents}
+use Rattle.std.proofs.Common.{arith}
+use Rattle.heap_words.specs.Contents.{contents}
 use Rattle.yak_model.specs.State.{view}
 use Rattle.mark_compact.specs.declared.sliding.TheConstants.{CONTROL_WORD}
 use Rattle.relocation.proofs.SlidLawful.{runs_of}

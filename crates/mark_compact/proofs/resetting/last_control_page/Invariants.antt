@@ -1,4 +1,4 @@
-use Rattle.std.proofs.Common.{◌≡◌, ◌≤◌}
+use Rattle.std.proofs.Common.{◌≡◌}
 use Rattle.heap_words.specs.Contents.{contents}
 use Rattle.mark_compact.specs.Collecting.{IsLast}
 use Rattle.mark_compact.proofs.resetting.last_control_page.Given as goal

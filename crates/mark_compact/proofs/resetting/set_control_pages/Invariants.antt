@@ -1,4 +1,4 @@
-use Rattle.std.proofs.Common.{◌≡◌, ◌≤◌}
+use Rattle.std.proofs.Common.{◌≡◌}
 use Rattle.heap_words.specs.Contents.{contents, Sound}
 use Rattle.mark_compact.specs.Collecting.{ControlPages}
 use Rattle.mark_compact.proofs.resetting.set_control_pages.Given as goal
