@@ -15,3 +15,8 @@ pub mod Placing
 pub mod Weighed
 pub mod Follows
 pub mod Underway
+pub mod Fates
+pub mod ReshapeStub
+pub mod Afters
+pub mod LaidPages
+pub mod Regrouped

@@ -4,6 +4,7 @@
 mod ending;
 mod needing;
 mod planning;
+mod probe;
 mod raising;
 mod rolling;
 mod sources;

@@ -1,0 +1,9 @@
+use Rattle.std.proofs.Common.{refl}
+use Rattle.escape_closure.proofs.Fates.{left_so}
+use Rattle.escape_closure.proofs.Afters.{ended_so}
+use Rattle.escape_closure.proofs.LaidPages.{laid-whole}
+use Rattle.escape_closure.proofs.Regrouped.{regrouped}
+use Rattle.escape_closure.proofs.probe.probe.Goals as goal
+
+pub returns : goal.returns
+returns c = refl

@@ -1,0 +1,58 @@
+-- The steps of an end, from its plan to the words that it leaves.
+use Rattle.std.specs.Prelude.{◌≡◌, ◌≢◌, ◌⊎◌, ◌↔◌, ℕ, ◌+◌, ◌-◌, ◌*◌, ◌/◌, ◌≤◌, ◌<◌, ◌==◌, cond, Bool, true, false, List, length, drop, slice_index, slice_set, map, Option, Some, None}
+use Rattle.object_layout.specs.declared.names.Name.{Name}
+use Rattle.epoch_lattice.specs.declared.Space.{Space}
+use Rattle.epoch_lattice.specs.declared.Space.TheVariants.{Control}
+use Rattle.epoch_lattice.specs.Lattice.{space_index}
+use Rattle.heap_words.specs.declared.map.Areas.{Areas}
+use Rattle.heap_words.specs.Map.{page_words}
+use Rattle.heap_words.specs.Cells.{row_set}
+use Rattle.heap_words.specs.Contents.{Contents, InLimits, depth_of}
+use Rattle.yak_model.specs.Spaces.{SpaceState, home_of, innermost}
+use Rattle.yak_model.specs.State.{IsOpen, Thing, view}
+use Rattle.yak_model.specs.Placed.{HeapStands, Places, datum_word, space_word, used_mark}
+use Rattle.yak_model.specs.Plans.{IsLawfulPlan, Move, after_moves, by_move, forwarded, without}
+use Rattle.yak_model.specs.Stands.{CurrentsStand, PoolStands, RegionsDense}
+use Rattle.yak_model.specs.Recorded.{IsRecorded}
+use Rattle.relocation.specs.Slide.{IsPageOf, brought}
+use Rattle.remember_sets.specs.Filed.{IsFiled, LiesIn, SetsHold}
+use Rattle.forwarding.specs.Crossing.{AreFiled, IsCrossing}
+use Rattle.escape_closure.specs.Targets.{IsEscaping, IsTargetAt}
+use Rattle.escape_closure.specs.Ends.{region_word}
+
+-- The moves are those of the escaping objects, each into its target, or all into Control where the end is tight.
+pub record EndMoves (s : SpaceState) (l : Places) (t count : ℕ) (moves : ℕ → Move) (tight : Bool) : Type 0 where
+  pub ascending : (j k : ℕ) → j < k → k < count → (moves j).old < (moves k).old
+  pub moved : (k : ℕ) → k < count → (n : Name) × IsEscaping s t n × (l.at n ≡ (moves k).old)
+  pub complete : (n : Name) → IsEscaping s t n → (k : ℕ) × (k < count) × (l.at n ≡ (moves k).old) × (x : Space) × IsTargetAt s t n x × ((moves k).space ≡ cond tight Control x)
+
+-- A space is the one, by its number.
+abbrev pub is_home : Space → Option Space → Bool
+is_home r None = false
+is_home r (Some x) = space_index x == space_index r
+
+-- The objects of the innermost region that no move takes along.
+abbrev pub left_behind : SpaceState → Places → ℕ → ℕ → (ℕ → Move) → Name → Bool
+left_behind s l t count moves n = by_move count moves (λ v. false) (l.at n) (is_home (innermost s.graph t) (home_of s n))
+
+-- The objects after the moves, without those that no move takes along.
+abbrev pub objects_left : SpaceState → Places → ℕ → ℕ → (ℕ → Move) → Name → Option Thing
+objects_left s l t count moves = (after_moves count moves l.at (without (view s) (left_behind s l t count moves))).objects
+
+-- An object is placed behind what its page held and what the moves brought there before, in a page that isn't one of the
+-- region that ends.
+pub record PlacedIn (m : Areas) (slid : ℕ) (was : List (List ℕ)) (heap : List ℕ) (now : List (List ℕ)) (moves : ℕ → Move) (k : ℕ) : Type 0 where
+  pub page : ℕ
+  pub exists : page < m.pages
+  pub other : IsPageOf slid was page → ⊥
+  pub entered : space_word now page ≡ space_index (moves k).space + 1
+  pub within : (moves k).new / page_words m ≡ page
+  pub address : (moves k).new ≡ page_words m * page + (used_mark was page + brought m heap k moves page)
+
+-- The page table after the moves of an end, when the pages of the region are given back.
+pub record PagesLeft (m : Areas) (slid : ℕ) (was : List (List ℕ)) (heap : List ℕ) (now : List (List ℕ)) (count : ℕ) (moves : ℕ → Move) : Type 0 where
+  pub gone : (p : ℕ) → p < m.pages → IsPageOf slid was p → (space_word now p ≡ 0) × (used_mark now p ≡ 0)
+  pub kept : (p : ℕ) → p < m.pages → (IsPageOf slid was p → ⊥) → space_word was p ≢ 0 → space_word now p ≡ space_word was p
+  pub marks : (p : ℕ) → p < m.pages → (IsPageOf slid was p → ⊥) → used_mark now p ≡ used_mark was p + brought m heap count moves p
+  pub fits : (p : ℕ) → p < m.pages → used_mark now p ≤ page_words m
+  pub placed : (k : ℕ) → k < count → PlacedIn m slid was heap now moves k
