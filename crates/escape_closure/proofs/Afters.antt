@@ -18,7 +18,7 @@ use Rattle.heap_walks.proofs.Seen.{present_of, seen, shown}
 use Rattle.forwarding.specs.Reshaped.{Reshaped}
 use Rattle.escape_closure.specs.Targets.{IsEscaping}
 use Rattle.escape_closure.specs.Leaving.{EndMoves, left_behind, objects_left}
-use Rattle.escape_closure.proofs.ReshapeStub.{reshape, reshaped-objects, reshaped-whole}
+use Rattle.forwarding.proofs.Reshaping.{reshape, reshaped-objects, reshaped-whole}
 use Rattle.escape_closure.proofs.Fates.{MovedAs, OneEach, StaysAs, escaping_in, gone_so, left_so, moves_so, stays_so}
 
 abbrev pub home_in : Option Thing → Option Space
@@ -117,7 +117,7 @@ module _ (s : SpaceState) (whole : IsWhole s) (l : Places) (one : OneEach s l) (
       let threads : mid.graph.threads ≡ s.graph.threads = ap (λ (g : Graph). g.threads) r.rest in
       let objects : object_of mid ≡ objects_left s l t count moves = fun_ext (λ n. reshaped-objects s given mid r n ∙ rebuilt (home_of s n) (content_at s.graph n) (left_behind s l t count moves n) count moves (l.at n)) in
       let shows : view mid ≡ shown_by (objects_left s l t count moves) s.graph.threads = ap (λ f. shown_by f mid.graph.threads) objects ∙ ap (shown_by (objects_left s l t count moves)) threads in
-      let w : IsWhole mid = reshaped-whole s given mid given_present whole (given_valid spaces) r in
+      let w : IsWhole mid = reshaped-whole s given mid whole (given_valid spaces) r given_present in
       record {
         after = lowered mid t k;
         ends = record {

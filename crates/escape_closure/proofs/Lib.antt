@@ -16,7 +16,7 @@ pub mod Weighed
 pub mod Follows
 pub mod Underway
 pub mod Fates
-pub mod ReshapeStub
 pub mod Afters
 pub mod LaidPages
 pub mod Regrouped
+pub mod Leaves

@@ -9,7 +9,7 @@ use Rattle.heap_words.specs.Map.{page_words}
 use Rattle.heap_words.specs.Cells.{row_set}
 use Rattle.heap_words.specs.Contents.{Contents, InLimits, depth_of}
 use Rattle.yak_model.specs.Spaces.{SpaceState, home_of, innermost}
-use Rattle.yak_model.specs.State.{IsOpen, Thing, view}
+use Rattle.yak_model.specs.State.{IsClosed, IsOpen, Thing, view}
 use Rattle.yak_model.specs.Placed.{HeapStands, Places, datum_word, space_word, used_mark}
 use Rattle.yak_model.specs.Plans.{IsLawfulPlan, Move, after_moves, by_move, forwarded, without}
 use Rattle.yak_model.specs.Stands.{CurrentsStand, PoolStands, RegionsDense}
@@ -56,3 +56,24 @@ pub record PagesLeft (m : Areas) (slid : ℕ) (was : List (List ℕ)) (heap : Li
   pub marks : (p : ℕ) → p < m.pages → (IsPageOf slid was p → ⊥) → used_mark now p ≡ used_mark was p + brought m heap count moves p
   pub fits : (p : ℕ) → p < m.pages → used_mark now p ≤ page_words m
   pub placed : (k : ℕ) → k < count → PlacedIn m slid was heap now moves k
+
+-- What an end leaves in the words: the objects that are left lie in pages of open spaces, and references lead to them. What
+-- was recorded and doesn't lie in the region is filed, and so are the crossing fields of the moved objects.
+pub record Leaves (m : Areas) (c d : Contents) (s : SpaceState) (l : Places) (t count : ℕ) (moves : ℕ → Move) (later : Places) : Type 0 where
+  pub at : later.at ≡ forwarded count moves l.at
+  pub heap : HeapStands m d.table d.heap (objects_left s l t count moves) later (λ _. 0)
+  pub spaces : (p : ℕ) → p < m.pages → (space_word d.table p ≡ 0) ⊎ ((x : Space) × (space_word d.table p ≡ space_index x + 1) × IsOpen (view s).depths x × (x ≢ innermost s.graph t))
+  pub closed : IsClosed (without (view s) (left_behind s l t count moves))
+  pub stacks : d.stacks ≡ map (map (datum_word (forwarded count moves l.at))) (view s).stacks
+  pub depths : d.depths ≡ slice_set c.depths (t - 1) (depth_of c t - 1)
+  pub made : d.made ≡ c.made
+  pub rests : d.rests ≡ c.rests
+  pub unused : drop 4 d.heads ≡ drop 4 c.heads
+  pub readers : d.readers ≡ row_set c.readers (t - 1) (depth_of c t - 1) 0
+  pub buffers : AreFiled d.buffers
+  pub limits : InLimits m d
+  pub pool : PoolStands m d.heads d.pool d.table
+  pub currents : CurrentsStand m d.currents d.table
+  pub sets : SetsHold m d
+  pub dense : RegionsDense m d.table d.currents later.pages (objects_left s l t count moves)
+  pub filed : (a : ℕ) → IsFiled d a ↔ ((IsRecorded c.heads c.sets c.buffers a × (LiesIn m c (innermost s.graph t) a → ⊥)) ⊎ IsCrossing (objects_left s l t count moves) later.at count moves a)
