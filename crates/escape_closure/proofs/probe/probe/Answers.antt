@@ -3,7 +3,7 @@ use Rattle.escape_closure.proofs.Fates.{left_so}
 use Rattle.escape_closure.proofs.Afters.{ended_so}
 use Rattle.escape_closure.proofs.LaidPages.{laid-whole}
 use Rattle.escape_closure.proofs.Regrouped.{regrouped}
-use Rattle.escape_closure.proofs.Leaves.{view_stands}
+use Rattle.escape_closure.proofs.Leaves.{state_ended}
 use Rattle.escape_closure.proofs.probe.probe.Goals as goal
 
 pub returns : goal.returns
