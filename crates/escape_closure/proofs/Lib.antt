@@ -20,3 +20,4 @@ pub mod Afters
 pub mod LaidPages
 pub mod Regrouped
 pub mod Leaves
+pub mod Sums

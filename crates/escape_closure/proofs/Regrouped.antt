@@ -50,7 +50,7 @@ abbrev pub AreNamed : Places → ℕ → (ℕ → Move) → (ℕ → Name) → T
 AreNamed l count moves named = (k : ℕ) → k < count → l.at (named k) ≡ (moves k).old
 
 module _ (m : Areas) (s : SpaceState) (whole : IsWhole s) (closed : IsClosed (view s)) (l : Places) (t count : ℕ) (some : 1 ≤ t) (valid : IsValid MAX_DEPTH (innermost s.graph t)) (moves : ℕ → Move) (tight : Bool) (e : EndMoves s l t count moves tight) (was : Contents) (work : Name → ℕ) (h : HeapStands m was.table was.heap (object_of s) l work) (named : ℕ → Name) (name_is : AreNamed l count moves named) (escaping : (k : ℕ) → k < count → IsEscaping s t (named k)) where
-  one : OneEach s l
+  pub one : OneEach s l
   one = one_each m was.table was.heap s l work h
 
   abbrev region : Space
@@ -69,18 +69,18 @@ module _ (m : Areas) (s : SpaceState) (whole : IsWhole s) (closed : IsClosed (vi
   small = let q = number-most region valid in omega (arith, q)
 
   -- a page is one of the region exactly where its objects are
-  page_home : (n : Name) (o : Thing) (p k : ℕ) → object_of s n ≡ Some o → IsAt l n p k → space_word was.table p ≡ space_index o.home + 1
+  pub page_home : (n : Name) (o : Thing) (p k : ℕ) → object_of s n ≡ Some o → IsAt l n p k → space_word was.table p ≡ space_index o.home + 1
   page_home n o p k here at =
       let w = h.whole n p k at in
       w.2 ∙ ap (λ (q : Thing). space_index q.home + 1) (one_thing w.0 o (sym w.1 ∙ here))
 
-  own_page : (n : Name) (o : Thing) (p k : ℕ) → object_of s n ≡ Some o → IsAt l n p k → IsPageOf slid was.table p → o.home ≡ region
+  pub own_page : (n : Name) (o : Thing) (p k : ℕ) → object_of s n ≡ Some o → IsAt l n p k → IsPageOf slid was.table p → o.home ≡ region
   own_page n o p k here at own =
       let index = page_home n o p k here at in
       let home : IsValid MAX_DEPTH o.home = subst (λ i. IsValid i o.home) (ap (λ (q : Limits). q.depth) whole.limits) (whole.homes n o.home (seen s n o here).home_is) in
       number-own o.home region home valid (omega (arith, index, own))
 
-  other_page : (n : Name) (o : Thing) (p k : ℕ) → object_of s n ≡ Some o → IsAt l n p k → (IsPageOf slid was.table p → ⊥) → o.home ≢ region
+  pub other_page : (n : Name) (o : Thing) (p k : ℕ) → object_of s n ≡ Some o → IsAt l n p k → (IsPageOf slid was.table p → ⊥) → o.home ≢ region
   other_page n o p k here at other is = other (page_home n o p k here at ∙ ap (λ (q : Space). space_index q + 1) is)
 
   -- the object of a move
@@ -99,7 +99,7 @@ module _ (m : Areas) (s : SpaceState) (whole : IsWhole s) (closed : IsClosed (vi
       let q = stays_so s whole l one t count some valid moves tight e n w.0 w.1 (other_page n w.0 p k w.1 at other) in
       (w.0, w.1, q.0, q.1)
 
-  place : (n : Name) (p k : ℕ) → p < m.pages → k < length (names_of l p) → get_or (names_of l p) k n ≡ n → IsAt l n p k
+  pub place : (n : Name) (p k : ℕ) → p < m.pages → k < length (names_of l p) → get_or (names_of l p) k n ≡ n → IsAt l n p k
   place n p k hp lt q = record { page = rw h.count hp; place = lt; name = q }
 
   same_sizes : (p : ℕ) → p < m.pages → (IsPageOf slid was.table p → ⊥) → All (λ n. size_by left n ≡ size_by (object_of s) n) (names_of l p)
