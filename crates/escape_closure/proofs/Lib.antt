@@ -15,3 +15,4 @@ pub mod Placing
 pub mod Weighed
 pub mod Follows
 pub mod Underway
+pub mod Corrects

@@ -5,8 +5,10 @@ mod ending;
 mod needing;
 mod planning;
 mod raising;
+mod references;
 mod rolling;
 mod sources;
+mod stub;
 mod weighing;
 
 pub use ending::targets;
