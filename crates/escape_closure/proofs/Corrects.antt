@@ -132,3 +132,28 @@ numbered_outside m f c d region entries count moves ready le a h = record {
   within = h.within;
   marks = λ k lt. a.others ((moves k).old + 2) (λ i li out. ready.beside i k (omega (arith, li, le)) lt) ∙ h.marks k lt;
 }
+
+-- the own stack, the readers' stacks and the recorded slots
+pub outside_done : (m : Areas) (f : ℕ → ℕ) (c own mid d : Contents) (thread depth readers region : ℕ) → 1 ≤ thread → thread - 1 < length c.stacks → own ≡ with_stack c thread (corrected_stack f (stack_of c thread)) → readers ≡ readers_of c thread depth → ReadersCorrected f own mid thread readers 0 m.threads → region ≡ space_index (Region thread depth) → SlotsCorrected m f mid d region (set_entries mid.heads) → OutsideCorrected m f c d thread depth
+outside_done m f c own mid d thread depth readers region some within made word r index slots =
+    let st : List ℕ = corrected_stack f (stack_of c thread) in
+    let rows : own.stacks ≡ set c.stacks (thread - 1) st = ap (λ (x : Contents). x.stacks) made in
+    let only : mid ≡ record c { stacks = mid.stacks } = r.frame ∙ ap (λ (x : Contents). record x { stacks = mid.stacks }) made in
+    let k : SlotsCorrected m f (record c { stacks = mid.stacks }) d region (set_entries c.heads) = subst (λ (x : Contents). SlotsCorrected m f x d region (set_entries x.heads)) only slots in
+    let stacks : d.stacks ≡ mid.stacks = ap (λ (x : Contents). x.stacks) slots.frame in
+    let first : (j : ℕ) → j + 1 ≢ thread → row own.stacks j ≡ row c.stacks j = λ j ne. ap (λ (ss : List (List ℕ)). row ss j) rows ∙ get_or-set_other c.stacks (thread - 1) j st [] (λ q. ne (omega (arith, q, some))) in
+    let last : (j : ℕ) → row d.stacks j ≡ row mid.stacks j = λ j. ap (λ (ss : List (List ℕ)). row ss j) stacks in
+    record {
+      frame = k.frame ∙ ap (λ (ss : List (List ℕ)). record c { stacks = ss; heap = d.heap }) (sym stacks);
+      rows = ap (λ (ss : List (List ℕ)). length ss) stacks ∙ r.size ∙ ap (λ (ss : List (List ℕ)). length ss) rows ∙ length-set c.stacks (thread - 1) st;
+      own = last (thread - 1) ∙ r.others (thread - 1) (λ _ _ ne _. ne (omega (arith, some))) ∙ ap (λ (ss : List (List ℕ)). row ss (thread - 1)) rows ∙ get_or-set_same c.stacks (thread - 1) st [] within;
+      read = λ j lt ne is. last j ∙ r.read j (omega arith) lt ne (subst (λ w. IsBitSet w j) (sym word) is) ∙ ap (corrected_stack f) (first j ne);
+      others = λ j ne h. last j ∙ r.others j (λ _ lt _ is. h lt (subst (λ w. IsBitSet w j) word is)) ∙ first j ne;
+      size = k.size;
+      slots = λ i lt out. k.slots i lt (subst (λ w. IsOutside m c w i) (sym index) out);
+      fields = λ a h. k.others a (λ i lt out. h i lt (subst (λ w. IsOutside m c w i) index out));
+    }
+
+-- the recorded slots stay while stacks are corrected
+pub ready_stacked : (m : Areas) (c d : Contents) (count : ℕ) (moves : ℕ → Move) → d ≡ record c { stacks = d.stacks } → SlotsReady m c count moves → SlotsReady m d count moves
+ready_stacked m c d count moves frame ready = subst (λ (x : Contents). SlotsReady m x count moves) (sym frame) (record { within = ready.within; slots = ready.slots; once = ready.once; lead = ready.lead; beside = ready.beside })
