@@ -16,3 +16,4 @@ pub mod Weighed
 pub mod Follows
 pub mod Underway
 pub mod Corrects
+pub mod Leads
