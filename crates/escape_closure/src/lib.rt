@@ -8,10 +8,10 @@ mod raising;
 mod references;
 mod rolling;
 mod sources;
-mod stub;
 mod weighing;
 
 pub use ending::targets;
+pub use references::correct_references;
 
 /// What the work word of an object counts more while it waits on the list.
 const WAITING: u64 = 128;

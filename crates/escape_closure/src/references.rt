@@ -13,8 +13,8 @@ ghost use Rattle.escape_closure.specs.Referring.{IsOutside, OutsideCorrected, Re
 
 use crate::SET_ENTRIES;
 use crate::sources::page_of;
-use crate::stub::correct_stack;
 use epoch_lattice::{Space, index_of};
+use forwarding::correct_stack;
 use heap_words::{Areas, Words, get_head, get_page, get_readers, get_set};
 use relocation::{Plan, correct_field, correct_moves};
 use thread_stacks::depth;
