@@ -21,3 +21,5 @@ pub mod LaidPages
 pub mod Regrouped
 pub mod Leaves
 pub mod Sums
+pub mod Corrects
+pub mod Leads

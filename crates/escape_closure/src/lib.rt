@@ -6,11 +6,13 @@ mod needing;
 mod planning;
 mod probe;
 mod raising;
+mod references;
 mod rolling;
 mod sources;
 mod weighing;
 
 pub use ending::targets;
+pub use references::correct_references;
 
 /// What the work word of an object counts more while it waits on the list.
 const WAITING: u64 = 128;
