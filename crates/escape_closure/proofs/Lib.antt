@@ -23,3 +23,4 @@ pub mod Leaves
 pub mod Sums
 pub mod Corrects
 pub mod Leads
+pub mod Carries

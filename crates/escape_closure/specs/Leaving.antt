@@ -10,15 +10,17 @@ use Rattle.heap_words.specs.Cells.{row_set}
 use Rattle.heap_words.specs.Contents.{Contents, InLimits, depth_of}
 use Rattle.yak_model.specs.Spaces.{SpaceState, home_of, innermost}
 use Rattle.yak_model.specs.State.{IsClosed, IsOpen, Thing, view}
-use Rattle.yak_model.specs.Placed.{HeapStands, Places, datum_word, space_word, used_mark}
-use Rattle.yak_model.specs.Plans.{IsLawfulPlan, Move, after_moves, by_move, forwarded, without}
-use Rattle.yak_model.specs.Stands.{CurrentsStand, PoolStands, RegionsDense}
-use Rattle.yak_model.specs.Recorded.{IsRecorded}
+use Rattle.yak_model.specs.Placed.{HeapStands, Holds, Places, datum_word, space_word, used_mark}
+use Rattle.yak_model.specs.Plans.{IsLawfulPlan, Move, after_moves, by_move, cleared, forwarded, without}
+use Rattle.yak_model.specs.Stands.{CurrentsStand, PoolStands, RegionsDense, Stands, set_entries}
+use Rattle.yak_model.specs.Recorded.{IsRecorded, Recorded}
+use Rattle.relocation.specs.Moves.{move_at}
 use Rattle.relocation.specs.Slide.{IsPageOf, brought}
+use Rattle.remember_sets.specs.declared.TheConstants.{SET_ENTRIES}
 use Rattle.remember_sets.specs.Filed.{IsFiled, LiesIn, SetsHold}
 use Rattle.forwarding.specs.Crossing.{AreFiled, IsCrossing}
-use Rattle.escape_closure.specs.Targets.{IsEscaping, IsTargetAt}
-use Rattle.escape_closure.specs.Ends.{region_word}
+use Rattle.escape_closure.specs.Targets.{IsEscaping, IsTargetAt, TargetsWritten}
+use Rattle.escape_closure.specs.Ends.{DropsRest, EndPlanned, PlanReady, region_word}
 
 -- The moves are those of the escaping objects, each into its target, or all into Control where the end is tight.
 pub record EndMoves (s : SpaceState) (l : Places) (t count : ℕ) (moves : ℕ → Move) (tight : Bool) : Type 0 where
@@ -77,3 +79,41 @@ pub record Leaves (m : Areas) (c d : Contents) (s : SpaceState) (l : Places) (t 
   pub sets : SetsHold m d
   pub dense : RegionsDense m d.table d.currents later.pages (objects_left s l t count moves)
   pub filed : (a : ℕ) → IsFiled d a ↔ ((IsRecorded c.heads c.sets c.buffers a × (LiesIn m c (innermost s.graph t) a → ⊥)) ⊎ IsCrossing (objects_left s l t count moves) later.at count moves a)
+
+-- ---- the steps
+
+-- A plan of the escaping objects that references can follow, in words that stood for a state before.
+pub record ReadyToMove (m : Areas) (before c : Contents) (s : SpaceState) (stands : Stands m before s) (t count : ℕ) (tight : Bool) : Type 0 where
+  pub ready : PlanReady m before c s stands t count
+  pub moves : EndMoves s stands.places t count (move_at c.scratch) tight
+  pub lawful : (dropped : Name → Bool) → DropsRest s t dropped → IsLawfulPlan m count (move_at c.scratch) (view s) stands.places.at dropped
+  pub sets : SetsHold m c
+
+-- References follow the plan, the slots of the region are recorded no longer, and the objects are moved.
+pub record Carried (m : Areas) (c d : Contents) (s : SpaceState) (l : Places) (t count : ℕ) : Type 0 where
+  pub holds : Holds m d.heap (forwarded count (move_at c.scratch) l.at) (forwarded count (move_at c.scratch) l.at) (cleared count (move_at c.scratch) l.at (λ n. slice_index c.heap (l.at n + 2))) (objects_left s l t count (move_at c.scratch))
+  pub stacks : d.stacks ≡ map (map (datum_word (forwarded count (move_at c.scratch) l.at))) (view s).stacks
+  pub filed : (a : ℕ) → IsFiled d a ↔ (IsFiled c a × (LiesIn m c (innermost s.graph t) a → ⊥))
+  pub sets : SetsHold m d
+  pub frame : d ≡ record c { heads = slice_set c.heads SET_ENTRIES (set_entries d.heads); stacks = d.stacks; sets = d.sets; heap = d.heap }
+
+-- The buffers are filed, and the targets stand in the work words.
+pub record Begun (m : Areas) (c d : Contents) (s : SpaceState) (stands : Stands m c s) (t escaping : ℕ) : Type 0 where
+  pub filing : Contents
+  pub later : Stands m filing s
+  pub places : later.places ≡ stands.places
+  pub recorded : Recorded m filing s later
+  pub filed : AreFiled filing.buffers
+  pub written : TargetsWritten m s later.places t filing d escaping
+  pub frame : filing ≡ record c { heads = slice_set c.heads SET_ENTRIES (set_entries filing.heads); sets = filing.sets; buffers = filing.buffers }
+
+-- The words after the targets of an end whose buffers were filed.
+pub record Filed (m : Areas) (before : Contents) (s : SpaceState) (stands : Stands m before s) : Type 0 where
+  pub recorded : Recorded m before s stands
+  pub filed : AreFiled before.buffers
+
+-- The escaping objects are planned by the rule of placement.
+pub record RegionReady (m : Areas) (before mid c : Contents) (s : SpaceState) (stands : Stands m before s) (t count : ℕ) : Type 0 where
+  pub filed : Filed m before s stands
+  pub written : TargetsWritten m s stands.places t before mid count
+  pub planned : EndPlanned m mid c s stands.places t count

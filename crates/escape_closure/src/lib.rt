@@ -1,6 +1,7 @@
 //! The end of a region: the objects that escape from it, and their targets.
 #![tactic(auto)]
 
+mod carrying;
 mod ending;
 mod needing;
 mod planning;
@@ -9,6 +10,7 @@ mod raising;
 mod references;
 mod rolling;
 mod sources;
+mod stub;
 mod weighing;
 
 pub use ending::targets;
