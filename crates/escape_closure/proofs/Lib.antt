@@ -24,3 +24,4 @@ pub mod Sums
 pub mod Corrects
 pub mod Leads
 pub mod Carries
+pub mod Filing

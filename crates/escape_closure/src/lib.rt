@@ -1,6 +1,7 @@
 //! The end of a region: the objects that escape from it, and their targets.
 #![tactic(auto)]
 
+mod beginning;
 mod carrying;
 mod ending;
 mod needing;
