@@ -17,3 +17,4 @@ pub mod Follows
 pub mod Underway
 pub mod Corrects
 pub mod Leads
+pub mod Clears

@@ -1,6 +1,7 @@
 //! The end of a region: the objects that escape from it, and their targets.
 #![tactic(auto)]
 
+mod clearing;
 mod ending;
 mod needing;
 mod planning;
@@ -10,6 +11,7 @@ mod rolling;
 mod sources;
 mod weighing;
 
+pub use clearing::clear_targets;
 pub use ending::targets;
 pub use references::correct_references;
 
