@@ -57,15 +57,15 @@ pages_more m h mid d table region page on before now p lt own = elim (cases_eq p
 written_scratch : (m : Areas) (s : SpaceState) (l : Places) (t : ℕ) (b now c : Contents) (escaping : ℕ) → TargetsWritten m s l t b now escaping → OnlyScratch now c → TargetsWritten m s l t b c escaping
 written_scratch m s l t b now c escaping w only =
     subst (λ (x : Contents). TargetsWritten m s l t b x escaping) (sym only)
-        (record {
-          targets = w.targets;
-          others = w.others;
-          counted = w.counted;
-          frame = ap (λ (x : Contents). record x { scratch = c.scratch }) w.frame;
-          size = w.size;
-          kept = w.kept;
-          heap = w.heap;
-        })
+    (record {
+      targets = w.targets;
+      others = w.others;
+      counted = w.counted;
+      frame = ap (λ (x : Contents). record x { scratch = c.scratch }) w.frame;
+      size = w.size;
+      kept = w.kept;
+      heap = w.heap;
+    })
 
 module _ (m : Areas) (b now c : Contents) (s : SpaceState) (st : Stands m b s) (t depth escaping : ℕ) (areas : IsAreas m) (has : HasThread m t) (low : 1 ≤ depth) (high : depth ≤ MAX_DEPTH) (w : TargetsWritten m s st.places t b now escaping) (only : OnlyScratch now c) (region : innermost s.graph t ≡ Region t depth) (heap : length c.heap ≡ heap_length m) (scratch : length c.scratch ≡ scratch_length m) where
   ready : AimsInside m (aimed m b c s st t depth)

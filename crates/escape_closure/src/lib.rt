@@ -2,6 +2,7 @@
 #![tactic(auto)]
 
 mod clearing;
+mod closing;
 mod ending;
 mod needing;
 mod planning;
@@ -12,6 +13,7 @@ mod sources;
 mod weighing;
 
 pub use clearing::clear_targets;
+pub use closing::close_region;
 pub use ending::targets;
 pub use references::correct_references;
 
