@@ -1,5 +1,5 @@
 -- Work words of a region's objects, cleared page by page.
-use Rattle.std.proofs.Common.{◌≡◌, ◌≢◌, ℕ, ◌+◌, ◌*◌, ◌≤◌, ◌<◌, List, Some, get_or, set, length, refl, sym, ap, subst, ◌∙◌, arith, inl, inr, get_or-set_other}
+use Rattle.std.proofs.Common.{◌≡◌, ◌≢◌, ℕ, ◌+◌, ◌≤◌, List, get_or, length, sym, ap, subst, ◌∙◌, arith, inl, inr, get_or-set_other}
 use Rattle.std.proofs.lemmas.Bool.{cases_eq}
 use Rattle.std.proofs.lemmas.List.{ext_get_or}
 use Rattle.object_layout.specs.declared.names.Name.{Name}
@@ -8,9 +8,9 @@ use Rattle.epoch_lattice.specs.declared.TheConstants.{MAX_DEPTH}
 use Rattle.epoch_lattice.specs.Lattice.{space_index}
 use Rattle.heap_words.specs.declared.map.Areas.{Areas}
 use Rattle.heap_words.specs.Map.{HasThread, IsAreas, heap_length, scratch_length}
-use Rattle.heap_words.specs.Contents.{Contents, depth_of, with_heap}
+use Rattle.heap_words.specs.Contents.{Contents, with_heap}
 use Rattle.yak_model.specs.Spaces.{SpaceState, innermost}
-use Rattle.yak_model.specs.State.{Thing, object_of}
+use Rattle.yak_model.specs.State.{Thing}
 use Rattle.yak_model.specs.Placed.{Places, space_word}
 use Rattle.yak_model.specs.Stands.{Stands}
 use Rattle.heap_walks.specs.Laid.{Laid, IsAmong, IsThing, work_at, work_of}

@@ -1,10 +1,8 @@
 use Rattle.std.proofs.Props.{props}
 use Rattle.std.proofs.Math.Logic.{∥∥₁_elim}
-use Rattle.std.proofs.Common.{◌≡◌, ◌+◌, ◌*◌, ℕ, List, arith, refl, sym, ap, ◌∙◌, subst, length}
-use Rattle.object_layout.specs.declared.TheConstants.{OBJECT_WORDS}
+use Rattle.std.proofs.Common.{◌≡◌, ◌+◌, ◌*◌, ℕ, List, arith, ap, ◌∙◌, length}
 use Rattle.heap_words.specs.Map.{page_words}
-use Rattle.heap_words.specs.Contents.{Contents, contents, with_heap}
-use Rattle.heap_walks.specs.Laid.{IsAmong}
+use Rattle.heap_words.specs.Contents.{contents, with_heap}
 use Rattle.heap_walks.proofs.Objects.{counted}
 use Rattle.heap_walks.proofs.Pages.{Met, meets, met_fits, met_used, used_fits, walk_begins, walk_ends, walk_goes}
 use Rattle.relocation.proofs.Heap.{only_heap-same, only_heap-step, only_heap-then}

@@ -1,4 +1,4 @@
-use Rattle.std.proofs.Common.{◌≡◌, ◌≤◌, ◌-◌, ◌+◌, ◌*◌}
+use Rattle.std.proofs.Common.{◌≡◌, ◌≤◌, ◌-◌, ◌+◌}
 use Rattle.heap_words.specs.Contents.{contents, Sound}
 use Rattle.heap_walks.specs.Laid.{Laid, IsAmong}
 use Rattle.heap_walks.specs.Walked.{IsWalked}

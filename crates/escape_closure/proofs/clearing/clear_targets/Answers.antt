@@ -1,13 +1,12 @@
 use Rattle.std.proofs.Math.Logic.{∥∥₁_map}
-use Rattle.std.proofs.Common.{◌≡◌, ◌≤◌, ◌+◌, ℕ, List, arith, ap, sym, subst, ◌∙◌}
+use Rattle.std.proofs.Common.{◌≡◌, ◌≤◌, arith, ap, sym, subst, ◌∙◌}
 use Rattle.epoch_lattice.specs.declared.Space.TheVariants.{Region}
-use Rattle.epoch_lattice.specs.Lattice.{space_index}
 use Rattle.heap_words.specs.Contents.{Contents, contents, depth_of}
 use Rattle.heap_words.proofs.Contents.{length-heap, length-scratch}
 use Rattle.heap_walks.specs.Laid.{IsAmong}
 use Rattle.region_pages.specs.Counts.{used_of}
 use Rattle.escape_closure.specs.Cleared.{ArePagesClear, ClearsOn}
-use Rattle.escape_closure.proofs.Clears.{all_clear, among, as_before, laid, table_now}
+use Rattle.escape_closure.proofs.Clears.{among, as_before, laid}
 use Rattle.escape_closure.proofs.Written.{region_is}
 use Rattle.escape_closure.proofs.clearing.clear_targets.Goals as goal
 

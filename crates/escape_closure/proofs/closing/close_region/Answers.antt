@@ -1,5 +1,5 @@
-use Rattle.std.proofs.Common.{◌≡◌, ◌-◌, ℕ, List, arith, ap, ◌∙◌}
-use Rattle.heap_words.specs.Contents.{Contents, contents, depth_of, with_depth, with_readers}
+use Rattle.std.proofs.Common.{◌-◌, ℕ, List, arith, ap, ◌∙◌}
+use Rattle.heap_words.specs.Contents.{Contents, contents, with_depth, with_readers}
 use Rattle.escape_closure.proofs.closing.close_region.Goals as goal
 
 pub clear_readers-requires-clause-region : goal.clear_readers-requires-clause-region
