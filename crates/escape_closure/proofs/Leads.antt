@@ -1,24 +1,22 @@
 -- What refers to the objects that the plan of an end moves.
-use Rattle.std.proofs.Common.{◌≡◌, ◌≢◌, ◌⊎◌, ℕ, ◌+◌, ◌-◌, ◌*◌, ◌/◌, ◌%◌, ◌≤◌, ◌<◌, Bool, true, false, Option, Some, None, is_some, List, [], ◌∷◌, zero, suc, length, map, take, get_or, refl, sym, ap, subst, ◌∙◌, arith, inl, inr, length-take, get_or-take}
-use Rattle.std.proofs.lemmas.Bool.{cases_eq, cases_lt}
+use Rattle.std.proofs.Common.{◌≡◌, ◌≢◌, ◌⊎◌, ℕ, ◌+◌, ◌-◌, ◌*◌, ◌/◌, ◌%◌, ◌≤◌, ◌<◌, Bool, true, Option, Some, None, is_some, List, [], ◌∷◌, zero, suc, length, map, take, get_or, refl, sym, ap, subst, ◌∙◌, arith, inl, inr, length-take, get_or-take}
+use Rattle.std.proofs.lemmas.Bool.{cases_eq}
 use Rattle.std.proofs.lemmas.List.{ext_get_or, get_or_default, length-map}
 use Rattle.std.proofs.lemmas.List.Elements.{All-get_or, Contains-get_or}
-use Rattle.std.specs.List.{All, Contains, flat_map}
+use Rattle.std.specs.List.{All, Contains}
 use Rattle.std.specs.Int.{IsBitSet}
 use Rattle.std.specs.Int.Bits.{bit_and}
 use Rattle.std.specs.Prelude.{◌^◌}
 use Rattle.object_layout.specs.declared.names.Name.{Name}
-use Rattle.object_layout.specs.declared.headers.Header.{Header}
 use Rattle.object_layout.specs.declared.TheConstants.{HEADER_BASE, MAX_FIELDS, MAX_SPACE, OBJECT_WORDS, SPACE_UNIT}
-use Rattle.object_layout.specs.Layout.{header_word}
 use Rattle.epoch_lattice.specs.declared.Space.{Space}
 use Rattle.epoch_lattice.specs.declared.Space.TheVariants.{Control, Region}
 use Rattle.epoch_lattice.specs.declared.TheConstants.{MAX_DEPTH}
 use Rattle.epoch_lattice.specs.Lattice.{IsValid, space_index}
 use Rattle.heap_words.specs.declared.map.Areas.{Areas}
-use Rattle.heap_words.specs.Map.{HasThread, IsAreas, heap_length, page_words}
+use Rattle.heap_words.specs.Map.{IsAreas, heap_length, page_words}
 use Rattle.heap_words.specs.Cells.{row}
-use Rattle.heap_words.specs.Contents.{Contents, depth_of, readers_of, stack_of}
+use Rattle.heap_words.specs.Contents.{Contents, readers_of}
 use Rattle.yak_model.specs.declared.datum.Datum.{Datum}
 use Rattle.yak_model.specs.declared.datum.Datum.TheVariants.{Null, Int, Object}
 use Rattle.yak_model.specs.Spaces.{SpaceState, innermost}
@@ -26,23 +24,22 @@ use Rattle.yak_model.specs.State.{Thing, IsDatum, object_of, view}
 use Rattle.yak_model.specs.Placed.{Holds, datum_word, size_by, space_word}
 use Rattle.yak_model.specs.Plans.{Move, forward, forwarded, without}
 use Rattle.yak_model.specs.Stands.{Stands, set_entries}
-use Rattle.yak_model.specs.Recorded.{Enters, IsField, IsRecorded}
+use Rattle.yak_model.specs.Recorded.{Enters, IsField}
 use Rattle.yak_model.proofs.Names.{same_or_other}
 use Rattle.yak_model.proofs.Placed.{in_page}
 use Rattle.yak_model.proofs.Stacks.{get_or-map_all}
-use Rattle.heap_walks.specs.Laid.{Laid, IsThing}
+use Rattle.heap_walks.specs.Laid.{Laid}
 use Rattle.heap_walks.specs.Reach.{IsIn}
-use Rattle.heap_walks.proofs.Objects.{home_index, in_heap, kept_word, leads_to, lie_apart, same_address, same_thing, size_is}
+use Rattle.heap_walks.proofs.Objects.{in_heap, kept_word, leads_to, lie_apart, same_address, same_thing, size_is}
 use Rattle.heap_walks.proofs.Seen.{home_of_in, seen}
 use Rattle.heap_walks.proofs.Stacks.{some_row}
 use Rattle.relocation.specs.Moves.{HasHeader, Numbered, corrected_word, move_at, size_at, words_moved}
 use Rattle.relocation.specs.Fields.{LeadWithin, Lined, MovesCorrected}
 use Rattle.relocation.proofs.Corrected.{corrected-datum}
-use Rattle.relocation.proofs.Lawful.{by_move-other, kept, which_move}
+use Rattle.relocation.proofs.Lawful.{by_move-other, kept}
 use Rattle.relocation.proofs.Moving.{fields_at-header, fields_at-same}
 use Rattle.relocation.proofs.SlidLawful.{kept-false}
 use Rattle.relocation.proofs.Slidden.{holds-corrected}
-use Rattle.escape_closure.specs.Targets.{IsEscaping}
 use Rattle.escape_closure.specs.Ends.{DropsRest, PlanReady, References}
 use Rattle.escape_closure.specs.Referring.{IsOutside, OutsideCorrected, SlotsReady, StackLeads, corrected_stack}
 use Rattle.escape_closure.proofs.Reaches.{reached_here}

@@ -25,3 +25,4 @@ pub mod Corrects
 pub mod Leads
 pub mod Carries
 pub mod Filing
+pub mod Clears

@@ -3,6 +3,8 @@
 
 mod beginning;
 mod carrying;
+mod clearing;
+mod closing;
 mod ending;
 mod needing;
 mod planning;
@@ -14,6 +16,8 @@ mod sources;
 mod stub;
 mod weighing;
 
+pub use clearing::clear_targets;
+pub use closing::close_region;
 pub use ending::targets;
 pub use references::correct_references;
 

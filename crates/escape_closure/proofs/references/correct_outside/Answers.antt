@@ -1,13 +1,11 @@
-use Rattle.std.proofs.Common.{◌≡◌, ◌≢◌, ◌+◌, ◌-◌, ◌<◌, ℕ, List, arith, ap, sym, subst, ◌∙◌, length, get_or, set, [], get_or-set_other}
-use Rattle.epoch_lattice.specs.declared.Space.TheVariants.{Region}
-use Rattle.epoch_lattice.specs.Lattice.{space_index}
+use Rattle.std.proofs.Common.{◌≡◌, ◌-◌, ℕ, List, arith, ap, sym, subst, ◌∙◌, length, get_or, [], get_or-set_other}
 use Rattle.heap_words.specs.Cells.{row}
 use Rattle.heap_words.specs.Contents.{Contents, contents, readers_of, stack_of, with_stack}
 use Rattle.heap_words.proofs.Contents.{length-stacks}
 use Rattle.yak_model.specs.Plans.{forward}
 use Rattle.yak_model.specs.Stands.{set_entries}
 use Rattle.relocation.specs.Moves.{Numbered, move_at}
-use Rattle.escape_closure.specs.Referring.{ReadersCorrected, SlotsCorrected, SlotsReady, StackLeads, corrected_stack}
+use Rattle.escape_closure.specs.Referring.{ReadersCorrected, SlotsCorrected, SlotsReady, corrected_stack}
 use Rattle.escape_closure.proofs.Corrects.{outside_done, ready_stacked}
 use Rattle.escape_closure.proofs.references.correct_outside.Goals as goal
 

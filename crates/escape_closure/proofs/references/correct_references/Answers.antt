@@ -1,14 +1,12 @@
 use Rattle.std.proofs.Props.{props}
 use Rattle.std.proofs.Math.Logic.{∥∥₁_elim}
-use Rattle.std.proofs.Common.{◌≡◌, ◌+◌, ◌-◌, ◌*◌, ◌≤◌, ℕ, List, arith, ap, sym, subst, ◌∙◌, length}
+use Rattle.std.proofs.Common.{◌≡◌, ◌≤◌, ℕ, List, arith, ap, sym, subst, ◌∙◌, length}
 use Rattle.epoch_lattice.specs.declared.Space.TheVariants.{Region}
 use Rattle.epoch_lattice.specs.declared.TheConstants.{MAX_DEPTH}
 use Rattle.epoch_lattice.specs.Lattice.{IsValid}
-use Rattle.heap_words.specs.Map.{heap_length}
 use Rattle.heap_words.specs.Contents.{Contents, contents, depth_of, stack_of}
 use Rattle.heap_words.proofs.Contents.{length-heap, length-sets, length-stacks}
 use Rattle.yak_model.specs.Plans.{forward}
-use Rattle.yak_model.specs.Spaces.{innermost}
 use Rattle.yak_model.specs.Stands.{set_entries}
 use Rattle.relocation.specs.Moves.{Numbered, move_at, words_moved}
 use Rattle.relocation.specs.Fields.{Lined, MovesCorrected}

@@ -1,11 +1,10 @@
-use Rattle.std.proofs.Common.{◌≡◌, ◌≢◌, ◌+◌, ◌*◌, ◌/◌, ℕ, List, arith, ap, sym, subst, ◌∙◌, refl, get_or}
-use Rattle.heap_words.specs.Map.{heap_length, page_words}
+use Rattle.std.proofs.Common.{◌≡◌, ◌/◌, ℕ, List, arith, ap, sym, ◌∙◌, get_or}
+use Rattle.heap_words.specs.Map.{page_words}
 use Rattle.heap_words.specs.Cells.{row}
 use Rattle.heap_words.specs.Contents.{Contents, contents, with_heap}
 use Rattle.yak_model.specs.Placed.{space_word}
 use Rattle.yak_model.specs.Plans.{forward}
-use Rattle.relocation.specs.Moves.{Numbered, corrected_word, move_at}
-use Rattle.escape_closure.specs.Referring.{IsOutside}
+use Rattle.relocation.specs.Moves.{corrected_word, move_at}
 use Rattle.escape_closure.proofs.references.correct_slot.Goals as goal
 
 pub get_set-slot-requires-clause-within : goal.get_set-slot-requires-clause-within

@@ -1,14 +1,14 @@
-use Rattle.std.proofs.Common.{◌≡◌, ◌+◌, ◌*◌, ◌/◌, ◌<◌, ℕ, List, arith, inl, inr, ap, sym, subst, ◌∙◌, refl, get_or}
+use Rattle.std.proofs.Common.{◌≡◌, ◌+◌, ◌/◌, ◌<◌, ℕ, List, arith, inl, inr, ap, sym, subst, ◌∙◌, get_or}
 use Rattle.std.proofs.lemmas.Bool.{cases_eq}
-use Rattle.heap_words.specs.Map.{heap_length, page_words}
+use Rattle.heap_words.specs.Map.{page_words}
 use Rattle.heap_words.specs.Contents.{Contents, contents, with_heap}
 use Rattle.heap_words.proofs.Contents.{length-heap}
 use Rattle.yak_model.specs.Placed.{space_word}
 use Rattle.yak_model.specs.Plans.{forward}
 use Rattle.yak_model.specs.Stands.{set_entries}
 use Rattle.relocation.specs.Moves.{Numbered, corrected_word, move_at}
-use Rattle.escape_closure.specs.Referring.{IsOutside, SlotsCorrected}
-use Rattle.escape_closure.proofs.Corrects.{heads_same, numbered_outside, outside_now, outside_same, slot_same, slots_more, slots_none, slots_skip, word_same}
+use Rattle.escape_closure.specs.Referring.{SlotsCorrected}
+use Rattle.escape_closure.proofs.Corrects.{numbered_outside, outside_now, outside_same, slot_same, slots_more, slots_none, slots_skip, word_same}
 use Rattle.escape_closure.proofs.references.correct_slots.Goals as goal
 
 pub loop-i-init : goal.loop-i-init
