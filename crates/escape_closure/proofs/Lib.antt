@@ -15,3 +15,5 @@ pub mod Placing
 pub mod Weighed
 pub mod Follows
 pub mod Underway
+pub mod Puts
+pub mod Fills
