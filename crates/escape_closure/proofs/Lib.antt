@@ -17,3 +17,5 @@ pub mod Follows
 pub mod Underway
 pub mod Puts
 pub mod Fills
+pub mod Brings
+pub mod SoFar
