@@ -19,3 +19,5 @@ pub mod Puts
 pub mod Fills
 pub mod Brings
 pub mod SoFar
+pub mod Aims
+pub mod Keeps
