@@ -21,3 +21,6 @@ pub mod Brings
 pub mod SoFar
 pub mod Aims
 pub mod Keeps
+pub mod Told
+pub mod Counting
+pub mod PlannedEnd

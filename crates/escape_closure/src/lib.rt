@@ -10,6 +10,7 @@ mod sources;
 mod weighing;
 
 pub use ending::targets;
+pub use planning::plan_moves;
 
 /// What the work word of an object counts more while it waits on the list.
 const WAITING: u64 = 128;
