@@ -1,5 +1,5 @@
 -- The targets of an end are open spaces of the heap, and not the region.
-use Rattle.std.proofs.Common.{◌≡◌, ◌≢◌, ◌⊎◌, ℕ, ◌+◌, ◌-◌, ◌≤◌, ◌<◌, ◌==◌, cond, min, List, Some, length, get_or, refl, sym, ap, subst, ◌∙◌, arith, inl, inr}
+use Rattle.std.proofs.Common.{◌≡◌, ◌≢◌, ℕ, ◌-◌, ◌≤◌, ◌==◌, cond, min, List, Some, length, get_or, refl, sym, ap, subst, ◌∙◌, arith, inl, inr}
 use Rattle.std.specs.List.{All}
 use Rattle.std.proofs.lemmas.Bool.{cases_eq, eq-eqb, ne_eqb}
 use Rattle.std.proofs.lemmas.List.Elements.{All-get_or}
@@ -13,14 +13,12 @@ use Rattle.heap_words.specs.declared.map.Areas.{Areas}
 use Rattle.heap_words.specs.Map.{HasThread, IsAreas, max_depth}
 use Rattle.heap_words.specs.Contents.{Contents, depth_of}
 use Rattle.yak_model.specs.Packed.{IsSpaceOf}
-use Rattle.yak_model.specs.Placed.{space_word}
-use Rattle.yak_model.specs.Spaces.{IsReachedFor, IsTarget, Source, SpaceState, field, innermost, other, own}
+use Rattle.yak_model.specs.Spaces.{IsReachedFor, Source, SpaceState, field, innermost, other, own}
 use Rattle.yak_model.specs.State.{IsOpen, Thing, object_of, view}
 use Rattle.yak_model.specs.Stands.{Stands}
 use Rattle.heap_walks.proofs.Objects.{same_thing}
 use Rattle.heap_walks.proofs.Seen.{seen, shown}
 use Rattle.escape_closure.specs.Planning.{TargetsExist}
-use Rattle.escape_closure.specs.Rolls.{Aimed}
 use Rattle.escape_closure.specs.Targets.{IsEscaping, IsTargetAt, TargetsWritten}
 use Rattle.escape_closure.proofs.Follows.{is_valid}
 use Rattle.escape_closure.proofs.Weighed.{aimed, escapes}
@@ -69,8 +67,7 @@ outer_above depths t (Region v e) (Region u f) valid below outer = elim (cases_e
       let joined : Region v (min e f) ≡ Region u f = sym (same_space v u (Region v (min e f)) Control same) ∙ below in
       let deep : min e f ≡ f = ap depth_part joined in
       let o = outer.0 in
-      let index : get_or depths (v - 1) 0 ≡ get_or depths (u - 1) 0 = ap (λ k. get_or depths (k - 1) 0) same in
-      (
+      let index : get_or depths (v - 1) 0 ≡ get_or depths (u - 1) 0 = ap (λ k. get_or depths (k - 1) 0) same in (
         (omega (arith, o.0, same), omega (arith, o.1, same), valid.2, omega (arith, o.3, index, deep)),
         λ is.
             let thread : u ≡ t = ap thread_part is in

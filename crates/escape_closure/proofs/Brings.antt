@@ -1,6 +1,5 @@
 -- The words that moves bring into a page, and into a space.
-use Rattle.std.proofs.Common.{◌≡◌, ◌≢◌, ℕ, ◌+◌, ◌-◌, ◌*◌, ◌/◌, ◌==◌, ◌≤◌, ◌<◌, cond, true, false, List, refl, sym, ap, ◌∙◌, arith, add-one, zero, suc, get_or}
-use Rattle.std.proofs.lemmas.Bool.Decides.{nat_tests}
+use Rattle.std.proofs.Common.{◌≡◌, ◌≢◌, ℕ, ◌+◌, ◌-◌, ◌*◌, ◌/◌, ◌==◌, ◌≤◌, ◌<◌, cond, List, refl, sym, ap, ◌∙◌, arith, add-one, zero, suc, get_or}
 use Rattle.object_layout.specs.declared.TheConstants.{HEADER_BASE, MAX_FIELDS, OBJECT_WORDS, SPACE_UNIT}
 use Rattle.object_layout.specs.declared.names.Name.{Name}
 use Rattle.epoch_lattice.specs.declared.Space.{Space}
@@ -11,7 +10,7 @@ use Rattle.heap_words.specs.Contents.{Contents}
 use Rattle.yak_model.specs.Placed.{size_by}
 use Rattle.yak_model.specs.Plans.{Move}
 use Rattle.yak_model.specs.State.{Thing}
-use Rattle.heap_walks.specs.Laid.{IsAmong, IsThing}
+use Rattle.heap_walks.specs.Laid.{IsThing}
 use Rattle.heap_walks.proofs.Objects.{header_now, size_is}
 use Rattle.relocation.specs.Moves.{fields_at, size_at}
 use Rattle.relocation.specs.Slide.{brought}

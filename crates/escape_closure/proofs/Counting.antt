@@ -3,7 +3,6 @@ use Rattle.std.proofs.Common.{◌≡◌, ◌≢◌, ℕ, ◌+◌, ◌≤◌, ◌
 use Rattle.std.proofs.lemmas.Bool.{cases_eq}
 use Rattle.std.specs.FinSet as names
 use Rattle.object_layout.specs.declared.names.Name.{Name}
-use Rattle.yak_model.specs.Names.{name_cmp}
 use Rattle.yak_model.specs.Spaces.{Counts}
 use Rattle.yak_model.proofs.Names.{name_cmp-IsAntisymmetric, name_cmp_total}
 use Rattle.escape_closure.proofs.Counted.{counts_as, counts_more, counts_none}

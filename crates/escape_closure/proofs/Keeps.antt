@@ -1,6 +1,5 @@
 -- What an end keeps refers to nothing that it drops.
-use Rattle.std.proofs.Common.{◌≡◌, ◌≢◌, ℕ, ◌+◌, ◌<◌, Bool, true, false, cond, None, Some, [], length, get_or, is_some, refl, sym, ap, subst, ◌∙◌, inl, inr}
-use Rattle.std.specs.Prelude.{IsSome}
+use Rattle.std.proofs.Common.{◌≡◌, ℕ, ◌+◌, Bool, true, false, cond, None, Some, [], get_or, is_some, refl, ap, subst, ◌∙◌, inl, inr}
 use Rattle.std.specs.List.{All, Contains}
 use Rattle.std.proofs.lemmas.Bool.{cases_eq}
 use Rattle.std.proofs.lemmas.List.Elements.{All-from_get_or, All-get_or, Contains-get_or}
@@ -60,13 +59,15 @@ module _ (s : SpaceState) (whole : IsWhole s) (t : ℕ) (dropped : Name → Bool
         let xs = get_or (view s).stacks k [] in
         let all = All-get_or (All (IsDatum (object_of s))) (view s).stacks k [] lt closed.stacks in
         All-from_get_or (IsDatum (without (view s) dropped).objects) xs Null (λ j lj.
-            datum_kept (get_or xs j Null) (All-get_or (IsDatum (object_of s)) xs j Null lj all) (λ n e.
-                not_dropped n (held_escapes k n (lt, subst (Contains xs) e (Contains-get_or xs j Null lj))))));
+        datum_kept (get_or xs j Null) (All-get_or (IsDatum (object_of s)) xs j Null lj all) (λ n e.
+        not_dropped n (held_escapes k n (lt, subst (Contains xs) e (Contains-get_or xs j Null lj))))));
     fields = λ a o present.
         let was = kept (view s) dropped a o present in
         let stays = kept-false (view s) dropped a o (dropped a) refl present in
-        let f = closed.fields a o was in
-        (All-from_get_or (IsDatum (without (view s) dropped).objects) o.fields Null (λ j lj.
-            datum_kept (get_or o.fields j Null) (All-get_or (IsDatum (object_of s)) o.fields j Null lj f.0) (λ n e.
-                not_dropped n (field_escapes a n o was stays (subst (Contains o.fields) e (Contains-get_or o.fields j Null lj))))), f.1);
+        let f = closed.fields a o was in (
+          All-from_get_or (IsDatum (without (view s) dropped).objects) o.fields Null (λ j lj.
+              datum_kept (get_or o.fields j Null) (All-get_or (IsDatum (object_of s)) o.fields j Null lj f.0) (λ n e.
+              not_dropped n (field_escapes a n o was stays (subst (Contains o.fields) e (Contains-get_or o.fields j Null lj))))),
+          f.1,
+        );
   }

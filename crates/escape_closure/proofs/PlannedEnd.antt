@@ -1,11 +1,10 @@
 -- The plan of an end in a space state, from the roll whose objects were placed.
-use Rattle.std.proofs.Common.{◌≡◌, ◌≢◌, ◌⊎◌, ℕ, ◌+◌, ◌-◌, ◌*◌, ◌/◌, ◌≤◌, ◌<◌, ◌++◌, Bool, false, List, Ok, Some, set, get_or, length, length-append, take, refl, sym, ap, subst, ◌∙◌, arith, inl, inr}
+use Rattle.std.proofs.Common.{◌≡◌, ◌≢◌, ℕ, ◌+◌, ◌*◌, ◌≤◌, ◌<◌, ◌++◌, Bool, false, List, Ok, Some, set, get_or, length, length-append, refl, sym, ap, subst, ◌∙◌, arith, inl, inr}
 use Rattle.std.specs.List.{sum_by}
 use Rattle.std.proofs.lemmas.Bool.{cases_eq, cases_order}
 use Rattle.std.proofs.lemmas.List.Sums.{sum_by_more_le}
 use Rattle.object_layout.specs.declared.names.Name.{Name}
 use Rattle.object_layout.specs.declared.TheConstants.{OBJECT_WORDS}
-use Rattle.epoch_lattice.specs.declared.Space.{Space}
 use Rattle.epoch_lattice.specs.declared.Space.TheVariants.{Region}
 use Rattle.epoch_lattice.specs.declared.TheConstants.{MAX_DEPTH}
 use Rattle.heap_words.specs.declared.map.Areas.{Areas}
@@ -13,8 +12,8 @@ use Rattle.heap_words.specs.Map.{HasThread, IsAreas, heap_length, page_words}
 use Rattle.heap_words.specs.Contents.{Contents, depth_of}
 use Rattle.yak_model.specs.Packed.{IsSpaceOf}
 use Rattle.yak_model.specs.Placed.{names_of, size_by, space_word, used_mark}
-use Rattle.yak_model.specs.Plans.{AreApart, IsLawfulPlan, Move, without}
-use Rattle.yak_model.specs.Spaces.{Counts, SpaceState, innermost}
+use Rattle.yak_model.specs.Plans.{AreApart, IsLawfulPlan, Move}
+use Rattle.yak_model.specs.Spaces.{SpaceState, innermost}
 use Rattle.yak_model.specs.State.{IsOpen, Thing, object_of, view}
 use Rattle.yak_model.specs.Stands.{CurrentsStand, PoolStands, Stands, claim_counter, current, free_pages}
 use Rattle.yak_model.proofs.Placed.{in_page}
@@ -25,10 +24,10 @@ use Rattle.relocation.specs.Moves.{Numbered, move_at, size_at}
 use Rattle.relocation.specs.Slide.{brought}
 use Rattle.relocation.proofs.Lawful.{kept}
 use Rattle.relocation.proofs.SlidLawful.{keep-case}
-use Rattle.escape_closure.specs.Ends.{DropsRest, EndPlanned, PlacedAt}
+use Rattle.escape_closure.specs.Ends.{DropsRest, EndPlanned}
 use Rattle.escape_closure.specs.Needs.{InOrder, RollWeighed, pages_needed}
 use Rattle.escape_closure.specs.Placing.{Filling, index_on, rooms_at, size_on}
-use Rattle.escape_closure.specs.Planning.{PlacedSoFar, RollPlaced, Underway, filled_by}
+use Rattle.escape_closure.specs.Planning.{RollPlaced}
 use Rattle.escape_closure.specs.Rolls.{Aimed, AimsInside, Rolled}
 use Rattle.escape_closure.specs.Targets.{IsEscaping, TargetsWritten}
 use Rattle.escape_closure.proofs.Aims.{outer_target, space_of_heap}

@@ -1,6 +1,5 @@
 -- An object that is placed: its page, and what is kept of the others.
-use Rattle.std.proofs.Common.{◌≡◌, ◌≢◌, ◌⊎◌, ℕ, ◌+◌, ◌-◌, ◌*◌, ◌≤◌, ◌<◌, List, [], ◌∷◌, ◌++◌, set, get_or, length, length-set, refl, sym, ap, ◌∙◌, arith, inl, inr, get_or-set_same, zero, suc}
-use Rattle.std.proofs.lemmas.Bool.{cases_eq}
+use Rattle.std.proofs.Common.{◌≡◌, ◌≢◌, ℕ, ◌+◌, ◌-◌, ◌*◌, ◌≤◌, ◌<◌, List, [], ◌∷◌, ◌++◌, set, get_or, length, length-set, sym, ap, ◌∙◌, arith, inl, inr, get_or-set_same, zero, suc}
 use Rattle.std.proofs.lemmas.List.{set-get_or}
 use Rattle.epoch_lattice.specs.declared.Space.{Space}
 use Rattle.epoch_lattice.specs.declared.Space.TheVariants.{Region}
@@ -12,7 +11,7 @@ use Rattle.heap_words.specs.Contents.{Contents}
 use Rattle.yak_model.specs.Packed.{IsSpaceOf}
 use Rattle.yak_model.specs.Placed.{space_word, used_mark}
 use Rattle.yak_model.specs.Stands.{CurrentsStand, PoolStands, claim_counter, current, free_pages}
-use Rattle.region_pages.specs.Placement.{IsOwn, IsPlaced, IsPlacedInCurrent, IsPlacedOnClaimed, depth_in, words_left_at}
+use Rattle.region_pages.specs.Placement.{IsOwn, IsPlaced, IsPlacedInCurrent, IsPlacedOnClaimed, depth_in}
 use Rattle.region_pages.specs.declared.TheConstants.{CLAIM_COUNTER}
 use Rattle.region_pages.proofs.Shapes.{Shape}
 use Rattle.region_pages.proofs.Entries.{entry-same, entry-other, space-with_used, used-with_used, used-with_used_other, current-cases}
@@ -166,9 +165,9 @@ module _ (m : Areas) (c after : Contents) (t size a : ℕ) (x : Space) (s : Shap
           let deep = depth_fits m x of in
           ap (λ (y : Contents). current y.currents u e) p.changed
           ∙ (elim (current-cases c.currents t (depth_in x) u e (p.page + 1) has.0 lu (omega (arith, s.currents, has)) (omega (arith, s.slots t has, deep))) [
-              | inl w ↦ absurd (ne (sym (other_region m t u e x of own le w.0 w.1)))
-              | inr w ↦ w.1
-            ]);
+            | inl w ↦ absurd (ne (sym (other_region m t u e x of own le w.0 w.1)))
+            | inr w ↦ w.1
+          ]);
     }
 
   pub put : IsPlaced m c t x size a after → Put m c after x size a

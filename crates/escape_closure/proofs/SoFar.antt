@@ -1,5 +1,5 @@
 -- Where the first objects of a roll are placed, one object more.
-use Rattle.std.proofs.Common.{◌≡◌, ◌≢◌, ◌⊎◌, ℕ, ◌+◌, ◌-◌, ◌*◌, ◌/◌, ◌==◌, ◌≤◌, ◌<◌, ◌++◌, [], cond, List, Some, set, get_or, length, refl, sym, ap, subst, ◌∙◌, arith, inl, inr, append_assoc}
+use Rattle.std.proofs.Common.{◌≡◌, ◌≢◌, ℕ, ◌+◌, ◌/◌, ◌≤◌, ◌<◌, ◌++◌, [], List, Some, set, get_or, length, refl, sym, ap, subst, ◌∙◌, arith, inl, inr, append_assoc}
 use Rattle.std.specs.Prelude.{unwrap_or}
 use Rattle.std.specs.List.{sum_by}
 use Rattle.std.proofs.lemmas.Bool.{cases_eq}
@@ -14,19 +14,18 @@ use Rattle.heap_words.specs.declared.map.Areas.{Areas}
 use Rattle.heap_words.specs.Map.{HasThread, IsAreas, heap_length, page_words}
 use Rattle.heap_words.specs.Contents.{Contents}
 use Rattle.yak_model.specs.Names.{root_name}
-use Rattle.yak_model.specs.Packed.{IsSpaceOf}
 use Rattle.yak_model.specs.Placed.{IsAt, names_of, size_by, space_word, used_mark}
 use Rattle.yak_model.specs.Plans.{Move}
-use Rattle.yak_model.specs.Stands.{CurrentsStand, PoolStands, claim_counter, current, free_pages, words_of}
+use Rattle.yak_model.specs.Stands.{CurrentsStand, PoolStands, claim_counter, current, free_pages}
 use Rattle.region_pages.specs.Pages.{TableFits}
-use Rattle.region_pages.specs.Placement.{IsOwn, depth_in}
+use Rattle.region_pages.specs.Placement.{IsOwn}
 use Rattle.region_pages.specs.declared.TheConstants.{CLAIM_COUNTER}
 use Rattle.region_pages.proofs.Shapes.{Shape}
 use Rattle.relocation.specs.Moves.{move_at, size_at}
 use Rattle.relocation.specs.Slide.{brought}
 use Rattle.relocation.proofs.Slid.{brought-same}
 use Rattle.escape_closure.specs.declared.needing.Entry.{Entry}
-use Rattle.escape_closure.specs.Ends.{PlacedAt, words_into}
+use Rattle.escape_closure.specs.Ends.{PlacedAt}
 use Rattle.escape_closure.specs.Rolls.{Aimed, AimsInside, Rolled}
 use Rattle.escape_closure.specs.Placing.{index_on, owner, size_on, target_on}
 use Rattle.escape_closure.specs.Planning.{DenseIn, PlacedNext, PlacedSoFar, TargetsExist, words_with}

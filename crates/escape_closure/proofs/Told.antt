@@ -12,7 +12,7 @@ use Rattle.epoch_lattice.specs.declared.Space.TheVariants.{Control, Region}
 use Rattle.epoch_lattice.specs.Lattice.{space_index, space_of}
 use Rattle.epoch_lattice.proofs.Numbers.{number-reads_back}
 use Rattle.yak_model.specs.Spaces.{SpaceState}
-use Rattle.yak_model.specs.State.{IsOpen, view}
+use Rattle.yak_model.specs.State.{view}
 use Rattle.yak_model.specs.Placed.{space_word, used_mark}
 use Rattle.yak_model.specs.Stands.{CurrentsStand, PoolStands, Stands, free_pages}
 use Rattle.yak_model.specs.Packed.{IsSpaceOf}

@@ -1,5 +1,5 @@
 -- The escaping objects and the pages that they need, in a space state.
-use Rattle.std.proofs.Common.{◌≡◌, ◌⊎◌, ℕ, ◌+◌, ◌≤◌, ◌<◌, true, false, Some, length, refl, sym, ap, subst, ◌∙◌, arith, inl, inr, zero, suc}
+use Rattle.std.proofs.Common.{◌≡◌, ◌⊎◌, ℕ, ◌≤◌, ◌<◌, true, false, Some, length, refl, sym, ap, subst, ◌∙◌, arith, inl, inr, zero, suc}
 use Rattle.std.specs.Prelude.{unwrap_or, Result}
 use Rattle.std.specs.FinSet as names
 use Rattle.object_layout.specs.declared.names.Name.{Name}
@@ -14,7 +14,7 @@ use Rattle.heap_words.specs.Map.{HasThread, IsAreas, heap_length, scratch_length
 use Rattle.heap_words.specs.Contents.{Contents}
 use Rattle.yak_model.specs.Spaces.{IsReachedFor, SpaceState, innermost}
 use Rattle.yak_model.specs.State.{Thing, object_of, view}
-use Rattle.yak_model.specs.Stands.{Stands, free_pages}
+use Rattle.yak_model.specs.Stands.{Stands}
 use Rattle.heap_walks.proofs.Objects.{same_thing}
 use Rattle.heap_walks.proofs.Seen.{present_home, present_of, seen, shown}
 use Rattle.escape_closure.specs.Targets.{IsEscaping, IsTargetAt, TargetsWritten}

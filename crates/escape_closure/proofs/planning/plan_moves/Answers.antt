@@ -21,7 +21,7 @@ use Rattle.escape_closure.specs.Planning.{RollPlaced}
 use Rattle.escape_closure.specs.Rolls.{AimsInside, OnlyScratch}
 use Rattle.escape_closure.specs.Targets.{IsEscaping, TargetsWritten}
 use Rattle.escape_closure.proofs.Aims.{targets_exist}
-use Rattle.escape_closure.proofs.PlannedEnd.{as_many, end_planned, in_order}
+use Rattle.escape_closure.proofs.PlannedEnd.{as_many, end_planned}
 use Rattle.escape_closure.proofs.Told.{SomeAimed, currents_told, pool_told, table_told}
 use Rattle.escape_closure.proofs.Weighed.{aimed, aims_inside, needed_is, order}
 use Rattle.escape_closure.proofs.Written.{region_is}
@@ -29,7 +29,7 @@ use Rattle.escape_closure.proofs.planning.plan_moves.Goals as goal
 
 -- what the plan of a roll says of an end
 module _ (m : Areas) (b c : Contents) (s : SpaceState) (st : Stands m b s) (t depth escaping : ℕ) (areas : IsAreas m) (has : HasThread m t) (low : 1 ≤ depth) (high : depth ≤ MAX_DEPTH) (written : TargetsWritten m s st.places t b c escaping) (region : innermost s.graph t ≡ Region t depth) (depth_is : depth ≡ depth_of b t) (ready : AimsInside m (aimed m b c s st t depth)) (d : Contents) (first before after : ℕ) (read : before ≤ first + 1) where
-  Outcome : Result Plan Shortage → Type 0
+  abbrev Outcome : Result Plan Shortage → Type 0
   Outcome result = MatchResult result (λ plan. RollPlaced m (aimed m b c s st t depth) t before d after plan.count) (λ shortage. RollWeighed m (aimed m b c s st t depth) t before d after (Err shortage))
 
   counts_ok : (count : ℕ) → RollPlaced m (aimed m b c s st t depth) t before d after count → count ≡ escaping
@@ -44,13 +44,11 @@ module _ (m : Areas) (b c : Contents) (s : SpaceState) (st : Stands m b s) (t de
     more = omega (arith, w.weighed.0, w.weighed.1, w.weighed.2);
   }
 
-  pub outcome_planned : (result : Result Plan Shortage) → Outcome result → IfErr result (λ _. OnlyScratch c d) → IfOk result (λ plan. Numbered m d.heap plan.count (move_at d.scratch)) → TableFits m d.table → PoolStands m d.heads d.pool d.table → CurrentsStand m d.currents d.table → length d.heap ≡ length c.heap → MatchResult result (λ plan. (plan.count ≡ escaping) × EndPlanned m c d s st.places t plan.count) (λ shortage. FallsShort m c s st.places t shortage × OnlyScratch c d)
-  unfolding Outcome
+  outcome_planned : (result : Result Plan Shortage) → Outcome result → IfErr result (λ _. OnlyScratch c d) → IfOk result (λ plan. Numbered m d.heap plan.count (move_at d.scratch)) → TableFits m d.table → PoolStands m d.heads d.pool d.table → CurrentsStand m d.currents d.table → length d.heap ≡ length c.heap → MatchResult result (λ plan. (plan.count ≡ escaping) × EndPlanned m c d s st.places t plan.count) (λ shortage. FallsShort m c s st.places t shortage × OnlyScratch c d)
   outcome_planned (Ok plan) p only numbered fits pool currents long = (counts_ok plan.count p, end_planned m b c s st t depth escaping areas has low high written region depth_is ready d before after plan.count p fits numbered pool currents long)
   outcome_planned (Err shortage) w only numbered fits pool currents long = (short shortage w, only)
 
-  pub outcome_counted : (result : Result Plan Shortage) → Outcome result → IfOk result (λ plan. Counts (IsEscaping s t) plan.count)
-  unfolding Outcome
+  outcome_counted : (result : Result Plan Shortage) → Outcome result → IfOk result (λ plan. Counts (IsEscaping s t) plan.count)
   outcome_counted (Ok plan) p = subst (Counts (IsEscaping s t)) (sym (counts_ok plan.count p)) written.counted
   outcome_counted (Err shortage) w = tt
 
@@ -60,8 +58,7 @@ module _ (m : Areas) (b c : Contents) (s : SpaceState) (st : Stands m b s) (t de
       let r = w.reads in
       rw region (omega (arith, many, r, read))
 
-  pub outcome_reads : (result : Result Plan Shortage) → Outcome result → after ≤ first + (2 * m.pages + used_of c.table (innermost s.graph t) + 12 * escaping + (1 + 2 * (MAX_SPACE + 2)))
-  unfolding Outcome
+  outcome_reads : (result : Result Plan Shortage) → Outcome result → after ≤ first + (2 * m.pages + used_of c.table (innermost s.graph t) + 12 * escaping + (1 + 2 * (MAX_SPACE + 2)))
   outcome_reads (Ok plan) p = let f = reads_at plan.count (Ok plan.count) p.between p.read p.weighed in let r = p.reads in let many = counts_ok plan.count p in omega (arith, f, r, many)
   outcome_reads (Err shortage) w = let f = reads_at 0 (Err shortage) d after w in omega (arith, f)
 
