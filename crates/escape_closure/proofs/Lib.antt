@@ -26,3 +26,12 @@ pub mod Leads
 pub mod Carries
 pub mod Filing
 pub mod Clears
+pub mod Puts
+pub mod Fills
+pub mod Brings
+pub mod SoFar
+pub mod Aims
+pub mod Keeps
+pub mod Told
+pub mod Counting
+pub mod PlannedEnd

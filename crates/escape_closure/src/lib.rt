@@ -20,6 +20,7 @@ pub use clearing::clear_targets;
 pub use closing::close_region;
 pub use ending::targets;
 pub use references::correct_references;
+pub use planning::plan_moves;
 
 /// What the work word of an object counts more while it waits on the list.
 const WAITING: u64 = 128;
