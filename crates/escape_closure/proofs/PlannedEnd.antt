@@ -208,6 +208,7 @@ module _ (m : Areas) (b c : Contents) (s : SpaceState) (st : Stands m b s) (t de
         kept = λ k lt some.
             let same : space_word mid.table k ≡ space_word c.table k = ap (λ (ts : List (List ℕ)). space_word ts k) mid_table in
             p.so_far.kept k lt (λ z. some (sym same ∙ z)) ∙ same;
+        entered = λ k lt zero_word some. p.so_far.entered k lt (ap (λ (x : Contents). space_word x.table k) frame ∙ zero_word) some;
         claimed = p.so_far.claimed;
         free = sym free_same ∙ p.so_far.free;
         claims = claims;

@@ -32,6 +32,7 @@ pub record Put (m : Areas) (c after : Contents) (x : Space) (size a : ℕ) : Typ
   pub others : (p : ℕ) → p ≢ page → used_mark after.table p ≡ used_mark c.table p
   pub entered : space_word after.table page ≡ space_index x + 1
   pub kept : (p : ℕ) → space_word c.table p ≢ 0 → space_word after.table p ≡ space_word c.table p
+  pub aside : (p : ℕ) → p ≢ page → space_word after.table p ≡ space_word c.table p
   pub left : (p : ℕ) → space_word after.table p ≡ 0 → (space_word c.table p ≡ 0) × (p ≢ page)
   pub claimed : List ℕ
   pub free : free_pages c.heads c.pool ≡ claimed ++ free_pages after.heads after.pool
@@ -96,6 +97,7 @@ module _ (m : Areas) (c after : Contents) (t size a : ℕ) (x : Space) (s : Shap
       others = λ k ne. ap (λ (ts : List (List ℕ)). used_mark ts k) table_is ∙ used-with_used_other c.table page k (used_mark c.table page + size) ne;
       entered = space_is page ∙ own_word;
       kept = λ k ne. space_is k;
+      aside = λ k ne. space_is k;
       left = λ k z. (sym (space_is k) ∙ z, λ e. omega (arith, z, space_is k, ap (λ j. space_word c.table j) e, own_word));
       claimed = [];
       free = sym (ap (λ (y : Contents). free_pages y.heads y.pool) p.changed);
@@ -155,6 +157,7 @@ module _ (m : Areas) (c after : Contents) (t size a : ℕ) (x : Space) (s : Shap
       others = other_used;
       entered = own_space;
       kept = λ k ne. other_space k (λ e. ne (ap (λ j. space_word c.table j) e ∙ was.1));
+      aside = λ k ne. other_space k ne;
       left = λ k z.
           let apart : k ≢ p.page = λ e. let w = own_space in omega (arith, z, ap (λ j. space_word after.table j) e, w) in
           (sym (other_space k apart) ∙ z, apart);

@@ -76,6 +76,7 @@ module _ (m : Areas) (q : Aimed) (c : Contents) (count : ℕ) (r : Rolled q c (h
     placed = λ j lt. absurd (omega (arith, lt));
     marks = λ p lt. let z = brought_none m c.heap (move_at c.scratch) p in omega (arith, z);
     kept = λ p lt ne. refl;
+    entered = λ p lt z ne. absurd (ne z);
     blank = blank_first;
     claimed = [];
     free = refl;
@@ -215,6 +216,13 @@ module _ (m : Areas) (q : Aimed) (c : Contents) (count : ℕ) (r : Rolled q c (h
       kept = λ pg within ne.
           let was = f.kept pg within ne in
           word_kept pg (λ z. ne (sym was ∙ z)) ∙ was;
+      entered = λ pg within z some. elim (cases_eq pg u.page) [
+        | inl e ↦ (k, (let less : k < k + 1 = omega arith in less), ap (space_word after.table) e ∙ ap (λ (ts : List (List ℕ)). space_word ts u.page) after_table ∙ u.entered ∙ ap (λ v. space_index v.space + 1) (sym p.move))
+        | inr ne ↦
+            let same : space_word after.table pg ≡ space_word now.table pg = ap (λ (ts : List (List ℕ)). space_word ts pg) after_table ∙ u.aside pg ne in
+            let w = f.entered pg within z (λ q. some (same ∙ q)) in
+            (w.0, (let less : w.0 < k + 1 = omega (arith, w.1) in less), same ∙ w.2 ∙ ap (λ v. space_index v.space + 1) (sym (p.former w.0 w.1)))
+      ];
       blank = λ pg within z.
           let l = u.left pg (ap (λ (ts : List (List ℕ)). space_word ts pg) (sym after_table) ∙ z) in
           ap (λ (ts : List (List ℕ)). used_mark ts pg) after_table ∙ u.others pg l.1 ∙ f.blank pg within l.0;

@@ -75,6 +75,7 @@ pub record PlacedSoFar (m : Areas) (q : Aimed) (c : Contents) (count : ℕ) (r :
   pub placed : (j : ℕ) → j < k → PlacedAt m c now (move_at now.scratch) j
   pub marks : (p : ℕ) → p < m.pages → used_mark now.table p ≡ used_mark c.table p + brought m c.heap k (move_at now.scratch) p
   pub kept : (p : ℕ) → p < m.pages → space_word c.table p ≢ 0 → space_word now.table p ≡ space_word c.table p
+  pub entered : (p : ℕ) → p < m.pages → space_word c.table p ≡ 0 → space_word now.table p ≢ 0 → (j : ℕ) × (j < k) × (space_word now.table p ≡ space_index (move_at now.scratch j).space + 1)
   pub blank : (p : ℕ) → p < m.pages → space_word now.table p ≡ 0 → used_mark now.table p ≡ 0
   pub claimed : List ℕ
   pub free : free_pages c.heads c.pool ≡ claimed ++ free_pages now.heads now.pool
