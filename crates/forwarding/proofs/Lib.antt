@@ -1,2 +1,4 @@
+pub mod RegionSteps
 pub mod Reshaping
 pub mod StackSteps
+pub mod TableSteps

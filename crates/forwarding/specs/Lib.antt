@@ -1,3 +1,5 @@
 pub mod Corrected
 pub mod Crossing
 pub mod Reshaped
+pub mod Row
+pub mod Settled
