@@ -35,3 +35,4 @@ pub mod Keeps
 pub mod Told
 pub mod Counting
 pub mod PlannedEnd
+pub mod Readies

@@ -185,12 +185,12 @@ module _ (m : Areas) (s : SpaceState) (whole : IsWhole s) (closed : IsClosed (vi
         (o.0, o.2, table.kept p hp r.0 (λ z. omega (arith, z, word)) ∙ word)
 
     -- no work word is left
-    work_done : ((n : Name) (o : Thing) → object_of s n ≡ Some o → o.home ≢ region → work n ≡ 0) → (n : Name) (o p : Thing) → object_of s n ≡ Some o → MovedAs s l t count moves n o p ⊎ StaysAs s l t count moves n o p → cleared count moves l.at work n ≡ 0
-    work_done idle n o p here (inl w) = by_move-at count moves (λ v. 0) (l.at n) (work n) w.move e.ascending w.among w.old
-    work_done idle n o p here (inr w) = by_move-other count moves (λ v. 0) (l.at n) (work n) w.none ∙ idle n o here w.home
+    work_done : (left_words : Name → ℕ) → ((n : Name) (o : Thing) → object_of s n ≡ Some o → o.home ≢ region → left_words n ≡ 0) → (n : Name) (o p : Thing) → object_of s n ≡ Some o → MovedAs s l t count moves n o p ⊎ StaysAs s l t count moves n o p → cleared count moves l.at left_words n ≡ 0
+    work_done left_words idle n o p here (inl w) = by_move-at count moves (λ v. 0) (l.at n) (left_words n) w.move e.ascending w.among w.old
+    work_done left_words idle n o p here (inr w) = by_move-other count moves (λ v. 0) (l.at n) (left_words n) w.none ∙ idle n o here w.home
 
-    pub regrouped : ((n : Name) (o : Thing) → object_of s n ≡ Some o → o.home ≢ region → work n ≡ 0) → Holds m heap (forwarded count moves l.at) (forwarded count moves l.at) (cleared count moves l.at work) left → HeapStands m now heap left later (λ _. 0)
-    regrouped idle holds =
+    pub regrouped : (left_words : Name → ℕ) → ((n : Name) (o : Thing) → object_of s n ≡ Some o → o.home ≢ region → left_words n ≡ 0) → Holds m heap (forwarded count moves l.at) (forwarded count moves l.at) (cleared count moves l.at left_words) left → HeapStands m now heap left later (λ _. 0)
+    regrouped left_words idle holds =
         let laid = laid_to count (omega arith) in
         record {
           count = length-table_of names m.pages;
@@ -205,5 +205,5 @@ module _ (m : Areas) (s : SpaceState) (whole : IsWhole s) (closed : IsClosed (vi
           held = λ n p q.
               let w = left_so s whole l one t count some valid moves tight e n p q in
               let stands = holds.stands n p q in
-              record { header = stands.header; name = stands.name; work_word = stands.work_word ∙ work_done idle n w.0 p w.1 w.2; fields = stands.fields };
+              record { header = stands.header; name = stands.name; work_word = stands.work_word ∙ work_done left_words idle n w.0 p w.1 w.2; fields = stands.fields };
         }
