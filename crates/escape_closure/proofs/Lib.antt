@@ -36,3 +36,4 @@ pub mod Told
 pub mod Counting
 pub mod PlannedEnd
 pub mod Readies
+pub mod Releases
