@@ -1,3 +1,4 @@
+pub mod Entries
 pub mod RegionSteps
 pub mod Reshaping
 pub mod StackSteps

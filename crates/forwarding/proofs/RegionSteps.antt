@@ -1,17 +1,17 @@
 -- The fields of the objects of pages, corrected page by page.
-use Rattle.std.proofs.Common.{◌≡◌, ◌⊎◌, ℕ, ◌+◌, ◌*◌, ◌≤◌, ◌<◌, List, zero, suc, length, get_or, inl, inr, refl, sym, ap, subst, ◌∙◌, arith}
+use Rattle.std.proofs.Common.{◌≡◌, ℕ, ◌+◌, ◌*◌, ◌≤◌, ◌<◌, List, zero, suc, length, get_or, inl, inr, refl, sym, ap, subst, ◌∙◌, arith}
 use Rattle.std.proofs.lemmas.Bool.{cases_eq, cases_lt}
 use Rattle.std.proofs.Math.Logic.{⊎_elim}
 use Rattle.heap_words.specs.declared.map.Areas.{Areas}
-use Rattle.heap_words.specs.Map.{page_words, heap_length, total_of}
+use Rattle.heap_words.specs.Map.{page_words}
 use Rattle.heap_words.specs.Cells.{cells}
 use Rattle.heap_words.specs.Contents.{Contents, contents}
 use Rattle.heap_words.proofs.Rows.{length-rows}
-use Rattle.yak_model.specs.Placed.{space_word, used_mark}
+use Rattle.yak_model.specs.Placed.{used_mark}
 use Rattle.yak_model.specs.Plans.{Move}
 use Rattle.relocation.specs.Moves.{HasHeader, corrected_word, size_at}
 use Rattle.relocation.specs.Fields.{FieldsCorrected, LeadWithin, Lined, MovesCorrected}
-use Rattle.relocation.specs.Slide.{PageRun, behind, object_at}
+use Rattle.relocation.specs.Slide.{PageRun, object_at}
 use Rattle.relocation.proofs.Moving.{fields_at-same}
 use Rattle.relocation.proofs.FieldSteps.{moves-more, moves-none, next-header, next-lead, next-size}
 use Rattle.relocation.proofs.SlidObjects.{behind-first, behind-from, behind-more, behind-next}

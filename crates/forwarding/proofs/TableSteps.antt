@@ -1,12 +1,12 @@
 -- The entries of the page table, written one after another.
-use Rattle.std.proofs.Common.{◌≡◌, ◌≢◌, ℕ, ◌+◌, ◌*◌, ◌/◌, ◌%◌, ◌≤◌, ◌<◌, true, false, cond, List, [], zero, suc, length, get_or, set, refl, sym, ap, subst, ◌∙◌, arith, length-set, length-drop, get_or-set_same, get_or-set_other}
+use Rattle.std.proofs.Common.{◌≡◌, ◌≢◌, ℕ, ◌+◌, ◌*◌, ◌/◌, ◌%◌, ◌≤◌, ◌<◌, true, false, cond, List, [], suc, length, get_or, set, refl, sym, ap, subst, ◌∙◌, arith, length-set, length-drop, get_or-set_same, get_or-set_other}
 use Rattle.std.specs.Prelude.{◌==◌}
-use Rattle.std.proofs.lemmas.Bool.{cases_eq, cases_lt, eq-eqb, ne_eqb}
+use Rattle.std.proofs.lemmas.Bool.{cases_eq, eq-eqb, ne_eqb}
 use Rattle.std.proofs.Math.Logic.{⊎_elim}
 use Rattle.heap_words.specs.declared.map.Areas.{Areas}
 use Rattle.heap_words.specs.Map.{page_words, total_of}
 use Rattle.heap_words.specs.Cells.{cells, row, row_set}
-use Rattle.heap_words.specs.Contents.{Contents, contents, with_page}
+use Rattle.heap_words.specs.Contents.{contents}
 use Rattle.heap_words.proofs.Rows.{length-row}
 use Rattle.yak_model.specs.Placed.{space_word, used_mark}
 use Rattle.yak_model.specs.Plans.{Move}

@@ -2,10 +2,12 @@
 //! table after a slide, and the records of the moved objects.
 #![tactic(auto)]
 
+mod recording;
 mod regions;
 mod settling;
 mod stacks;
 
+pub use recording::record_moved;
 pub use regions::correct_regions;
 pub use settling::settle_pages;
 pub use stacks::{correct_stack, correct_stacks};

@@ -2,7 +2,7 @@
 
 ghost use Rattle.std.specs.Prelude.{◌≡◌, ◌≤◌, ◌<◌, ◌+◌, ◌*◌, ◌/◌, ◌%◌, ℕ, List};
 ghost use Rattle.heap_words.specs.Map.{HasPage, heap_length, page_words};
-ghost use Rattle.heap_words.specs.Contents.{Contents, Sound, contents, with_page};
+ghost use Rattle.heap_words.specs.Contents.{Sound, contents, with_page};
 ghost use Rattle.yak_model.specs.Placed.{space_word};
 ghost use Rattle.relocation.specs.declared.plans.TheConstants.{MOVE_WORDS};
 ghost use Rattle.relocation.specs.Moves.{HasHeader, move_at, size_at};

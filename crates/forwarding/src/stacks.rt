@@ -1,11 +1,11 @@
 //! The correcting of the stacks by a plan.
 
 ghost use Rattle.std.specs.Prelude.{◌≡◌, ◌≤◌, ◌<◌, ◌+◌, ◌*◌, ℕ, List, length, slice_index, slice_set, sum_by};
-ghost use Rattle.std.specs.Prelude as std;
 ghost use Rattle.heap_words.specs.Map.{HasThread, IsAreas, block_at, heap_length, stack_start};
-ghost use Rattle.heap_words.specs.Contents.{Contents, Sound, contents, stack_of, with_stack};
+ghost use Rattle.heap_words.specs.Contents.{Sound, contents, stack_of, with_stack};
 ghost use Rattle.yak_model.specs.Plans.{forward};
 ghost use Rattle.relocation.specs.Moves.{Numbered, corrected_word, move_at};
+ghost use Rattle.forwarding.specs.Corrected.{corrected_stack, corrected_stacks};
 
 use heap_words::{Areas, CURRENT_PAGES, Words, stack_length};
 use relocation::{Plan, correct};
@@ -41,7 +41,7 @@ pub fn correct_stack<W: Words>(words: &mut W, map: Areas, plan: &Plan, thread: u
     requires thread { HasThread map thread }
     requires plan { (let c = contents map (W.words words.old) in Numbered map c.heap plan.now.count (move_at c.scratch)) }
     requires lead { (k a : ℕ) → k < length (stack_of (contents map (W.words words.old)) thread) → slice_index (stack_of (contents map (W.words words.old)) thread) k ≡ 2 * (a + 1) → a + 2 < heap_length map }
-    ensures corrected { (let c = contents map (W.words words.old) in contents map (W.words words.new) ≡ with_stack c thread (std.map (corrected_word (forward plan.now.count (move_at c.scratch))) (stack_of c thread))) }
+    ensures corrected { (let c = contents map (W.words words.old) in contents map (W.words words.new) ≡ with_stack c thread (corrected_stack (forward plan.now.count (move_at c.scratch)) (stack_of c thread))) }
     ensures sound { Sound map (W.words words.new) }
     ensures reads { W.reads words.new ≤ W.reads words.old + (1 + 4 * length (stack_of (contents map (W.words words.old)) thread)) }
     ensures base { W.base words.new ≡ W.base words.old }
@@ -57,7 +57,7 @@ pub fn correct_stacks<W: Words>(words: &mut W, map: Areas, plan: &Plan)
     requires sound { Sound map (W.words words.old) }
     requires plan { (let c = contents map (W.words words.old) in Numbered map c.heap plan.now.count (move_at c.scratch)) }
     requires lead { (thread k a : ℕ) → HasThread map thread → k < length (stack_of (contents map (W.words words.old)) thread) → slice_index (stack_of (contents map (W.words words.old)) thread) k ≡ 2 * (a + 1) → a + 2 < heap_length map }
-    ensures corrected { (let c = contents map (W.words words.old) in contents map (W.words words.new) ≡ record c { stacks = std.map (std.map (corrected_word (forward plan.now.count (move_at c.scratch)))) c.stacks }) }
+    ensures corrected { (let c = contents map (W.words words.old) in contents map (W.words words.new) ≡ record c { stacks = corrected_stacks (forward plan.now.count (move_at c.scratch)) c.stacks }) }
     ensures sound { Sound map (W.words words.new) }
     ensures reads { W.reads words.new ≤ W.reads words.old + (map.threads + 4 * sum_by (λ (st : List ℕ). length st) (contents map (W.words words.old)).stacks) }
     ensures base { W.base words.new ≡ W.base words.old }

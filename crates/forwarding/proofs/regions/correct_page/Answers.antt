@@ -1,11 +1,11 @@
-use Rattle.std.proofs.Common.{◌≡◌, ◌≤◌, ◌<◌, ◌+◌, ◌*◌, ◌⊎◌, arith, subst, sym, ap, ◌∙◌, List, ℕ, inl, inr}
+use Rattle.std.proofs.Common.{◌≡◌, ◌≤◌, ◌<◌, ◌+◌, ◌*◌, ◌⊎◌, arith, subst, sym, ◌∙◌, List, ℕ, inl, inr}
 use Rattle.std.proofs.Math.Logic.{⊎_elim}
 use Rattle.heap_words.specs.Map.{page_words}
 use Rattle.heap_words.specs.Contents.{Contents, Sound, contents}
 use Rattle.yak_model.specs.Placed.{used_mark}
 use Rattle.yak_model.specs.Plans.{forward}
 use Rattle.relocation.specs.Fields.{FieldsCorrected}
-use Rattle.relocation.specs.Moves.{HasHeader, Numbered, OnlyHeap, move_at, size_at}
+use Rattle.relocation.specs.Moves.{Numbered, OnlyHeap, move_at, size_at}
 use Rattle.relocation.proofs.Heap.{only_heap-same, only_heap-scratch, only_heap-then}
 use Rattle.forwarding.proofs.RegionSteps.{RowDone, row-none, row-reached, row-on, row-all, row-end, fields-header, fields-size}
 use Rattle.forwarding.proofs.regions.correct_page.Goals as goal

@@ -1,6 +1,4 @@
-use Rattle.std.proofs.Common.{◌≡◌, ◌≤◌, ◌<◌, ◌+◌, ◌*◌, arith, subst, sym, ap, ◌∙◌, List, ℕ, get_or, length, sum_by, take}
-use Rattle.std.proofs.lemmas.List.{take_all}
-use Rattle.heap_words.specs.Map.{page_words}
+use Rattle.std.proofs.Common.{◌≡◌, ◌≤◌, ◌<◌, ◌+◌, ◌*◌, arith, subst, sym, ap, ◌∙◌, List, ℕ, get_or, length}
 use Rattle.heap_words.specs.Contents.{Contents, Sound, contents}
 use Rattle.heap_words.proofs.Contents.{length-heap}
 use Rattle.yak_model.specs.Placed.{space_word, used_mark}
@@ -9,7 +7,7 @@ use Rattle.relocation.specs.Fields.{MovesCorrected}
 use Rattle.relocation.specs.Moves.{Numbered, OnlyHeap, move_at}
 use Rattle.relocation.specs.Slide.{object_at}
 use Rattle.relocation.proofs.Heap.{only_heap-scratch, only_heap-then}
-use Rattle.forwarding.specs.Corrected.{IsRegional, RegionRuns}
+use Rattle.forwarding.specs.Corrected.{IsRegional}
 use Rattle.forwarding.specs.Row.{ObjectRow, staying}
 use Rattle.forwarding.proofs.StackSteps.{sum-more}
 use Rattle.forwarding.proofs.RegionSteps.{PagesDone, length-table, region-row, pages-more, pages-other, pages-all}
@@ -55,24 +53,24 @@ loop-page-preserved g c =
     let more = sum-more (λ (r : List ℕ). get_or r 1 0) was.table page (omega (arith, length-table m ws, in_heap)) in
     elim c.if-get_page-gt-CONTROL_WORD.branch [
       | then-get_page-gt-CONTROL_WORD w ↦
-        (let new_words : List ℕ = g.W.Words.words w.correct_page.new.words in
-        let new : Contents = contents m new_words in
-        let regional : IsRegional was page = omega (arith, read, w.if-get_page-gt-CONTROL_WORD.true) in
-        let own : (n : ℕ) (at : ℕ → ℕ) → ObjectRow m mid.heap page (used_mark was.table page) n at → MovesCorrected f mid.heap new.heap n (staying at) =
-        subst (λ (t : List (List ℕ)). (n : ℕ) (at : ℕ → ℕ) → ObjectRow m mid.heap page (used_mark t page) n at → MovesCorrected f mid.heap new.heap n (staying at)) table
-        (subst (λ (s : List ℕ). (n : ℕ) (at : ℕ → ℕ) → ObjectRow m mid.heap page (used_mark mid.table page) n at → MovesCorrected (forward count (move_at s)) mid.heap new.heap n (staying at)) scratch
-        (subst (λ (vs : List ℕ). (n : ℕ) (at : ℕ → ℕ) → ObjectRow m (contents m vs).heap page (used_mark (contents m vs).table page) n at → MovesCorrected (forward count (move_at (contents m vs).scratch)) (contents m vs).heap new.heap n (staying at)) c.get_page.ensures.words w.correct_page.ensures.fields)) in
-        let cost : g.W.Words.reads w.correct_page.new.words ≤ g.W.Words.reads c.get_page.new.words + (1 + 5 * used_mark was.table page) =
-        subst (λ (t : List (List ℕ)). g.W.Words.reads w.correct_page.new.words ≤ g.W.Words.reads c.get_page.new.words + (1 + 5 * used_mark t page)) (ap (λ (vs : List ℕ). (contents m vs).table) c.get_page.ensures.words ∙ table) w.correct_page.ensures.reads in
-        let long : length new.heap ≡ length mid.heap = length-heap m new_words w.correct_page.ensures.sound.whole ∙ sym (length-heap m mid_words inv.sound.whole) in
-        rw w.words-is (record {
-          pages = λ r. pages-more m f was count moves r mid.heap new.heap page in_heap regional (inv.pages r) long own;
-          only_heap = only_heap-then m ws mid_words new_words inv.only_heap (subst (λ (vs : List ℕ). OnlyHeap m vs new_words) c.get_page.ensures.words w.correct_page.ensures.only_heap);
-          plan = subst (λ (s : List ℕ). Numbered m new.heap count (move_at s)) scratch (subst (λ (vs : List ℕ). Numbered m new.heap count (move_at (contents m vs).scratch)) c.get_page.ensures.words w.correct_page.ensures.plan);
-          sound = w.correct_page.ensures.sound;
-          reads = omega (arith, inv.reads, c.get_page.ensures.reads, cost, more);
-          base = w.correct_page.ensures.base ∙ (c.get_page.ensures.base ∙ inv.base);
-        }))
+          (let new_words : List ℕ = g.W.Words.words w.correct_page.new.words in
+          let new : Contents = contents m new_words in
+          let regional : IsRegional was page = omega (arith, read, w.if-get_page-gt-CONTROL_WORD.true) in
+          let own : (n : ℕ) (at : ℕ → ℕ) → ObjectRow m mid.heap page (used_mark was.table page) n at → MovesCorrected f mid.heap new.heap n (staying at) =
+          subst (λ (t : List (List ℕ)). (n : ℕ) (at : ℕ → ℕ) → ObjectRow m mid.heap page (used_mark t page) n at → MovesCorrected f mid.heap new.heap n (staying at)) table
+          (subst (λ (s : List ℕ). (n : ℕ) (at : ℕ → ℕ) → ObjectRow m mid.heap page (used_mark mid.table page) n at → MovesCorrected (forward count (move_at s)) mid.heap new.heap n (staying at)) scratch
+          (subst (λ (vs : List ℕ). (n : ℕ) (at : ℕ → ℕ) → ObjectRow m (contents m vs).heap page (used_mark (contents m vs).table page) n at → MovesCorrected (forward count (move_at (contents m vs).scratch)) (contents m vs).heap new.heap n (staying at)) c.get_page.ensures.words w.correct_page.ensures.fields)) in
+          let cost : g.W.Words.reads w.correct_page.new.words ≤ g.W.Words.reads c.get_page.new.words + (1 + 5 * used_mark was.table page) =
+          subst (λ (t : List (List ℕ)). g.W.Words.reads w.correct_page.new.words ≤ g.W.Words.reads c.get_page.new.words + (1 + 5 * used_mark t page)) (ap (λ (vs : List ℕ). (contents m vs).table) c.get_page.ensures.words ∙ table) w.correct_page.ensures.reads in
+          let long : length new.heap ≡ length mid.heap = length-heap m new_words w.correct_page.ensures.sound.whole ∙ sym (length-heap m mid_words inv.sound.whole) in
+          rw w.words-is (record {
+            pages = λ r. pages-more m f was count moves r mid.heap new.heap page in_heap regional (inv.pages r) long own;
+            only_heap = only_heap-then m ws mid_words new_words inv.only_heap (subst (λ (vs : List ℕ). OnlyHeap m vs new_words) c.get_page.ensures.words w.correct_page.ensures.only_heap);
+            plan = subst (λ (s : List ℕ). Numbered m new.heap count (move_at s)) scratch (subst (λ (vs : List ℕ). Numbered m new.heap count (move_at (contents m vs).scratch)) c.get_page.ensures.words w.correct_page.ensures.plan);
+            sound = w.correct_page.ensures.sound;
+            reads = omega (arith, inv.reads, c.get_page.ensures.reads, cost, more);
+            base = w.correct_page.ensures.base ∙ (c.get_page.ensures.base ∙ inv.base);
+          }))
       | else-get_page-gt-CONTROL_WORD w ↦ rw w.words-is (record {
         pages = λ r. pages-other m f was count moves r _ page (λ x. omega (arith, read, x, w.if-get_page-gt-CONTROL_WORD.false)) (subst (λ (vs : List ℕ). PagesDone m f was count moves r (contents m vs).heap page) (sym c.get_page.ensures.words) (inv.pages r));
         only_heap = subst (OnlyHeap m ws) (sym c.get_page.ensures.words) inv.only_heap;

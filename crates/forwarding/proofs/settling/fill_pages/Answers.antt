@@ -1,9 +1,9 @@
-use Rattle.std.proofs.Common.{◌≡◌, ◌≤◌, ◌<◌, ◌+◌, ◌*◌, ◌/◌, ◌%◌, arith, subst, sym, ap, ◌∙◌, List, ℕ, get_or, length, refl}
-use Rattle.heap_words.specs.Map.{heap_length, page_words}
-use Rattle.heap_words.specs.Cells.{row, row_set}
-use Rattle.heap_words.specs.Contents.{Contents, Sound, contents, with_page}
+use Rattle.std.proofs.Common.{◌≡◌, ◌<◌, ◌+◌, ◌/◌, ◌%◌, arith, subst, sym, ap, ◌∙◌, List, ℕ, refl}
+use Rattle.heap_words.specs.Map.{page_words}
+use Rattle.heap_words.specs.Cells.{row_set}
+use Rattle.heap_words.specs.Contents.{Contents, contents, with_page}
 use Rattle.yak_model.specs.Plans.{Move}
-use Rattle.relocation.specs.Moves.{HasHeader, move_at, move_of, size_at}
+use Rattle.relocation.specs.Moves.{HasHeader, move_at, size_at}
 use Rattle.forwarding.specs.Settled.{Filled}
 use Rattle.forwarding.proofs.RegionSteps.{length-table}
 use Rattle.forwarding.proofs.TableSteps.{length-entry, filled-none, filled-more}

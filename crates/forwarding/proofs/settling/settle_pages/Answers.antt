@@ -1,4 +1,4 @@
-use Rattle.std.proofs.Common.{◌≡◌, ◌≤◌, ◌<◌, ◌+◌, arith, subst, sym, ap, ◌∙◌, List, ℕ, get_or}
+use Rattle.std.proofs.Common.{◌≤◌, ◌<◌, ◌+◌, subst, sym, ap, ◌∙◌, ℕ}
 use Rattle.heap_words.specs.Map.{heap_length}
 use Rattle.heap_words.specs.Contents.{Contents, contents}
 use Rattle.relocation.specs.Moves.{HasHeader, move_at, size_at}
