@@ -64,7 +64,7 @@ some_rehomed : (count : ℕ) (moves : ℕ → Move) (a : ℕ) (x : Option Thing)
 some_rehomed count moves a None h = h
 some_rehomed count moves a (Some o) h = refl
 
-closed_after : (count : ℕ) (moves : ℕ → Move) (at : Name → ℕ) (s : State) → IsClosed s → IsClosed (after_moves count moves at s)
+pub closed_after : (count : ℕ) (moves : ℕ → Move) (at : Name → ℕ) (s : State) → IsClosed s → IsClosed (after_moves count moves at s)
 closed_after count moves at s h =
     let to : (n : Name) → IsSome (s.objects n) → IsSome (rehomed count moves (at n) (s.objects n)) = λ n. some_rehomed count moves (at n) (s.objects n) in
     let datum : (d : Datum) → IsDatum s.objects d → IsDatum (λ n. rehomed count moves (at n) (s.objects n)) d = datum_as s.objects (λ n. rehomed count moves (at n) (s.objects n)) to in

@@ -37,3 +37,5 @@ pub mod Counting
 pub mod PlannedEnd
 pub mod Readies
 pub mod Releases
+pub mod Records
+pub mod RegionLeaves

@@ -68,7 +68,7 @@ none_of x (r ∷ rs) none =
     let zero_first : test r ≡ 0 = ap (λ z. cond z 1 0) first in
     omega (arith, a, rest, zero_first)
 
-space_of_valid : (m : Areas) (x : Space) → IsAreas m → IsSpaceOf m x → IsValid MAX_DEPTH x
+pub space_of_valid : (m : Areas) (x : Space) → IsAreas m → IsSpaceOf m x → IsValid MAX_DEPTH x
 space_of_valid m Control areas h = tt
 space_of_valid m (Region u d) areas h = (h.0, omega (arith, h.1, areas.3), h.2, omega (arith, h.3))
 

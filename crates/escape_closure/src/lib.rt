@@ -13,7 +13,6 @@ mod raising;
 mod references;
 mod rolling;
 mod sources;
-mod stub;
 mod weighing;
 
 pub use clearing::clear_targets;
