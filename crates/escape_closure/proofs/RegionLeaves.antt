@@ -19,7 +19,7 @@ use Rattle.escape_closure.specs.Needs.{pages_needed}
 use Rattle.yak_model.specs.State.{IsClosed, IsOpen, Thing, object_of, view}
 use Rattle.yak_model.specs.Placed.{HeapStands, Holds, Places, space_word}
 use Rattle.yak_model.specs.Plans.{Move, cleared, forwarded, without}
-use Rattle.yak_model.specs.Stands.{CurrentsStand, PoolStands, RegionsDense, Stands, claim_counter, free_pages, pool_length, set_entries}
+use Rattle.yak_model.specs.Stands.{CurrentsStand, PoolStands, RegionsDense, SetsStand, Stands, claim_counter, free_pages, pool_length, set_entries}
 use Rattle.yak_model.specs.Recorded.{IsRecorded}
 use Rattle.yak_model.proofs.Data.{in_heap}
 use Rattle.region_pages.specs.Freeing.{freed_table, free_below, with_released}
@@ -51,6 +51,14 @@ pool_same m heads heads' pool table claims count h =
 
 not_listed : (xs : List ℕ) (a : ℕ) → xs ≡ [] → Contains xs a → ⊥
 not_listed xs a e h = let none : Contains [] a = subst (λ (ys : List ℕ). Contains ys a) e h in let lt : none.0 < 0 = none.1 in omega (arith, lt)
+
+-- a space that gives its pages back keeps the sets
+pub released_entries : (moved freed : Contents) (t depth : ℕ) → freed ≡ with_released moved (Region t depth) → set_entries freed.heads ≡ set_entries moved.heads
+released_entries moved freed t depth released =
+    ap (λ (x : Contents). set_entries x.heads) released ∙ get_or-set_other (set moved.heads 1 0) 2 3 _ 0 (omega arith) ∙ get_or-set_other moved.heads 1 3 0 0 (omega arith)
+
+pub released_sets : (m : Areas) (moved freed : Contents) (t depth : ℕ) → freed ≡ with_released moved (Region t depth) → SetsHold m moved → SetsHold m freed
+released_sets m moved freed t depth released h = subst (λ xs. SetsStand m freed.heads xs) (sym (ap (λ (x : Contents). x.sets) released)) (sets_same m moved.heads freed.heads moved.sets (released_entries moved freed t depth released) h)
 
 module _ (m : Areas) (before mid c : Contents) (s : SpaceState) (st : Stands m before s) (t count : ℕ) (areas : IsAreas m) (has : HasThread m t) (low : 1 ≤ depth_of before t) (r : RegionReady m before mid c s st t count) (shape : Shape m c) (depth : ℕ) (is : depth ≡ depth_of before t) (moved : Contents) (carried : Carried m c moved s st.places t count) where
   abbrev l : Places
@@ -91,6 +99,13 @@ module _ (m : Areas) (before mid c : Contents) (s : SpaceState) (st : Stands m b
 
   are_valid : AreValid left
   are_valid = valid_left s st.whole l one t count has.0 valid moves false e targets_valid
+
+  -- what the recording of moved objects wants
+  pub held_moved : (freed : Contents) → freed ≡ with_released moved (Region t depth) → Holds m freed.heap (forwarded count moves l.at) (forwarded count moves l.at) (cleared count moves l.at work) left × AreMoved left (forwarded count moves l.at) count (move_at freed.scratch)
+  held_moved freed released =
+      let heap : freed.heap ≡ moved.heap = ap (λ (x : Contents). x.heap) released in
+      let scratch : freed.scratch ≡ c.scratch = ap (λ (x : Contents). x.scratch) released ∙ ap (λ (x : Contents). x.scratch) carried.frame in
+      (subst (λ (h : List ℕ). Holds m h (forwarded count moves l.at) (forwarded count moves l.at) (cleared count moves l.at work) left) (sym heap) carried.holds, subst (λ (x : List ℕ). AreMoved left (forwarded count moves l.at) count (move_at x)) (sym scratch) are_moved)
 
   module _ (freed filed d : Contents) (released : freed ≡ with_released moved (Region t depth)) (pool : PoolStands m freed.heads freed.pool freed.table) (currents : CurrentsStand m moved.currents moved.table → CurrentsStand m freed.currents freed.table) (free : (p : ℕ) → Contains (free_pages freed.heads freed.pool) p ↔ ((p < m.pages) × ((space_word moved.table p ≡ 0) ⊎ (space_word moved.table p ≡ space_index (Region t depth) + 1)))) (recording : (objects : Name → Option Thing) (at work' : Name → ℕ) → Holds m freed.heap at at work' objects → AreData objects → AreMoved objects at count (move_at freed.scratch) → AreValid objects → (a : ℕ) → IsFiled filed a ↔ (IsFiled freed a ⊎ IsCrossing objects at count (move_at freed.scratch) a)) (sets : SetsHold m filed) (others : filed ≡ with_sets freed filed) (ends : d ≡ with_depth (with_readers filed t (depth_of filed t) 0) t (depth_of filed t - 1)) (limits : InLimits m d) where
     -- ---- the words, area by area

@@ -11,6 +11,7 @@ mod planning;
 mod probe;
 mod raising;
 mod references;
+mod regional;
 mod rolling;
 mod sources;
 mod weighing;
@@ -19,6 +20,7 @@ pub use clearing::clear_targets;
 pub use closing::close_region;
 pub use ending::targets;
 pub use references::correct_references;
+pub use regional::end_region;
 pub use planning::plan_moves;
 
 /// What the work word of an object counts more while it waits on the list.
