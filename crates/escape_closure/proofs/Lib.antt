@@ -39,3 +39,4 @@ pub mod Readies
 pub mod Releases
 pub mod Records
 pub mod RegionLeaves
+pub mod Outcomes
