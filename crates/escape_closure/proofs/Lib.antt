@@ -40,3 +40,5 @@ pub mod Releases
 pub mod Records
 pub mod RegionLeaves
 pub mod Outcomes
+pub mod RunsTold
+pub mod TightReadies

@@ -5,7 +5,7 @@ use Rattle.epoch_lattice.specs.declared.Space.{Space}
 use Rattle.epoch_lattice.specs.declared.Space.TheVariants.{Control}
 use Rattle.epoch_lattice.specs.Lattice.{space_index}
 use Rattle.heap_words.specs.declared.map.Areas.{Areas}
-use Rattle.heap_words.specs.Map.{page_words}
+use Rattle.heap_words.specs.Map.{heap_length, page_words}
 use Rattle.heap_words.specs.Cells.{row_set}
 use Rattle.heap_words.specs.Contents.{Contents, InLimits, depth_of}
 use Rattle.yak_model.specs.Spaces.{SpaceState, home_of, innermost}
@@ -15,7 +15,7 @@ use Rattle.yak_model.specs.Plans.{IsLawfulPlan, Move, after_moves, by_move, clea
 use Rattle.yak_model.specs.Stands.{CurrentsStand, PoolStands, RegionsDense, Stands, set_entries}
 use Rattle.yak_model.specs.Recorded.{IsRecorded, Recorded}
 use Rattle.relocation.specs.Moves.{move_at}
-use Rattle.relocation.specs.Slide.{IsPageOf, brought}
+use Rattle.relocation.specs.Slide.{IsPageOf, Runs, Sliding, brought}
 use Rattle.remember_sets.specs.declared.TheConstants.{SET_ENTRIES}
 use Rattle.remember_sets.specs.Filed.{IsFiled, LiesIn, SetsHold}
 use Rattle.forwarding.specs.Crossing.{AreFiled, IsCrossing}
@@ -117,3 +117,11 @@ pub record RegionReady (m : Areas) (before mid c : Contents) (s : SpaceState) (s
   pub filed : Filed m before s stands
   pub written : TargetsWritten m s stands.places t before mid count
   pub planned : EndPlanned m mid c s stands.places t count
+
+-- The escaping objects are planned to the front of the region's own pages, by a slide of all objects that have a target.
+pub record TightReady (m : Areas) (before mid c : Contents) (s : SpaceState) (stands : Stands m before s) (t count next : ℕ) : Type 0 where
+  pub filed : Filed m before s stands
+  pub escaping : ℕ
+  pub written : TargetsWritten m s stands.places t before mid escaping
+  pub room : ℕ
+  pub sliding : (runs : Runs m (region_word s t) mid) → Sliding m (region_word s t) mid runs c count (move_at c.scratch) next room (heap_length m)

@@ -14,6 +14,7 @@ mod references;
 mod regional;
 mod rolling;
 mod sources;
+mod tight;
 mod weighing;
 
 pub use clearing::clear_targets;
@@ -21,6 +22,7 @@ pub use closing::close_region;
 pub use ending::targets;
 pub use references::correct_references;
 pub use regional::end_region;
+pub use tight::end_tight;
 pub use planning::plan_moves;
 
 /// What the work word of an object counts more while it waits on the list.

@@ -1,8 +1,6 @@
 use Rattle.std.proofs.Common.{refl}
-use Rattle.escape_closure.proofs.Regrouped.{regrouped}
-use Rattle.escape_closure.proofs.Readies.{region_ready}
-use Rattle.escape_closure.proofs.Releases.{region_dense}
-use Rattle.escape_closure.proofs.RegionLeaves.{region_ended}
+use Rattle.escape_closure.proofs.RunsTold.{runs-told}
+use Rattle.escape_closure.proofs.TightReadies.{tight_counts}
 use Rattle.escape_closure.proofs.probe.probe.Goals as goal
 
 pub returns : goal.returns
