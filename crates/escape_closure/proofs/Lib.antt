@@ -42,3 +42,4 @@ pub mod RegionLeaves
 pub mod Outcomes
 pub mod RunsTold
 pub mod TightReadies
+pub mod TightLeaves

@@ -49,7 +49,7 @@ pool_same m heads heads' pool table claims count h =
       once = rw free h.once;
     }
 
-not_listed : (xs : List ℕ) (a : ℕ) → xs ≡ [] → Contains xs a → ⊥
+pub not_listed : (xs : List ℕ) (a : ℕ) → xs ≡ [] → Contains xs a → ⊥
 not_listed xs a e h = let none : Contains [] a = subst (λ (ys : List ℕ). Contains ys a) e h in let lt : none.0 < 0 = none.1 in omega (arith, lt)
 
 -- a space that gives its pages back keeps the sets

@@ -54,11 +54,11 @@ freed_gone word table p lt e = freed_row word table p lt ∙ freed_zero word (ro
 one_region : (u d v e : ℕ) → Region u d ≡ Region v e → (u ≡ v) × (d ≡ e)
 one_region u d v e h = ((cc), (cc))
 
-inner_is : (u e : ℕ) → 1 ≤ e → inner_of u e ≡ Region u e
+pub inner_is : (u e : ℕ) → 1 ≤ e → inner_of u e ≡ Region u e
 inner_is u zero low = absurd (omega (arith, low))
 inner_is u (suc e) low = refl
 
-none_of : (x : Space) (table : List (List ℕ)) → ((p : ℕ) → p < length table → space_word table p ≢ space_index x + 1) → pages_of table x ≡ 0
+pub none_of : (x : Space) (table : List (List ℕ)) → ((p : ℕ) → p < length table → space_word table p ≢ space_index x + 1) → pages_of table x ≡ 0
 none_of x [] none = refl
 none_of x (r ∷ rs) none =
     let first : (get_or r 0 0 == space_index x + 1) ≡ false = ne_eqb (get_or r 0 0) (space_index x + 1) (none 0 (omega arith)) in
