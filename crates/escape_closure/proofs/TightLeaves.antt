@@ -1,5 +1,5 @@
 -- What a tight end leaves.
-use Rattle.std.proofs.Common.{◌≡◌, ◌≢◌, ◌⊎◌, ◌↔◌, ℕ, ◌+◌, ◌-◌, ◌*◌, ◌/◌, ◌≤◌, ◌<◌, ◌==◌, Bool, true, false, Option, Some, List, [], length, get_or, set, take, drop, zero, suc, refl, sym, ap, subst, ◌∙◌, arith, inl, inr, length-set, get_or-set_same, get_or-set_other}
+use Rattle.std.proofs.Common.{◌≡◌, ◌≢◌, ◌⊎◌, ◌↔◌, ℕ, ◌+◌, ◌-◌, ◌*◌, ◌/◌, ◌≤◌, ◌<◌, ◌==◌, Bool, true, false, Option, Some, List, [], ◌∷◌, length, get_or, set, take, drop, zero, suc, refl, sym, ap, subst, ◌∙◌, arith, inl, inr, length-set, get_or-set_same, get_or-set_other}
 use Rattle.std.specs.List.{Contains, flat_map}
 use Rattle.std.proofs.lemmas.Bool.{cases_eq, cases_lt, cases_order, eq-eqb, ne_eqb}
 use Rattle.std.proofs.lemmas.List.{drop-set-lt, get_or_past}
@@ -58,6 +58,22 @@ holds_work m heap lies leads w w' objects h same = record {
 
 no_region : (u d : ℕ) → Control ≡ Region u d → ⊥
 no_region u d h = cc
+
+set_past : {X : Type 0} (xs : List X) (i : ℕ) (x : X) → length xs ≤ i → set xs i x ≡ xs
+set_past [] i x le = refl
+set_past (y ∷ ys) zero x le = absurd (omega (arith, le))
+set_past (y ∷ ys) (suc i) x le = ap (λ zs. y ∷ zs) (set_past ys i x (omega (arith, le)))
+
+-- the current pages in Control stay
+first_current : (currents : List (List ℕ)) (t depth u : ℕ) → 1 ≤ depth → current (row_set currents (t - 1) depth 0) u 0 ≡ current currents u 0
+first_current currents t depth u low = ⊎_elim
+    (λ (q : u - 1 ≡ t - 1). ⊎_elim
+    (λ (lt : t - 1 < length currents).
+    ap (λ i. get_or (row (set currents (t - 1) (set (row currents (t - 1)) depth 0)) i) 0 0) q ∙ ap (λ (x : List ℕ). get_or x 0 0) (get_or-set_same currents (t - 1) (set (row currents (t - 1)) depth 0) [] lt) ∙ get_or-set_other (row currents (t - 1)) depth 0 0 0 (omega (arith, low)) ∙ ap (λ i. get_or (row currents i) 0 0) (sym q))
+    (λ (past : length currents ≤ t - 1). ap (λ (x : List (List ℕ)). current x u 0) (set_past currents (t - 1) (set (row currents (t - 1)) depth 0) past))
+    (cases_lt (t - 1) (length currents)))
+    (λ (nq : u - 1 ≢ t - 1). ap (λ (x : List ℕ). get_or x 0 0) (get_or-set_other currents (t - 1) (u - 1) (set (row currents (t - 1)) depth 0) [] nq))
+    (cases_eq (u - 1) (t - 1))
 
 module _ (m : Areas) (before mid c : Contents) (s : SpaceState) (st : Stands m before s) (t count next : ℕ) (areas : IsAreas m) (has : HasThread m t) (low : 1 ≤ depth_of before t) (r : TightReady m before mid c s st t count next) (depth : ℕ) (is : depth ≡ depth_of before t) (moved : Contents) (carried : Carried m c moved s st.places t count) where
   abbrev l : Places
@@ -285,3 +301,129 @@ module _ (m : Areas) (before mid c : Contents) (s : SpaceState) (st : Stands m b
           let none = words_into-none (λ k. (moves k).space) (λ k. size_by (object_of s) (names k)) (Region u e) count (λ k lk q. let z : 0 ≡ space_index (Region u e) = ap space_index (sym (to_control k lk)) ∙ q in omega (arith, z)) in
           (λ z. d.0 (sym cur ∙ z), omega (arith, d.1, count_same, mark, more, none)))
           (cases_eq (space_index (Region u e)) (space_index (innermost s.graph t)))
+
+  -- ---- the words afterwards
+  module _ (settled filed d : Contents) (shape : Shape m before) (after : TableAfter m (region_word s t) mid.table mid.heap settled.table count (move_at c.scratch) next) (freed : (p : ℕ) → p < m.pages → IsPageOf (region_word s t) before.table p → next ≤ p → space_word settled.table p ≡ 0) (long : length settled.table ≡ m.pages) (frame : settled ≡ with_pool_rebuilt (with_current (record moved { table = settled.table }) t depth 0)) (pool : PoolStands m settled.heads settled.pool settled.table) (recording : (objects : Name → Option Thing) (at work' : Name → ℕ) → Holds m settled.heap at at work' objects → AreData objects → AreMoved objects at count (move_at settled.scratch) → AreValid objects → (a : ℕ) → IsFiled filed a ↔ (IsFiled settled a ⊎ IsCrossing objects at count (move_at settled.scratch) a)) (sets : SetsHold m filed) (others : filed ≡ with_sets settled filed) (ends : d ≡ with_depth (with_readers filed t (depth_of filed t) 0) t (depth_of filed t - 1)) (limits : InLimits m d) where
+    base_frame : c ≡ record before { scratch = c.scratch; heap = c.heap }
+    base_frame = tight_frame m before mid c s st t count next areas has low r
+
+    d_table : d.table ≡ settled.table
+    d_table = ap (λ (x : Contents). x.table) ends ∙ ap (λ (x : Contents). x.table) others
+
+    heap_is : d.heap ≡ moved.heap
+    heap_is = ap (λ (x : Contents). x.heap) ends ∙ ap (λ (x : Contents). x.heap) others ∙ ap (λ (x : Contents). x.heap) frame
+
+    settled_heap : settled.heap ≡ moved.heap
+    settled_heap = ap (λ (x : Contents). x.heap) frame
+
+    settled_scratch : settled.scratch ≡ c.scratch
+    settled_scratch = ap (λ (x : Contents). x.scratch) frame ∙ moved_scratch
+
+    currents_is : d.currents ≡ row_set before.currents (t - 1) depth 0
+    currents_is =
+        ap (λ (x : Contents). x.currents) ends ∙ ap (λ (x : Contents). x.currents) others ∙ ap (λ (x : Contents). x.currents) frame
+        ∙ ap (λ (x : Contents). row_set x.currents (t - 1) depth 0) carried.frame ∙ ap (λ (x : Contents). row_set x.currents (t - 1) depth 0) base_frame
+
+    depth_filed : depth_of filed t ≡ depth_of before t
+    depth_filed =
+        ap (λ (x : Contents). depth_of x t) others ∙ ap (λ (x : Contents). depth_of x t) frame ∙ ap (λ (x : Contents). depth_of x t) carried.frame
+        ∙ ap (λ (x : Contents). depth_of x t) base_frame
+
+    depths_is : d.depths ≡ set before.depths (t - 1) (depth_of before t - 1)
+    depths_is =
+        ap (λ (x : Contents). x.depths) ends ∙ ap (λ i. set filed.depths (t - 1) (i - 1)) depth_filed
+        ∙ ap (λ (ds : List ℕ). set ds (t - 1) (depth_of before t - 1)) (ap (λ (x : Contents). x.depths) others ∙ ap (λ (x : Contents). x.depths) frame ∙ ap (λ (x : Contents). x.depths) carried.frame ∙ ap (λ (x : Contents). x.depths) base_frame)
+
+    readers_is : d.readers ≡ row_set before.readers (t - 1) (depth_of before t - 1) 0
+    readers_is =
+        ap (λ (x : Contents). x.readers) ends ∙ ap (λ i. row_set filed.readers (t - 1) (i - 1) 0) depth_filed
+        ∙ ap (λ (rs : List (List ℕ)). row_set rs (t - 1) (depth_of before t - 1) 0) (ap (λ (x : Contents). x.readers) others ∙ ap (λ (x : Contents). x.readers) frame ∙ ap (λ (x : Contents). x.readers) carried.frame ∙ ap (λ (x : Contents). x.readers) base_frame)
+
+    unused_is : drop 4 d.heads ≡ drop 4 before.heads
+    unused_is =
+        ap (λ (x : Contents). drop 4 x.heads) ends ∙ ap (λ (x : Contents). drop 4 x.heads) others
+        ∙ drop-set-lt 4 settled.heads SET_ENTRIES (set_entries filed.heads) (omega arith)
+        ∙ ap (λ (x : Contents). drop 4 x.heads) frame
+        ∙ drop-set-lt 4 (set moved.heads 1 0) 2 _ (omega arith) ∙ drop-set-lt 4 moved.heads 1 0 (omega arith)
+        ∙ ap (λ (x : Contents). drop 4 x.heads) carried.frame ∙ drop-set-lt 4 c.heads SET_ENTRIES (set_entries moved.heads) (omega arith)
+        ∙ ap (λ (x : Contents). drop 4 x.heads) base_frame
+
+    settled_entries : set_entries settled.heads ≡ set_entries moved.heads
+    settled_entries = ap (λ (x : Contents). set_entries x.heads) frame ∙ get_or-set_other (set moved.heads 1 0) 2 3 _ 0 (omega arith) ∙ get_or-set_other moved.heads 1 3 0 0 (omega arith)
+
+    d_claims : claim_counter d.heads ≡ claim_counter settled.heads
+    d_claims = ap (λ (x : Contents). claim_counter x.heads) ends ∙ ap (λ (x : Contents). claim_counter x.heads) others ∙ get_or-set_other settled.heads SET_ENTRIES 1 (set_entries filed.heads) 0 (omega arith)
+
+    d_pooled : pool_length d.heads ≡ pool_length settled.heads
+    d_pooled = ap (λ (x : Contents). pool_length x.heads) ends ∙ ap (λ (x : Contents). pool_length x.heads) others ∙ get_or-set_other settled.heads SET_ENTRIES 2 (set_entries filed.heads) 0 (omega arith)
+
+    d_pool : d.pool ≡ settled.pool
+    d_pool = ap (λ (x : Contents). x.pool) ends ∙ ap (λ (x : Contents). x.pool) others
+
+    settled_filed : (a : ℕ) → IsFiled settled a ↔ IsFiled moved a
+    settled_filed a =
+        let same_sets : settled.sets ≡ moved.sets = ap (λ (x : Contents). x.sets) frame in
+        (filed_as moved settled settled_entries same_sets a, filed_as settled moved (sym settled_entries) (sym same_sets) a)
+
+    before_filed : (a : ℕ) → IsFiled c a ↔ IsRecorded before.heads before.sets before.buffers a
+    before_filed a = (
+      λ h. inl (subst (λ (x : Contents). IsFiled x a) base_frame h),
+      λ h. ⊎_elim
+          (λ (f : IsFiled before a). subst (λ (x : Contents). IsFiled x a) (sym base_frame) f)
+          (λ (f : Contains (flat_map (λ (b : List ℕ). b) before.buffers) a). absurd (not_listed (flat_map (λ (b : List ℕ). b) before.buffers) a (none_filed before.buffers r.filed.filed) f))
+          h,
+    )
+
+    outside_filed : (a : ℕ) → IsFiled moved a ↔ (IsRecorded before.heads before.sets before.buffers a × (LiesIn m before (innermost s.graph t) a → ⊥))
+    outside_filed a =
+        let table : c.table ≡ before.table = ap (λ (x : Contents). x.table) base_frame in (
+          λ h. let w = (carried.filed a).0 h in ((before_filed a).0 w.0, λ z. w.1 (ap (λ (ts : List (List ℕ)). space_word ts (a / page_words m)) table ∙ z)),
+          λ w. (carried.filed a).1 ((before_filed a).1 w.0, λ z. w.1 (ap (λ (ts : List (List ℕ)). space_word ts (a / page_words m)) (sym table) ∙ z)),
+        )
+
+    held : Holds m settled.heap (forwarded count moves l.at) (forwarded count moves l.at) (cleared count moves l.at work) left
+    held = subst (λ (h : List ℕ). Holds m h (forwarded count moves l.at) (forwarded count moves l.at) (cleared count moves l.at work) left) (sym settled_heap) carried.holds
+
+    filed_now : (a : ℕ) → IsFiled filed a ↔ (IsFiled settled a ⊎ IsCrossing left (forwarded count moves l.at) count moves a)
+    filed_now = subst (λ (x : List ℕ). (objects : Name → Option Thing) (at work' : Name → ℕ) → Holds m settled.heap at at work' objects → AreData objects → AreMoved objects at count (move_at x) → AreValid objects → (a : ℕ) → IsFiled filed a ↔ (IsFiled settled a ⊎ IsCrossing objects at count (move_at x) a)) settled_scratch recording left (forwarded count moves l.at) (cleared count moves l.at work) held all_data are_moved are_valid
+
+    d_filed : (a : ℕ) → IsFiled d a ↔ IsFiled filed a
+    d_filed a =
+        let entries = ap (λ (x : Contents). set_entries x.heads) ends in
+        let same = ap (λ (x : Contents). x.sets) ends in
+        (filed_as filed d entries same a, filed_as d filed (sym entries) (sym same) a)
+
+    either : {A B C X : Type 0} → A ↔ B → B ↔ C → (A ⊎ X) ↔ (C ⊎ X)
+    either f g = (
+      λ h. ⊎_elim (λ a. inl (g.0 (f.0 a))) (λ x. inr x) h,
+      λ h. ⊎_elim (λ a. inl (f.1 (g.1 a))) (λ x. inr x) h,
+    )
+
+    pub tight_leaves : Leaves m before d s st.places t count (move_at c.scratch) later
+    tight_leaves = record {
+      at = refl;
+      heap = subst (λ (ts : List (List ℕ)). HeapStands m ts d.heap left later (λ _. 0)) (sym d_table) (subst (λ (h : List ℕ). HeapStands m settled.table h left later (λ _. 0)) (sym heap_is) (tight_stands settled.table after));
+      spaces = subst (λ (ts : List (List ℕ)). (p : ℕ) → p < m.pages → (space_word ts p ≡ 0) ⊎ ((x : Space) × (space_word ts p ≡ space_index x + 1) × IsOpen (view s).depths x × (x ≢ innermost s.graph t))) (sym d_table) (spaces_left settled.table after freed long shape.table);
+      closed = closed;
+      stacks = ap (λ (x : Contents). x.stacks) ends ∙ ap (λ (x : Contents). x.stacks) others ∙ ap (λ (x : Contents). x.stacks) frame ∙ carried.stacks;
+      depths = depths_is;
+      made = ap (λ (x : Contents). x.made) ends ∙ ap (λ (x : Contents). x.made) others ∙ ap (λ (x : Contents). x.made) frame ∙ ap (λ (x : Contents). x.made) carried.frame ∙ ap (λ (x : Contents). x.made) base_frame;
+      rests = ap (λ (x : Contents). x.rests) ends ∙ ap (λ (x : Contents). x.rests) others ∙ ap (λ (x : Contents). x.rests) frame ∙ ap (λ (x : Contents). x.rests) carried.frame ∙ ap (λ (x : Contents). x.rests) base_frame;
+      unused = unused_is;
+      readers = readers_is;
+      buffers = subst AreFiled (sym (ap (λ (x : Contents). x.buffers) ends ∙ ap (λ (x : Contents). x.buffers) others ∙ ap (λ (x : Contents). x.buffers) frame ∙ ap (λ (x : Contents). x.buffers) carried.frame ∙ ap (λ (x : Contents). x.buffers) base_frame)) r.filed.filed;
+      limits = limits;
+      pool = subst (λ (ts : List (List ℕ)). PoolStands m d.heads d.pool ts) (sym d_table) (subst (λ (ps : List ℕ). PoolStands m d.heads ps settled.table) (sym d_pool) (pool_same m settled.heads d.heads settled.pool settled.table d_claims d_pooled pool));
+      currents = subst (λ (ts : List (List ℕ)). CurrentsStand m d.currents ts) (sym d_table) (currents_stand settled.table after freed long shape.table d.currents shape.currents shape.slots currents_is);
+      sets = subst (SetsHold m) (sym ends) sets;
+      dense = subst (λ (ts : List (List ℕ)). RegionsDense m ts d.currents later.pages left) (sym d_table) (tight_dense settled.table after freed long shape.table d.currents shape.currents shape.slots currents_is);
+      filed = λ a. iff_then (d_filed a) (iff_then (filed_now a) (either (settled_filed a) (outside_filed a)));
+    }
+
+    pub tight_ended : TightEnded m before d s t count
+    tight_ended = record {
+      state = state_ended m before s st r.filed.recorded areas t count has low moves true e d later tight_leaves (tight_counts m before mid c s st t count next areas has low r) targets_valid;
+      pages = λ p lt other. ap (λ (ts : List (List ℕ)). space_word ts p) d_table ∙ other_page settled.table after freed long shape.table p other;
+      region = λ p lt own. subst (λ (ts : List (List ℕ)). (space_word ts p ≡ 0) ⊎ (space_word ts p ≡ 1)) (sym d_table) (own_page settled.table after freed long shape.table p lt own);
+      control = λ u. ap (λ (x : List (List ℕ)). current x u 0) currents_is ∙ first_current before.currents t depth u (omega (arith, is, low));
+    }
