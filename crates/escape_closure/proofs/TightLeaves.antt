@@ -169,6 +169,16 @@ module _ (m : Areas) (before mid c : Contents) (s : SpaceState) (st : Stands m b
       let w = target k lt in
       (subst (λ i. i < next) (sym w.3) w.4, subst (λ (ts : List (List ℕ)). IsPageOf slid ts ((moves k).new / page_words m)) (mid_frame ∙ sym moved_table) (subst (IsPageOf slid mid.table) (sym w.3) w.2))
 
+  -- the table that settling the pages leaves
+  pub settled_table : (table : List (List ℕ)) → ((was : List ℕ) → ((k : ℕ) → k < count → size_at moved.heap (move_at moved.scratch k).new ≡ size_at was (move_at moved.scratch k).old) → ((k : ℕ) → k < count → (move_at moved.scratch k).new ≡ page_words m * ((move_at moved.scratch k).new / page_words m) + brought m was k (move_at moved.scratch) ((move_at moved.scratch k).new / page_words m)) → ((k : ℕ) → k < count → ((move_at moved.scratch k).new / page_words m < next) × IsPageOf (region_word s t) moved.table ((move_at moved.scratch k).new / page_words m)) → TableAfter m (region_word s t) moved.table was table count (move_at moved.scratch) next) → TableAfter m (region_word s t) mid.table mid.heap table count (move_at c.scratch) next
+  settled_table table told =
+      let at_start = subst (λ (x : List ℕ). (was : List ℕ) → ((k : ℕ) → k < count → size_at moved.heap (move_at x k).new ≡ size_at was (move_at x k).old) → ((k : ℕ) → k < count → (move_at x k).new ≡ page_words m * ((move_at x k).new / page_words m) + brought m was k (move_at x) ((move_at x k).new / page_words m)) → ((k : ℕ) → k < count → ((move_at x k).new / page_words m < next) × IsPageOf (region_word s t) moved.table ((move_at x k).new / page_words m)) → TableAfter m (region_word s t) moved.table was table count (move_at x) next) moved_scratch told in
+      let after = at_start mid.heap (λ k lt. (lands k lt).1) (slide m before mid c s st t count next areas has low r).tight in_region in
+      subst (λ (ts : List (List ℕ)). TableAfter m slid ts mid.heap table count moves next) (moved_table ∙ sym mid_frame) after
+
+  pub moved_is : moved.table ≡ before.table
+  moved_is = moved_table
+
   abbrev pub later : Places
   later = places_of m (names_after m (region_word s t) mid.table (names_of st.places) count (move_at c.scratch) (named m before mid c s st t count next areas has low r)) (forwarded count (move_at c.scratch) st.places.at)
 

@@ -1,7 +1,7 @@
 -- The plan of a tight end that references can follow.
 use Rattle.std.proofs.Common.{◌≡◌, ◌≢◌, ◌⊎◌, ℕ, ◌+◌, ◌-◌, ◌*◌, ◌/◌, ◌≤◌, ◌<◌, Bool, true, false, Option, Some, List, length, get_or, set, refl, sym, ap, subst, ◌∙◌, arith, inl, inr}
 use Rattle.std.proofs.lemmas.List.{get_or_default}
-use Rattle.std.proofs.Math.Logic.{⊎_elim}
+use Rattle.std.proofs.Math.Logic.{∥∥₁_map, ⊎_elim}
 use Rattle.std.specs.FinSet as names
 use Rattle.object_layout.specs.declared.names.Name.{Name}
 use Rattle.object_layout.specs.declared.TheConstants.{MAX_SPACE, OBJECT_WORDS}
@@ -26,7 +26,7 @@ use Rattle.relocation.specs.Slide.{Drops, IsPageOf, Runs, Sliding}
 use Rattle.relocation.proofs.Lawful.{kept}
 use Rattle.relocation.proofs.SlidLawful.{name_at, runs_of, slid_object, slide-lawful, slide-present, stands-at, walk-at}
 use Rattle.relocation.proofs.Slidden.{Slid, pick, slide-known}
-use Rattle.escape_closure.specs.Targets.{IsEscaping, IsTargetAt}
+use Rattle.escape_closure.specs.Targets.{IsEscaping, IsTargetAt, TargetsWritten}
 use Rattle.escape_closure.specs.Ends.{DropsRest, PlanReady, region_word}
 use Rattle.escape_closure.specs.Leaving.{EndMoves, ReadyToMove, TightReady, left_behind, objects_left}
 use Rattle.escape_closure.proofs.Carries.{innermost_valid}
@@ -34,6 +34,7 @@ use Rattle.escape_closure.proofs.Counting.{counts_listed}
 use Rattle.escape_closure.proofs.Fates.{OneEach, drops_rest, one_each}
 use Rattle.escape_closure.proofs.Keeps.{closed_kept}
 use Rattle.escape_closure.proofs.Reaches.{reached_here}
+use Rattle.escape_closure.proofs.RunsTold.{runs-told}
 use Rattle.escape_closure.proofs.Readies.{sets_same, still_holds}
 
 same_space : (a b : Space) → Some a ≡ Some b → a ≡ b
@@ -41,6 +42,10 @@ same_space a b e = cc
 
 one_thing : (a b : Thing) → Some a ≡ Some b → a ≡ b
 one_thing a b e = cc
+
+-- where the targets are written, the pages of a space are runs of whole objects
+pub runs_written : (m : Areas) (slid : ℕ) (c : Contents) (t : ℕ) → slid ≤ MAX_SPACE + 1 → ∥ ((s : SpaceState) × (before : Contents) × (stands : Stands m before s) × (escaping : ℕ) × TargetsWritten m s stands.places t before c escaping) ∥₁ → Runs m slid c
+runs_written m slid c t fits some = runs-told m slid c (∥∥₁_map some (λ q. runs_of m slid c (view q.0) q.2.places (λ n. get_or c.heap (q.2.places.at n + 2) 0) q.4.heap q.2.stands.closed fits))
 
 module _ (m : Areas) (before mid c : Contents) (s : SpaceState) (st : Stands m before s) (t count next : ℕ) (areas : IsAreas m) (has : HasThread m t) (low : 1 ≤ depth_of before t) (r : TightReady m before mid c s st t count next) where
   abbrev pub l : Places

@@ -121,6 +121,7 @@ pub record RegionReady (m : Areas) (before mid c : Contents) (s : SpaceState) (s
 -- The escaping objects are planned to the front of the region's own pages, by a slide of all objects that have a target.
 pub record TightReady (m : Areas) (before mid c : Contents) (s : SpaceState) (stands : Stands m before s) (t count next : ℕ) : Type 0 where
   pub filed : Filed m before s stands
+  pub deep : 1 ≤ depth_of before t
   pub escaping : ℕ
   pub written : TargetsWritten m s stands.places t before mid escaping
   pub room : ℕ
