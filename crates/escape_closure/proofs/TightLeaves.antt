@@ -75,6 +75,19 @@ first_current currents t depth u low = ⊎_elim
     (λ (nq : u - 1 ≢ t - 1). ap (λ (x : List ℕ). get_or x 0 0) (get_or-set_other currents (t - 1) (u - 1) (set (row currents (t - 1)) depth 0) [] nq))
     (cases_eq (u - 1) (t - 1))
 
+-- the lists of the words before a tight end are as long as those after its plan
+pub shape_before : (m : Areas) (before c : Contents) → c ≡ record before { scratch = c.scratch; heap = c.heap } → Shape m c → Shape m before
+shape_before m before c frame h =
+    let x : Contents = record before { scratch = c.scratch; heap = c.heap } in
+    let q : Shape m x = subst (Shape m) frame h in
+    record { heads = q.heads; pool = q.pool; table = q.table; entries = q.entries; currents = q.currents; slots = q.slots }
+
+-- settling the pages keeps the sets
+pub settled_sets : (m : Areas) (moved settled : Contents) (t depth : ℕ) → settled ≡ with_pool_rebuilt (with_current (record moved { table = settled.table }) t depth 0) → SetsHold m moved → SetsHold m settled
+settled_sets m moved settled t depth frame h =
+    let entries : set_entries settled.heads ≡ set_entries moved.heads = ap (λ (x : Contents). set_entries x.heads) frame ∙ get_or-set_other (set moved.heads 1 0) 2 3 _ 0 (omega arith) ∙ get_or-set_other moved.heads 1 3 0 0 (omega arith) in
+    subst (λ xs. SetsStand m settled.heads xs) (sym (ap (λ (x : Contents). x.sets) frame)) (sets_same m moved.heads settled.heads moved.sets entries h)
+
 module _ (m : Areas) (before mid c : Contents) (s : SpaceState) (st : Stands m before s) (t count next : ℕ) (areas : IsAreas m) (has : HasThread m t) (low : 1 ≤ depth_of before t) (r : TightReady m before mid c s st t count next) (depth : ℕ) (is : depth ≡ depth_of before t) (moved : Contents) (carried : Carried m c moved s st.places t count) where
   abbrev l : Places
   l = st.places
