@@ -3,19 +3,26 @@ use Rattle.std.proofs.Common.{◌≡◌, ◌≢◌, ◌⊎◌, ◌↔◌, ℕ, �
 use Rattle.std.specs.List.{Contains}
 use Rattle.object_layout.specs.declared.replies.Shortage.{Shortage}
 use Rattle.heap_words.specs.declared.map.Areas.{Areas}
-use Rattle.heap_words.specs.Contents.{Contents}
+use Rattle.heap_words.specs.Map.{HasThread, heap_length}
+use Rattle.heap_words.specs.Contents.{Contents, depth_of}
+use Rattle.epoch_lattice.specs.declared.Space.{Space}
+use Rattle.epoch_lattice.specs.declared.Space.TheVariants.{Region}
+use Rattle.epoch_lattice.specs.Lattice.{space_index}
+use Rattle.relocation.specs.Moves.{move_at}
+use Rattle.relocation.specs.Slide.{Runs, Sliding}
 use Rattle.yak_model.specs.Spaces.{SpaceState}
 use Rattle.yak_model.specs.State.{State, view}
 use Rattle.yak_model.specs.Placed.{Places, space_word}
-use Rattle.yak_model.specs.Stands.{Stands, StandsAs, claim_counter, free_pages, pool_length, set_entries}
+use Rattle.yak_model.specs.Stands.{Stands, StandsAs, claim_counter, current, free_pages, pool_length, set_entries}
 use Rattle.yak_model.specs.Recorded.{Recorded, RecordedAs}
 use Rattle.remember_sets.specs.declared.TheConstants.{SET_ENTRIES}
 use Rattle.forwarding.specs.Crossing.{AreFiled}
 use Rattle.escape_closure.specs.Needs.{InOrder, pages_needed}
 use Rattle.escape_closure.specs.Targets.{TargetsWritten}
 use Rattle.escape_closure.specs.Rolls.{OnlyScratch}
-use Rattle.escape_closure.specs.Ends.{EndPlanned, FallsShort, RegionEnded, RegionShort, StateEnded, region_word}
-use Rattle.escape_closure.specs.Leaving.{Begun, Filed, RegionReady}
+use Rattle.escape_closure.specs.Ends.{EndPlanned, FallsShort, RegionEnded, RegionShort, StateEnded, TightEnded, region_word}
+use Rattle.escape_closure.specs.Leaving.{Begun, Filed, RegionReady, TightReady}
+use Rattle.escape_closure.proofs.Written.{region_is}
 
 -- words of which only the scratch area has changed
 stands_scratch : (m : Areas) (c : Contents) (v : State) (l : Places) (x : List ℕ) → StandsAs m c v l → (let d : Contents = record c { scratch = x } in StandsAs m d v l)
@@ -113,3 +120,26 @@ module _ (m : Areas) (c : Contents) (s : SpaceState) (st : Stands m c s) (t esca
     written = subst (λ i. TargetsWritten m s b.later.places t b.filing mid i) (sym same) b.written;
     planned = e;
   }
+
+  pub tight_from : (d : Contents) (count : ℕ) → TightEnded m b.filing d s t count → TightEnded m c d s t count
+  tight_from d count r = record {
+    state = r.state;
+    pages = subst (λ (x : Contents). (p : ℕ) → p < m.pages → space_word x.table p ≢ region_word s t → space_word d.table p ≡ space_word x.table p) b.frame r.pages;
+    region = subst (λ (x : Contents). (p : ℕ) → p < m.pages → space_word x.table p ≡ region_word s t → (space_word d.table p ≡ 0) ⊎ (space_word d.table p ≡ 1)) b.frame r.region;
+    control = subst (λ (x : Contents). (u : ℕ) → current d.currents u 0 ≡ current x.currents u 0) b.frame r.control;
+  }
+
+  -- a plan of a tight end after its start
+  pub tight_readied : HasThread m t → 1 ≤ depth_of c t → (planned : Contents) (count next room : ℕ) → ((slid : ℕ) → slid ≡ space_index (Region t (depth_of mid t)) + 1 → (runs : Runs m slid mid) → Sliding m slid mid runs planned count (move_at planned.scratch) next room (heap_length m)) → TightReady m b.filing mid planned s b.later t count next
+  tight_readied has low planned count next room told =
+      let filing : depth_of b.filing t ≡ depth_of c t = ap (λ (x : Contents). depth_of x t) b.frame in
+      let same : depth_of mid t ≡ depth_of b.filing t = ap (λ (x : Contents). depth_of x t) b.written.frame in
+      let deep : 1 ≤ depth_of b.filing t = omega (arith, filing, low) in
+      record {
+        filed = record { recorded = b.recorded; filed = b.filed };
+        deep = deep;
+        escaping = escaping;
+        written = b.written;
+        room = room;
+        sliding = told (region_word s t) (ap (λ (y : Space). space_index y + 1) (region_is m b.filing s b.later t (depth_of mid t) has same (omega (arith, same, deep))));
+      }

@@ -8,7 +8,6 @@ mod closing;
 mod ending;
 mod needing;
 mod planning;
-mod probe;
 mod raising;
 mod references;
 mod regional;
