@@ -18,3 +18,4 @@ pub mod Underway
 pub mod Corrects
 pub mod Leads
 pub mod Clears
+pub mod MovedWords
