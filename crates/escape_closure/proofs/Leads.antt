@@ -126,7 +126,7 @@ module _ (m : Areas) (before c : Contents) (s : SpaceState) (stands : Stands m b
     pub home : thing.home ≡ region
     pub place : at name ≡ (moves k).old
 
-  moved_at : (k : ℕ) → k < count → MovedAt k
+  pub moved_at : (k : ℕ) → k < count → MovedAt k
   moved_at k lt =
       let w = ready.moved k lt in
       let here : IsIn (view s) region w.0 = reached_here s stands.whole t some region w.0 w.1.0 w.1.1 in
@@ -224,7 +224,7 @@ module _ (m : Areas) (before c : Contents) (s : SpaceState) (stands : Stands m b
   home_valid n o present = subst (λ k. IsValid k o.home) (ap (λ l. l.depth) stands.whole.limits) (stands.whole.homes n o.home (seen s n o present).home_is)
 
   -- the words of a moved object
-  size_now : (k : ℕ) → (lt : k < count) → size_at c.heap (moves k).old ≡ length (moved_at k lt).thing.fields + OBJECT_WORDS
+  pub size_now : (k : ℕ) → (lt : k < count) → size_at c.heap (moves k).old ≡ length (moved_at k lt).thing.fields + OBJECT_WORDS
   size_now k lt =
       let w = moved_at k lt in
       let st = ready.holds.stands w.name w.thing w.present in

@@ -43,3 +43,4 @@ pub mod Outcomes
 pub mod RunsTold
 pub mod TightReadies
 pub mod TightLeaves
+pub mod MovedWords

@@ -4,10 +4,11 @@ ghost use Rattle.std.specs.Prelude.{◌≡◌, ◌≢◌, ◌≤◌, ◌<◌, �
 ghost use Rattle.heap_words.specs.Map.{HasRegion, HasThread, heap_length};
 ghost use Rattle.heap_words.specs.declared.TheConstants.{STACK_SLOTS};
 ghost use Rattle.heap_words.specs.Contents.{Contents, contents, depth_of, stack_of, with_heap, Sound};
-ghost use Rattle.yak_model.specs.Spaces.{SpaceState};
+ghost use Rattle.yak_model.specs.Spaces.{SpaceState, innermost};
+ghost use Rattle.yak_model.specs.State.{object_of};
 ghost use Rattle.yak_model.specs.Plans.{forward};
-ghost use Rattle.yak_model.specs.Stands.{Stands, set_entries};
-ghost use Rattle.relocation.specs.Moves.{Numbered, corrected_word, move_at, words_moved};
+ghost use Rattle.yak_model.specs.Stands.{Stands, set_entries, words_of};
+ghost use Rattle.relocation.specs.Moves.{Numbered, corrected_word, move_at};
 ghost use Rattle.escape_closure.specs.Ends.{PlanReady, References};
 ghost use Rattle.escape_closure.specs.Referring.{IsOutside, OutsideCorrected, ReadersCorrected, SlotsCorrected, SlotsReady, StackLeads, corrected_stack};
 
@@ -130,7 +131,7 @@ pub fn correct_references<W: Words>(words: &mut W, map: Areas, plan: &Plan, thre
     requires depth { 1 ≤ depth_of (contents map (W.words words.old)) thread }
     requires ready { ∥ ((before : Contents) × (s : SpaceState) × (stands : Stands map before s) × PlanReady map before (contents map (W.words words.old)) s stands thread plan.now.count) ∥₁ }
     ensures references { (before : Contents) (s : SpaceState) (stands : Stands map before s) → PlanReady map before (contents map (W.words words.old)) s stands thread plan.now.count → References map (contents map (W.words words.old)) (contents map (W.words words.new)) s stands.places thread plan.now.count }
-    ensures reads { let c = contents map (W.words words.old) in W.reads words.new ≤ W.reads words.old + (4 * length (stack_of c thread) + 6 * set_entries c.heads + 4 * words_moved c.heap plan.now.count (move_at c.scratch) + 3 * plan.now.count + (4 + (1 + 4 * STACK_SLOTS) * map.threads)) }
+    ensures reads { let c = contents map (W.words words.old) in (before : Contents) (s : SpaceState) (stands : Stands map before s) → PlanReady map before c s stands thread plan.now.count → W.reads words.new ≤ W.reads words.old + (4 * length (stack_of c thread) + 6 * set_entries c.heads + 5 * words_of stands.places.pages (object_of s) (innermost s.graph thread) + (4 + (1 + 4 * STACK_SLOTS) * map.threads)) }
     ensures sound { Sound map (W.words words.new) }
     ensures base { W.base words.new ≡ W.base words.old }
 {

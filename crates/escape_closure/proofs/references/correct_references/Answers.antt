@@ -12,6 +12,7 @@ use Rattle.relocation.specs.Moves.{Numbered, move_at, words_moved}
 use Rattle.relocation.specs.Fields.{Lined, MovesCorrected}
 use Rattle.escape_closure.specs.Referring.{OutsideCorrected, SlotsReady, StackLeads}
 use Rattle.escape_closure.proofs.Leads.{LinedAs, lined, lined_as, lined_of, references, slots_ready, stack_leads, words_mid}
+use Rattle.escape_closure.proofs.MovedWords.{moved_few, three_each}
 use Rattle.escape_closure.proofs.Written.{region_is}
 use Rattle.escape_closure.proofs.references.correct_references.Goals as goal
 
@@ -82,7 +83,7 @@ returns-clause-references g c before s stands ready =
     references m before old s stands t count c.requires.sound.areas c.requires.thread.0 ready mid depth (region_is m before s stands t depth c.requires.thread is low) valid (length-sets m ws c.requires.sound.whole) out new last c.correct_moves.ensures.only_heap numbered (length-stacks m ws) (length-heap m next c.correct_moves.ensures.sound.whole ∙ sym (length-heap m ws c.requires.sound.whole))
 
 pub returns-clause-reads : goal.returns-clause-reads
-returns-clause-reads g c =
+returns-clause-reads g c before s stands ready =
     let m = c.args.map in
     let t = c.args.thread in
     let ws = g.W.Words.words c.args.words.now in
@@ -95,10 +96,11 @@ returns-clause-reads g c =
     let out : OutsideCorrected m (forward count (move_at old.scratch)) old mid t depth = subst (λ (x : Contents). OutsideCorrected m (forward count (move_at x.scratch)) x mid t depth) same c.correct_outside.ensures.corrected in
     let scratch : mid.scratch ≡ old.scratch = ap (λ (x : Contents). x.scratch) out.frame in
     let valid : IsValid MAX_DEPTH (Region t depth) = (c.requires.thread.0, omega (arith, c.requires.thread, c.requires.sound.areas), low, c.depth-innermost.ensures.at_most) in
-    let words : words_moved mid.heap count (move_at old.scratch) ≡ words_moved old.heap count (move_at old.scratch) = ∥∥₁_elim c.requires.ready (hlevel props) (λ q.
-    let is : depth ≡ depth_of q.0 t = c.depth-innermost.ensures.depth ∙ ap (λ (x : Contents). depth_of x t) q.3.frame in
-    words_mid m q.0 old q.1 q.2 t count c.requires.sound.areas c.requires.thread.0 q.3 mid depth (region_is m q.0 q.1 q.2 t depth c.requires.thread is low) valid (length-sets m ws c.requires.sound.whole) out) in
+    let is : depth ≡ depth_of before t = c.depth-innermost.ensures.depth ∙ ap (λ (x : Contents). depth_of x t) ready.frame in
+    let words = words_mid m before old s stands t count c.requires.sound.areas c.requires.thread.0 ready mid depth (region_is m before s stands t depth c.requires.thread is low) valid (length-sets m ws c.requires.sound.whole) out in
+    let few = moved_few m before old s stands t count c.requires.sound.areas c.requires.thread.0 ready in
+    let three = three_each old.heap count (move_at old.scratch) in
     let moved : words_moved mid.heap count (move_at mid.scratch) ≡ words_moved mid.heap count (move_at old.scratch) = ap (λ (x : List ℕ). words_moved mid.heap count (move_at x)) scratch in
     let stack = ap (λ (x : Contents). length (stack_of x t)) same in
     let entries = ap (λ (x : Contents). set_entries x.heads) same in
-    omega (arith, c.correct_moves.ensures.reads, c.correct_outside.ensures.reads, c.depth-innermost.ensures.reads, words, moved, stack, entries)
+    omega (arith, c.correct_moves.ensures.reads, c.correct_outside.ensures.reads, c.depth-innermost.ensures.reads, words, moved, stack, entries, few, three)
