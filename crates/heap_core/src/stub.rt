@@ -7,7 +7,7 @@ ghost use Rattle.yak_model.specs.Spaces.{SpaceState};
 ghost use Rattle.yak_model.specs.Stands.{Stands};
 ghost use Rattle.yak_model.specs.Recorded.{Recorded};
 ghost use Rattle.heap_core.specs.EpochEnds.{end_reads};
-ghost use Rattle.escape_closure.specs.Ends.{RegionEnded, RegionShort, TightEnded};
+ghost use Rattle.escape_closure.specs.Ends.{RegionEnded, RegionShort};
 
 use heap_words::{Areas, Words};
 use object_layout::Shortage;
@@ -23,18 +23,5 @@ pub fn end_region<W: Words>(words: &mut W, map: Areas, thread: u8) -> Result<u64
     ensures sound { Sound map (W.words words.new) }
     ensures base { W.base words.new ≡ W.base words.old }
 {
-    Ok(0)
-}
-
-/// Stub.
-pub fn end_tight<W: Words>(words: &mut W, map: Areas, thread: u8) -> u64
-    requires sound { Sound map (W.words words.old) }
-    requires thread { HasThread map thread }
-    requires depth { 1 ≤ depth_of (contents map (W.words words.old)) thread }
-    requires recorded { ∥ ((s : SpaceState) × (h : Stands map (contents map (W.words words.old)) s) × Recorded map (contents map (W.words words.old)) s h) ∥₁ }
-    ensures ended { (s : SpaceState) (h : Stands map (contents map (W.words words.old)) s) → Recorded map (contents map (W.words words.old)) s h → TightEnded map (contents map (W.words words.old)) (contents map (W.words words.new)) s thread result }
-    ensures sound { Sound map (W.words words.new) }
-    ensures base { W.base words.new ≡ W.base words.old }
-{
-    0
+    escape_closure::end_region(words, map, thread)
 }
