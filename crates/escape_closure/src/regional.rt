@@ -60,7 +60,7 @@ pub fn end_region<W: Words>(words: &mut W, map: Areas, thread: u8) -> Result<u64
     requires depth { 1 ≤ depth_of (contents map (W.words words.old)) thread }
     requires recorded { ∥ ((s : SpaceState) × (h : Stands map (contents map (W.words words.old)) s) × Recorded map (contents map (W.words words.old)) s h) ∥₁ }
     ensures ended { let c = contents map (W.words words.old) in let d = contents map (W.words words.new) in (s : SpaceState) (h : Stands map c s) → Recorded map c s h → MatchResult result (λ moved. RegionEnded map c d s h thread moved) (λ shortage. RegionShort map c d s h thread shortage) }
-    ensures reads { let c = contents map (W.words words.old) in (s : SpaceState) (h : Stands map c s) → Recorded map c s h → IfOk result (λ _. W.reads words.new ≤ W.reads words.old + (100 * (words_of h.places.pages (object_of s) (innermost s.graph thread) + records_of c + length (stack_of c thread) + 72) + 4 * map.pages)) }
+    ensures reads { let c = contents map (W.words words.old) in (s : SpaceState) (h : Stands map c s) → Recorded map c s h → IfOk result (λ _. W.reads words.new ≤ W.reads words.old + (100 * (words_of h.places.pages (object_of s) (innermost s.graph thread) + records_of c + length (stack_of c thread) + 71) + 4 * map.pages)) }
     ensures sound { Sound map (W.words words.new) }
     ensures base { W.base words.new ≡ W.base words.old }
 {

@@ -11,7 +11,6 @@ mod made;
 mod objects;
 mod owned;
 mod slots;
-mod stub;
 
 pub use owned::{Core, Stepped};
 
