@@ -23,6 +23,9 @@ pub mod OpeningRecords
 pub mod Gathered
 pub mod Bounds
 pub mod Plainly
+pub mod Threads
+pub mod Answering
+pub mod Alone
 pub mod StepsMade
 pub mod StepsEnded
 pub mod Recognized

@@ -2,6 +2,7 @@
 #![tactic(auto)]
 
 mod barriers;
+mod caller;
 mod calls;
 mod collections;
 mod endings;
@@ -13,6 +14,7 @@ mod owned;
 mod slots;
 mod stub;
 
+pub use caller::CoreCaller;
 pub use owned::{Core, Stepped};
 
 /// The fields of the root object.
