@@ -162,7 +162,7 @@ module _ (objects : FinMap name_cmp Content) (g : Graph) (includes : Includes ob
 -- ---- entries of a state
 
 -- an object that is there after some objects are dropped has what it had
-kept : (s after : SpaceState) (objects : FinMap name_cmp Content) (n : Name) → content_at after.graph n ≡ cond (is_some (get after.home n)) (content_at s.graph n) None → Includes objects s.graph → IsSome (content_at after.graph n) → content_at after.graph n ≡ get objects n
+pub kept : (s after : SpaceState) (objects : FinMap name_cmp Content) (n : Name) → content_at after.graph n ≡ cond (is_some (get after.home n)) (content_at s.graph n) None → Includes objects s.graph → IsSome (content_at after.graph n) → content_at after.graph n ≡ get objects n
 kept s after objects n keeps includes some = by_home (is_some (get after.home n)) keeps
   where
     by_home : (b : _) → content_at after.graph n ≡ cond b (content_at s.graph n) None → content_at after.graph n ≡ get objects n

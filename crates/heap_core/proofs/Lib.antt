@@ -26,6 +26,8 @@ pub mod Plainly
 pub mod Threads
 pub mod Answering
 pub mod Alone
+pub mod Calling
+pub mod Others
 pub mod StepsMade
 pub mod StepsEnded
 pub mod Recognized

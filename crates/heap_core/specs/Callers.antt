@@ -1,9 +1,10 @@
 -- What one thread's way to an owned heap tells, by the heap's words.
-use Rattle.std.specs.Prelude.{◌≡◌, ◌≢◌, ◌==◌, ◌/◌, ◌%◌, ◌+◌, ◌*◌, ◌≤◌, ℕ, List, [], ◌∷◌, cond, is_some, map, slice_index, sum_by}
+use Rattle.std.specs.Prelude.{◌≡◌, ◌≢◌, ◌==◌, ◌/◌, ◌%◌, ◌+◌, ◌*◌, ◌≤◌, ℕ, List, [], ◌∷◌, cond, is_some, map, slice_index, sum_by, Option, None}
 use Rattle.std.specs.FinMap as finite
 use Rattle.object_layout.specs.declared.calls.Call.{Call}
 use Rattle.object_layout.specs.declared.calls.Call.TheVariants.{New}
 use Rattle.object_layout.specs.declared.names.Name.{Name}
+use Rattle.object_layout.specs.declared.replies.Census.{Census}
 use Rattle.object_layout.specs.declared.TheConstants.{NAME_UNIT, OBJECT_WORDS}
 use Rattle.heap_words.specs.declared.map.Areas.{Areas}
 use Rattle.heap_words.specs.Map.{HasThread, page_words}
@@ -11,9 +12,10 @@ use Rattle.heap_words.specs.Contents.{Contents, depth_of, made_of, stack_of}
 use Rattle.yak_model.specs.declared.datum.Datum.{Datum}
 use Rattle.yak_model.specs.declared.datum.Datum.TheVariants as datum
 use Rattle.yak_model.specs.Names.{name_cmp}
-use Rattle.yak_model.specs.Graph.{Content, Graph, Thread}
+use Rattle.yak_model.specs.Graph.{Content, Graph, Thread, standard_limits}
 use Rattle.yak_model.specs.Private.{AreMade, IsPrivate, KnownObjects}
 use Rattle.yak_model.specs.Spaces.{SpaceState}
+use Rattle.yak_model.specs.Standing.{Standing}
 use Rattle.yak_model.specs.Stands.{Stands}
 
 -- ---- threads, as the words show them
@@ -29,6 +31,19 @@ datum_told heap word = cond (word % 2 == 1) (datum.Int (word / 2)) (cond (word =
 -- what a thread has
 abbrev pub thread_told : Contents → ℕ → Thread
 thread_told c t = record { stack = map (datum_told c.heap) (stack_of c t); depth = depth_of c t; made = made_of c t }
+
+-- what a caller counts, and what its own thread has
+abbrev pub standing_told : Contents → ℕ → ℕ → ℕ → Option (Census × ℕ × ℕ) → Standing
+standing_told c t made refusals last =
+    record {
+      thread = t;
+      limits = standard_limits;
+      own = thread_told c t;
+      words = made;
+      list = None;
+      refusals = refusals;
+      last = last;
+    }
 
 -- It is what a thread of the heap has, other than the caller's own.
 pub record TellsThread (m : Areas) (c : Contents) (own t : ℕ) (told : Thread) : Type 0 where

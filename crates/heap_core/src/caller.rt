@@ -7,13 +7,12 @@ ghost use Rattle.object_layout.specs.Calls.{IsCall};
 ghost use Rattle.heap_words.specs.declared.map.Areas.{Areas};
 ghost use Rattle.heap_words.specs.Map.{HasThread, page_words};
 ghost use Rattle.heap_words.specs.Contents.{contents, Sound};
-ghost use Rattle.yak_model.specs.Graph.{standard_limits};
 ghost use Rattle.yak_model.specs.Lawful.{present_words};
 ghost use Rattle.yak_model.specs.Placed.{used_mark};
 ghost use Rattle.yak_model.specs.Spaces.{SpaceState};
 ghost use Rattle.yak_model.specs.Standing.{words_made};
 ghost use Rattle.yak_model.specs.Stands.{Stands};
-ghost use Rattle.heap_core.specs.Callers.{FillsPages, KnowsAlone, TellsKnown, TellsThread, thread_told, words_asked, words_used};
+ghost use Rattle.heap_core.specs.Callers.{FillsPages, KnowsAlone, TellsKnown, TellsThread, standing_told, words_asked, words_used};
 
 use crate::owned::Core;
 use heap_words::{Areas, Words, get_page};
@@ -43,7 +42,7 @@ impl<W: Words> Caller for CoreCaller<W> {
 
     ghost base = { λ s. (s.core.map, W.base s.core.words, s.present) };
 
-    ghost standing = { λ s. record { thread = s.thread; limits = standard_limits; own = thread_told (contents s.core.map (W.words s.core.words)) s.thread; words = s.made; list = None; refusals = s.refusals; last = s.last } };
+    ghost standing = { λ s. standing_told (contents s.core.map (W.words s.core.words)) s.thread s.made s.refusals s.last };
 
     ghost knows = { λ s known. KnowsAlone s.core.map (contents s.core.map (W.words s.core.words)) s.thread known };
 

@@ -1,4 +1,3 @@
-use Rattle.heap_core.proofs.Threads.{thread-told}
-use Rattle.heap_core.proofs.Alone.{with-kept}
-use Rattle.heap_core.proofs.Answering.{follows}
+use Rattle.heap_core.proofs.Calling.{moves-known}
+use Rattle.heap_core.proofs.Others.{answers-beside}
 use Rattle.heap_core.proofs.caller.words_made.Goals as goal
