@@ -13,7 +13,7 @@ use Rattle.heap_core.specs.Callers.{graph_with, with_absent}
 
 -- ---- the objects and those of a list that aren't there
 
-nothing : {X : Type 0} (o : Option X) → is_some o ≡ false → o ≡ None
+pub nothing : {X : Type 0} (o : Option X) → is_some o ≡ false → o ≡ None
 nothing None e = refl
 nothing (Some x) e = absurd (true≢false e)
 

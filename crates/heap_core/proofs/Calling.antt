@@ -1,5 +1,7 @@
 -- What a step does to what its thread and the others know.
-use Rattle.std.proofs.Common.{◌≡◌, ◌≢◌, ℕ, [], ◌∷◌, true, false, cond, refl, ◌∙◌, ap, sym, subst, inl, inr, Option, None, IsSome, is_some}
+use Rattle.std.proofs.Common.{◌≡◌, ◌≢◌, ℕ, [], ◌∷◌, true, false, cond, refl, ◌∙◌, ap, sym, subst, inl, inr, Option, Some, None, IsSome, is_some, ◌+◌, arith}
+use Rattle.std.proofs.Math.Logic.{⊎_elim}
+use Rattle.std.specs.List.{Contains}
 use Rattle.std.specs.FinMap.{FinMap, entries, get}
 use Rattle.object_layout.specs.declared.names.Name.{Name}
 use Rattle.object_layout.specs.declared.calls.Call.{Call}
@@ -9,10 +11,10 @@ use Rattle.heap_words.specs.declared.map.Areas.{Areas}
 use Rattle.heap_words.specs.Contents.{Contents}
 use Rattle.yak_model.specs.declared.datum.Datum.TheVariants as datum
 use Rattle.yak_model.specs.Names.{name_cmp}
-use Rattle.yak_model.specs.Graph.{Content, Graph}
+use Rattle.yak_model.specs.Graph.{Content, Graph, fields_or_none}
 use Rattle.yak_model.specs.History.{Collected, Entry, Moves, Said}
-use Rattle.yak_model.specs.Private.{AreMade, IsKnown, IsPrivate, KnownAfter, KnownObjects}
-use Rattle.yak_model.specs.Spaces.{Collects, IsOnStack, SpaceState, TurnsAll, content_at, here, home_of}
+use Rattle.yak_model.specs.Private.{AreMade, IsKnown, IsMade, IsPrivate, KnownAfter, KnownObjects}
+use Rattle.yak_model.specs.Spaces.{Collects, IsOnStack, Refers, SpaceState, TurnsAll, content_at, here, home_of}
 use Rattle.yak_model.specs.Standing.{MovesKnown}
 use Rattle.yak_model.specs.State.{IsDatum, object_of}
 use Rattle.yak_model.specs.Stands.{IsWhole, Stands}
@@ -24,15 +26,54 @@ use Rattle.heap_walks.proofs.Seen.{seen}
 use Rattle.heap_core.specs.declared.owned.Stepped.{Stepped}
 use Rattle.heap_core.specs.Callers.{KnowsAlone, graph_with, standing_told, thread_told, with_absent}
 use Rattle.heap_core.specs.Steps.{entries as entries_of}
-use Rattle.heap_core.proofs.Alone.{IsWithin, are_made-within, private-within, there_or_not, with-added, with-kept}
+use Rattle.heap_core.proofs.Alone.{IsWithin, are_made-within, nothing, private-within, there_or_not, with-added, with-kept}
 use Rattle.heap_core.proofs.Answering.{FollowsCall, HoldsStacks, Includes, follows, kept, of_objects}
+use Rattle.heap_core.proofs.Named.{made-shown}
+use Rattle.heap_core.proofs.RoomsNames.{content-shown}
 use Rattle.heap_core.proofs.Threads.{thread-told}
+
+content_of : (o : Option Content) → IsSome o → (v : Content) × (o ≡ Some v)
+content_of None h = cc
+content_of (Some v) h = (v, refl)
 
 -- what stands on a stack is present
 pub holds-stacks : (m : Areas) (c : Contents) (s : SpaceState) (h : Stands m c s) → HoldsStacks s.graph
 holds-stacks m c s h t n on =
     let o = some-of (object_of s n) (subst (IsDatum (object_of s)) on.1.2 (stack-fits m c s h t on.1.0 (datum.Object n) on.1.1)) in
     ap is_some (seen s n o.0 o.1).content_is
+
+-- what refers from a stack or a present object leads to one
+leads-to : (m : Areas) (c : Contents) (s : SpaceState) (h : Stands m c s) (a b : Name) → Refers s.graph a b → IsSome (content_at s.graph b)
+leads-to m c s h a b r =
+    elim (there_or_not s.graph a) [
+      | inl some ↦
+          let v = content_of (content_at s.graph a) some in
+          let o = content-shown s a v.0 h.whole v.1 in
+          let w = seen s a o.0 o.1 in
+          let same : fields_or_none (content_at s.graph a) ≡ o.0.fields = ap fields_or_none w.content_is ∙ sym w.fields_are in
+          let r' = subst (λ fs. Contains fs (datum.Object b)) same r in
+          let p = some-of (object_of s b) (subst (IsDatum (object_of s)) r'.2 ((h.stands.closed.fields a o.0 o.1).0 r'.0 (datum.Object b) r'.1)) in
+          ap is_some (seen s b p.0 p.1).content_is
+      | inr none ↦ absurd (omega (arith, (subst (λ o. Contains (fields_or_none o) (datum.Object b)) (nothing (content_at s.graph a) none) r).1))
+    ]
+
+-- what is present was made
+object-made : (m : Areas) (c : Contents) (s : SpaceState) (h : Stands m c s) (n : Name) → IsSome (content_at s.graph n) → IsMade s.graph n
+object-made m c s h n some =
+    let v = content_of (content_at s.graph n) some in
+    let o = content-shown s n v.0 h.whole v.1 in
+    ⊎_elim
+    (λ (root : (n.thread ≡ 0) × (n.serial ≡ 0)). omega (arith, root.1))
+    (λ made. omega (arith, made.3, made-shown s n.thread))
+    (h.stands.names n o.0 o.1)
+
+-- the names of a state are those of objects that were made
+pub state-made : (m : Areas) (c : Contents) (s : SpaceState) (h : Stands m c s) → AreMade s.graph
+state-made m c s h = record {
+  objects = λ n some. object-made m c s h n some;
+  stacks = λ u n on. object-made m c s h n (holds-stacks m c s h u n on);
+  fields = λ a b r. object-made m c s h b (leads-to m c s h a b r);
+}
 
 -- a collection keeps what stands on a stack
 stacks-collected : (s mid : SpaceState) → IsWhole s → HoldsStacks s.graph → Collects s mid → HoldsStacks mid.graph

@@ -28,6 +28,7 @@ pub mod Answering
 pub mod Alone
 pub mod Calling
 pub mod Others
+pub mod Weights
 pub mod StepsMade
 pub mod StepsEnded
 pub mod Recognized
