@@ -25,6 +25,7 @@ use Rattle.escape_closure.specs.Ends.{RegionShort}
 use Rattle.heap_core.specs.Records.{SomeRecorded}
 use Rattle.heap_core.specs.Room.{HasNoRoom}
 use Rattle.heap_core.specs.Collecting.{CountsFull, IsCollected}
+use Rattle.heap_core.proofs.Bounds.{regions-packed}
 use Rattle.heap_core.proofs.Told.{SomeStands}
 
 -- a collection keeps the threads as they are
@@ -65,28 +66,14 @@ packed-after m c d t some collected rows s h = ∥∥₁_elim some (hlevel props
     let x = collected.state q.0 q.1 q.2 in
     packed-other m d x.after s x.stands h Control rows x.packed)
 
--- regions are packed wherever words stand for a state
-half : (w p u n : ℕ) → 0 < p → w * (p - 1) + u ≤ n → w * p ≤ n + w
-half w zero u n some h = absurd (omega (arith, some))
-half w (suc p) u n some h =
-    let same : suc p - 1 ≡ p = omega arith in
-    let low : w * p + u ≤ n = rw same at h in
-    let more : w * suc p ≡ w * p + w = grind arith in
-    omega (arith, low, more)
+-- a region is not Control
+is_region : (t d : ℕ) → Region t d ≢ Control
+is_region t d e = cc
 
-pub region-packed : (m : Areas) (c : Contents) (s : SpaceState) (h : Stands m c s) (t d : ℕ) → IsSpaceOf m (Region t d) → IsPacked m c s h (Region t d)
-region-packed m c s h t d here = ⊎_elim
-    (λ (none : 0 ≡ pages_of c.table (Region t d)).
-    let zero : page_words m * pages_of c.table (Region t d) ≡ 0 = ap (λ i. page_words m * i) (sym none) in
-    omega (arith, zero))
-    (λ (ne : 0 ≢ pages_of c.table (Region t d)).
-    let some : 0 < pages_of c.table (Region t d) = omega (arith, ne) in
-    half (page_words m) (pages_of c.table (Region t d)) _ (2 * words_of h.places.pages (object_of s) (Region t d)) some (h.stands.dense t d here.0 here.1 here.2 here.3 some).1)
-    (cases_eq 0 (pages_of c.table (Region t d)))
-
+-- every space is packed where Control is
 packed-each : (m : Areas) (c : Contents) (s : SpaceState) (h : Stands m c s) → IsPacked m c s h Control → (x : Space) → IsSpaceOf m x → IsPacked m c s h x
 packed-each m c s h control Control here = control
-packed-each m c s h control (Region t d) here = region-packed m c s h t d here
+packed-each m c s h control (Region t d) here = regions-packed m c s h (Region t d) here (is_region t d)
 
 -- the heap is full where an object has no room after a collection
 pub full-after : (m : Areas) (c d : Contents) (t k : ℕ) → SomeRecorded m c → IsCollected m c d t → length d.table ≡ m.pages → HasNoRoom m d t (k + OBJECT_WORDS) → (s : SpaceState) (h : Stands m d s) → IsFull m d s h t k

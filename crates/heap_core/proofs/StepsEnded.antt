@@ -101,10 +101,13 @@ ended-after m was first now s h t moved ht short e = record {
 tight-after : (m : Areas) (was first now : Contents) (s : SpaceState) (h : Stands m was s) (t moved : ℕ) (shortage : Shortage) → IsAreas m → HasThread m t → ends.IsShort m was s h.places t → TightAfter m first now s t moved shortage → Ending m was now s h t (reply.Ended moved true) true (Some shortage)
 tight-after m was first now s h t moved shortage areas ht short e = record {
   turns = (e.ended.state.after, (e.state.after, (thread_in m was s h t ht, e.state.collects), (e.ended.state.after, (thread_in m e.between e.state.after e.state.stands t ht, e.ended.state.ends), refl)), e.ended.state.stands, λ r. e.ended.state.recorded);
-  lawful = λ before. (inr (moved, true, [], refl), λ mid turned. (
+  lawful = λ before. (
+    inr (moved, true, [], refl),
+    λ mid turned. (
       ((before, refl), only-collected m e.between s mid (λ (z : SpaceState). (escaped : ℕ) × HasWords z (Escapes z t (innermost z.graph t)) escaped × (z.graph.limits.page * m.pages < (2 * present_words z + 2 * escaped) + 2 * z.graph.limits.page * (open_regions z + 1))) e.state turned.1 (tight-bound m e.between e.state.after e.state.stands t shortage areas ht e.ended.state.ends.open_epoch e.state.packed e.short.short)),
       λ last more. tt,
-    ));
+    ),
+  );
   makes = short;
   tells = ((moved, refl), e.short.short.more, record { between = e.between; state = e.state; short = e.short.short });
   records = e.ended.state.filed;

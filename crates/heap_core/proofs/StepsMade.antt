@@ -122,11 +122,11 @@ done-full m was now t k said areas ht rows some short h =
           let y = h.turned.turns x.after x.stands in
           (y.0, (x.after, (thread_in m was s stands t ht, x.collects), y.1), y.2, λ _. y.3 x.recorded);
       lawful = λ s stands r before packed. (
-          inl (k, reply.OutOfHeap, [], refl, inr refl),
-          λ mid turned.
-              let x = h.collected.state s stands r in
-              (((before, refl), only-collected m now s mid (λ (z : SpaceState). z.graph.limits.page * m.pages ≤ 2 * present_words z + z.graph.limits.page * (open_regions z + 1)) x turned.1 (full-bound m now x.after x.stands t k areas (full x.after x.stands))), λ last more. tt),
-        );
+        inl (k, reply.OutOfHeap, [], refl, inr refl),
+        λ mid turned.
+            let x = h.collected.state s stands r in
+            (((before, refl), only-collected m now s mid (λ (z : SpaceState). z.graph.limits.page * m.pages ≤ 2 * present_words z + z.graph.limits.page * (open_regions z + 1)) x turned.1 (full-bound m now x.after x.stands t k areas (full x.after x.stands))), λ last more. tt),
+      );
       collected = λ s stands r. (λ e. short, λ e. refl);
       full = (refl, h.counts);
       filled = λ s stands e. full s stands;
@@ -164,10 +164,10 @@ done-collected m was now t ht rows some h = record {
 }
 
 -- a census
-pub done-counted : (m : Areas) (c : Contents) (t : ℕ) → IsAreas m → HasThread m t → Done m c c t call.Census (plain (counted c))
-done-counted m c t areas ht = record {
+pub done-counted : (m : Areas) (c : Contents) (t : ℕ) → IsAreas m → HasThread m t → length c.table ≡ m.pages → Done m c c t call.Census (plain (counted c))
+done-counted m c t areas ht rows = record {
   turns = λ s stands r. (s, (s, (thread_in m c s stands t ht, ((_, _, _, refl), refl), refl, tt), refl), stands, λ q. q);
-  lawful = λ s stands r before packed. (census-bound m c s stands before areas packed, λ mid turned. tt);
+  lawful = λ s stands r before packed. (census-bound m c s stands before areas rows packed, λ mid turned. tt);
   collected = λ s stands r. refl;
   full = λ e. cc;
   filled = λ s stands e. cc;

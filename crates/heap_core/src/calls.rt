@@ -4,7 +4,11 @@ ghost use Rattle.std.specs.Prelude.{◌≡◌};
 ghost use Rattle.object_layout.specs.Calls.{IsCall};
 ghost use Rattle.heap_words.specs.Map.{HasThread};
 ghost use Rattle.heap_words.specs.Contents.{contents, Sound};
+ghost use Rattle.yak_model.specs.Spaces.{SpaceState};
+ghost use Rattle.yak_model.specs.Stands.{Stands};
+ghost use Rattle.yak_model.specs.Recorded.{Recorded};
 ghost use Rattle.heap_core.specs.Steps.{plain};
+ghost use Rattle.heap_core.specs.EpochEnds.{ReadsFew};
 ghost use Rattle.heap_core.specs.Done.{Done};
 ghost use Rattle.heap_core.specs.Records.{SomeRecorded};
 
@@ -37,6 +41,7 @@ pub fn answer<W: Words>(words: &mut W, map: Areas, thread: u8, call: Call) -> St
     requires recorded { SomeRecorded map (contents map (W.words words.old)) }
     requires number { IsCall call }
     ensures done { Done map (contents map (W.words words.old)) (contents map (W.words words.new)) thread call result }
+    ensures reads { (s : SpaceState) (h : Stands map (contents map (W.words words.old)) s) → Recorded map (contents map (W.words words.old)) s h → ReadsFew map (contents map (W.words words.old)) s h thread call result (W.reads words.old) (W.reads words.new) }
     ensures sound { Sound map (W.words words.new) }
     ensures base { W.base words.new ≡ W.base words.old }
 {

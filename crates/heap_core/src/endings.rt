@@ -6,14 +6,14 @@ ghost use Rattle.heap_words.specs.Contents.{contents, depth_of, Sound};
 ghost use Rattle.yak_model.specs.Spaces.{SpaceState};
 ghost use Rattle.yak_model.specs.Stands.{Stands};
 ghost use Rattle.yak_model.specs.Recorded.{Recorded};
-ghost use Rattle.heap_core.specs.EpochEnds.{IsEnd, EndsAfterCollection};
+ghost use Rattle.heap_core.specs.EpochEnds.{EndsAfterCollection, IsEnd, ReadsFew};
 ghost use Rattle.heap_core.specs.Records.{SomeRecorded};
 
 use crate::calls::plain_step;
 use crate::owned::Stepped;
 use crate::stub::{collect, end_region, end_tight};
 use heap_words::{Areas, Words};
-use object_layout::{Refusal, Reply};
+use object_layout::{Call, Refusal, Reply};
 use thread_stacks::depth;
 
 /// Ends the epoch after a collection of the control space: by the rule of placement where the free pages are enough then, and
@@ -57,6 +57,7 @@ pub fn end<W: Words>(words: &mut W, map: Areas, thread: u8) -> Stepped
     requires thread { HasThread map thread }
     requires recorded { SomeRecorded map (contents map (W.words words.old)) }
     ensures ended { IsEnd map (contents map (W.words words.old)) (contents map (W.words words.new)) thread result }
+    ensures reads { (s : SpaceState) (h : Stands map (contents map (W.words words.old)) s) → Recorded map (contents map (W.words words.old)) s h → ReadsFew map (contents map (W.words words.old)) s h thread Call.End result (W.reads words.old) (W.reads words.new) }
     ensures sound { Sound map (W.words words.new) }
     ensures base { W.base words.new ≡ W.base words.old }
 {

@@ -12,6 +12,7 @@ ghost use Rattle.yak_model.specs.History.{Entry};
 ghost use Rattle.yak_model.specs.Lawful.{present_words};
 ghost use Rattle.heap_core.specs.Callers.{words_used};
 ghost use Rattle.heap_core.specs.Done.{CollectsWhere, EndsSo, FillsHeap, PacksControl, StepRecords, StepRoom, TellsFull, TellsPages, TellsShortage};
+ghost use Rattle.heap_core.specs.EpochEnds.{ReadsFew};
 ghost use Rattle.heap_core.specs.Lawful.{AreLawful, PackedIfAsked};
 ghost use Rattle.heap_core.specs.Records.{SomeRecorded, StandsRecorded};
 ghost use Rattle.heap_core.specs.Steps.{entries};
@@ -85,6 +86,7 @@ impl<W: Words> Core<W> {
         ensures packed { (s : SpaceState) (h : Stands self.new.map (contents self.new.map (W.words self.new.words)) s) → PacksControl self.new.map (contents self.new.map (W.words self.new.words)) s h call }
         ensures records { (s : SpaceState) (h : Stands self.old.map (contents self.old.map (W.words self.old.words)) s) → StepRecords self.old.map s h.places.at (contents self.old.map (W.words self.old.words)) (contents self.new.map (W.words self.new.words)) thread call result.reply result.collected }
         ensures room { StepRoom self.old.map (contents self.old.map (W.words self.old.words)) (contents self.new.map (W.words self.new.words)) thread call result.reply result.collected }
+        ensures reads { (s : SpaceState) (h : Stands self.old.map (contents self.old.map (W.words self.old.words)) s) → ReadsFew self.old.map (contents self.old.map (W.words self.old.words)) s h thread call result (W.reads self.old.words) (W.reads self.new.words) }
         ensures map { self.new.map ≡ self.old.map }
         ensures base { W.base self.new.words ≡ W.base self.old.words }
     {

@@ -89,10 +89,49 @@ returns-in-Collect-clause-done g c =
 pub returns-in-Census-clause-done : goal.returns-in-Census-clause-done
 returns-in-Census-clause-done g c =
     let m = c.args.map in
-    rw (c.in-Census.is, c.plain_step-in-Census.ensures, c.count_pages.ensures.counts, c.count_pages.ensures.words) (done-counted m (contents m (g.W.Words.words c.args.words.now)) c.args.thread c.requires.sound.areas c.requires.thread)
+    rw (c.in-Census.is, c.plain_step-in-Census.ensures, c.count_pages.ensures.counts, c.count_pages.ensures.words) (done-counted m (contents m (g.W.Words.words c.args.words.now)) c.args.thread c.requires.sound.areas c.requires.thread (shape m (g.W.Words.words c.args.words.now) c.requires.sound).table)
 
 pub load-requires-clause-stands : goal.load-requires-clause-stands
 load-requires-clause-stands g c = ∥∥₁_map c.requires.recorded (λ q. (q.0, q.1))
 
 pub get-requires-clause-stands : goal.get-requires-clause-stands
 get-requires-clause-stands g c = ∥∥₁_map c.requires.recorded (λ q. (q.0, q.1))
+
+pub returns-in-Int-clause-reads : goal.returns-in-Int-clause-reads
+returns-in-Int-clause-reads g c = rw c.in-Int.is (λ s h r. tt)
+
+pub returns-in-Null-clause-reads : goal.returns-in-Null-clause-reads
+returns-in-Null-clause-reads g c = rw c.in-Null.is (λ s h r. tt)
+
+pub returns-in-Dup-clause-reads : goal.returns-in-Dup-clause-reads
+returns-in-Dup-clause-reads g c = rw c.in-Dup.is (λ s h r. tt)
+
+pub returns-in-Pop-clause-reads : goal.returns-in-Pop-clause-reads
+returns-in-Pop-clause-reads g c = rw c.in-Pop.is (λ s h r. tt)
+
+pub returns-in-New-clause-reads : goal.returns-in-New-clause-reads
+returns-in-New-clause-reads g c = rw c.in-New.is (λ s h r. tt)
+
+pub returns-in-Load-clause-reads : goal.returns-in-Load-clause-reads
+returns-in-Load-clause-reads g c = rw c.in-Load.is (λ s h r. tt)
+
+pub returns-in-Store-clause-reads : goal.returns-in-Store-clause-reads
+returns-in-Store-clause-reads g c = rw c.in-Store.is (λ s h r. tt)
+
+pub returns-in-Get-clause-reads : goal.returns-in-Get-clause-reads
+returns-in-Get-clause-reads g c = rw c.in-Get.is (λ s h r. tt)
+
+pub returns-in-Same-clause-reads : goal.returns-in-Same-clause-reads
+returns-in-Same-clause-reads g c = rw c.in-Same.is (λ s h r. tt)
+
+pub returns-in-Begin-clause-reads : goal.returns-in-Begin-clause-reads
+returns-in-Begin-clause-reads g c = rw c.in-Begin.is (λ s h r. tt)
+
+pub returns-in-Collect-clause-reads : goal.returns-in-Collect-clause-reads
+returns-in-Collect-clause-reads g c = rw c.in-Collect.is (λ s h r. tt)
+
+pub returns-in-Census-clause-reads : goal.returns-in-Census-clause-reads
+returns-in-Census-clause-reads g c = rw c.in-Census.is (λ s h r. tt)
+
+pub returns-in-End-clause-reads : goal.returns-in-End-clause-reads
+returns-in-End-clause-reads g c = rw c.in-End.is c.end.ensures.reads

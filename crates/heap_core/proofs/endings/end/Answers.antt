@@ -1,4 +1,4 @@
-use Rattle.std.proofs.Common.{◌≡◌, ◌≤◌, ◌<◌, refl, sym, arith, inr, subst}
+use Rattle.std.proofs.Common.{◌≡◌, ◌≤◌, ◌<◌, true, false, ◌∙◌, refl, sym, arith, inr, subst}
 use Rattle.heap_words.specs.Contents.{contents, depth_of}
 use Rattle.heap_core.specs.Records.{SomeRecorded}
 use Rattle.heap_core.proofs.Gathered.{short-depth, some-short}
@@ -34,11 +34,26 @@ returns-in-Err-clause-ended g c =
     let m = c.args.map in
     let ended = rw c.depth.ensures.words at c.in-Err.ensures.ended in
     let e = c.end_collected.ensures.ended in
-    inr (omega (arith, c.depth.ensures.depth, c.if-depth-eq0.false), e.full, λ s h r.
-        let short = ended s h r in
-        rw e.collected (record {
-          first = contents m (g.W.Words.words c.end_region.new.words);
-          found = c.in-Err.field-0;
-          short = short;
-          ends = e.ends s short.later short.recorded;
-        }))
+    inr (
+      omega (arith, c.depth.ensures.depth, c.if-depth-eq0.false),
+      e.full,
+      λ s h r.
+          let short = ended s h r in
+          rw e.collected (record {
+            first = contents m (g.W.Words.words c.end_region.new.words);
+            found = c.in-Err.field-0;
+            short = short;
+            ends = e.ends s short.later short.recorded;
+          }),
+    )
+
+pub returns-then-depth-eq0-clause-reads : goal.returns-then-depth-eq0-clause-reads
+returns-then-depth-eq0-clause-reads g c = λ s h r said deep. omega (arith, deep, c.depth.ensures.depth, c.if-depth-eq0.true)
+
+pub returns-in-Ok-clause-reads : goal.returns-in-Ok-clause-reads
+returns-in-Ok-clause-reads g c = λ s h r said deep.
+    let reads = rw c.depth.ensures.words at c.in-Ok.ensures.reads in
+    omega (arith, reads s h r, c.depth.ensures.reads)
+
+pub returns-in-Err-clause-reads : goal.returns-in-Err-clause-reads
+returns-in-Err-clause-reads g c = λ s h r said deep. let no : true ≡ false = sym c.end_collected.ensures.ended.collected ∙ said in cc

@@ -21,8 +21,7 @@ invariant_of-self g c = record {
 pub returns-clause-turns : goal.returns-clause-turns
 returns-clause-turns g c =
     let core = c.args.self.now in
-    let areas : IsAreas core.map = rw core.own (g.met.W.Words.within_limits core.words) in
-    λ s h. c.answer.ensures.done.turns s h (recorded-told core.map (contents core.map (g.W.Words.words core.words)) areas core.stands s h)
+    λ s h. c.answer.ensures.done.turns s h (recorded-told core.map (contents core.map (g.W.Words.words core.words)) core.stands s h)
 
 pub returns-clause-lawful : goal.returns-clause-lawful
 returns-clause-lawful g c = c.answer.ensures.done.lawful
@@ -30,8 +29,7 @@ returns-clause-lawful g c = c.answer.ensures.done.lawful
 pub returns-clause-collected : goal.returns-clause-collected
 returns-clause-collected g c =
     let core = c.args.self.now in
-    let areas : IsAreas core.map = rw core.own (g.met.W.Words.within_limits core.words) in
-    λ s h. c.answer.ensures.done.collected s h (recorded-told core.map (contents core.map (g.W.Words.words core.words)) areas core.stands s h)
+    λ s h. c.answer.ensures.done.collected s h (recorded-told core.map (contents core.map (g.W.Words.words core.words)) core.stands s h)
 
 pub returns-clause-full : goal.returns-clause-full
 returns-clause-full g c = c.answer.ensures.done.full
@@ -42,8 +40,7 @@ returns-clause-filled g c = c.answer.ensures.done.filled
 pub returns-clause-shortage : goal.returns-clause-shortage
 returns-clause-shortage g c =
     let core = c.args.self.now in
-    let areas : IsAreas core.map = rw core.own (g.met.W.Words.within_limits core.words) in
-    λ s h. c.answer.ensures.done.shortage s h (recorded-told core.map (contents core.map (g.W.Words.words core.words)) areas core.stands s h)
+    λ s h. c.answer.ensures.done.shortage s h (recorded-told core.map (contents core.map (g.W.Words.words core.words)) core.stands s h)
 
 pub returns-clause-ended : goal.returns-clause-ended
 returns-clause-ended g c = c.answer.ensures.done.ended
@@ -57,8 +54,12 @@ returns-clause-packed g c = c.answer.ensures.done.packed
 pub returns-clause-records : goal.returns-clause-records
 returns-clause-records g c =
     let core = c.args.self.now in
-    let areas : IsAreas core.map = rw core.own (g.met.W.Words.within_limits core.words) in
-    λ s h. c.answer.ensures.done.records s h (recorded-told core.map (contents core.map (g.W.Words.words core.words)) areas core.stands s h)
+    λ s h. c.answer.ensures.done.records s h (recorded-told core.map (contents core.map (g.W.Words.words core.words)) core.stands s h)
 
 pub returns-clause-room : goal.returns-clause-room
 returns-clause-room g c = c.answer.ensures.done.room
+
+pub returns-clause-reads : goal.returns-clause-reads
+returns-clause-reads g c =
+    let core = c.args.self.now in
+    λ s h. c.answer.ensures.reads s h (recorded-told core.map (contents core.map (g.W.Words.words core.words)) core.stands s h)
