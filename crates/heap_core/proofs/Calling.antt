@@ -1,8 +1,8 @@
 -- What a step does to what its thread and the others know.
-use Rattle.std.proofs.Common.{◌≡◌, ◌≢◌, ℕ, [], ◌∷◌, true, false, cond, refl, ◌∙◌, ap, sym, subst, inl, inr, Option, Some, None, IsSome, is_some, ◌+◌, arith}
+use Rattle.std.proofs.Common.{◌≡◌, ◌≢◌, ℕ, [], ◌∷◌, true, false, true≢false, cond, refl, ◌∙◌, ap, sym, subst, inl, inr, Option, Some, None, IsSome, is_some, ◌+◌, arith}
 use Rattle.std.proofs.Math.Logic.{⊎_elim}
 use Rattle.std.specs.List.{Contains}
-use Rattle.std.specs.FinMap.{FinMap, entries, get}
+use Rattle.std.specs.FinMap.{FinMap, empty, entries, get, get-empty}
 use Rattle.object_layout.specs.declared.names.Name.{Name}
 use Rattle.object_layout.specs.declared.calls.Call.{Call}
 use Rattle.object_layout.specs.declared.replies.Census.{Census}
@@ -11,7 +11,7 @@ use Rattle.heap_words.specs.declared.map.Areas.{Areas}
 use Rattle.heap_words.specs.Contents.{Contents}
 use Rattle.yak_model.specs.declared.datum.Datum.TheVariants as datum
 use Rattle.yak_model.specs.Names.{name_cmp}
-use Rattle.yak_model.specs.Graph.{Content, Graph, fields_or_none}
+use Rattle.yak_model.specs.Graph.{Content, Graph, fields_of, fields_or_none}
 use Rattle.yak_model.specs.History.{Collected, Entry, Moves, Said}
 use Rattle.yak_model.specs.Private.{AreMade, IsKnown, IsMade, IsPrivate, KnownAfter, KnownObjects}
 use Rattle.yak_model.specs.Spaces.{Collects, IsOnStack, Refers, SpaceState, TurnsAll, content_at, here, home_of}
@@ -50,10 +50,12 @@ leads-to m c s h a b r =
           let v = content_of (content_at s.graph a) some in
           let o = content-shown s a v.0 h.whole v.1 in
           let w = seen s a o.0 o.1 in
-          let same : fields_or_none (content_at s.graph a) ≡ o.0.fields = ap fields_or_none w.content_is ∙ sym w.fields_are in
+          let held : fields_or_none (content_at s.graph a) ≡ fields_of w.content = ap fields_or_none w.content_is in
+          let same : fields_or_none (content_at s.graph a) ≡ o.0.fields = held ∙ sym w.fields_are in
           let r' = subst (λ fs. Contains fs (datum.Object b)) same r in
           let p = some-of (object_of s b) (subst (IsDatum (object_of s)) r'.2 ((h.stands.closed.fields a o.0 o.1).0 r'.0 (datum.Object b) r'.1)) in
-          ap is_some (seen s b p.0 p.1).content_is
+          let w' = seen s b p.0 p.1 in
+          ap is_some {y = Some w'.content} w'.content_is
       | inr none ↦ absurd (omega (arith, (subst (λ o. Contains (fields_or_none o) (datum.Object b)) (nothing (content_at s.graph a) none) r).1))
     ]
 
@@ -152,3 +154,25 @@ module _ (m : Areas) (c : Contents) (s : SpaceState) (h : Stands m c s) where
         own_later = sym (thread-told m c' after stands t);
         known_later = knows-after t t known made private asked stepped after turns c' stands;
       }
+
+-- a thread that knows nothing knows the empty map
+pub knows-nothing : (m : Areas) (c : Contents) (s : SpaceState) (h : Stands m c s) (t : ℕ) → KnowsAlone m c t empty
+knows-nothing m c s h t =
+    let none : (n : Name) → IsKnown empty n → ⊥ = λ n k. true≢false (sym k ∙ ap is_some (get-empty name_cmp n)) in
+    let within : IsWithin (graph_with s.graph empty) s.graph = record {
+      threads = refl;
+      contents = λ n there. elim (there_or_not s.graph n) [
+        | inl some ↦ with-kept s.graph empty n some
+        | inr absent ↦ absurd (none n (subst IsSome (with-added s.graph empty n absent) there))
+      ];
+    } in
+    record {
+      state = s;
+      stands = h;
+      made = are_made-within (graph_with s.graph empty) s.graph within (state-made m c s h);
+      private = record {
+        contents = λ n k. absurd (none n k);
+        stacks = λ n k. absurd (none n k);
+        fields = λ n k. absurd (none n k);
+      };
+    }

@@ -29,6 +29,8 @@ pub mod Alone
 pub mod Calling
 pub mod Others
 pub mod Weights
+pub mod Filling
+pub mod Called
 pub mod StepsMade
 pub mod StepsEnded
 pub mod Recognized

@@ -10,7 +10,7 @@ ghost use Rattle.heap_words.specs.Contents.{contents, Sound};
 ghost use Rattle.yak_model.specs.Lawful.{present_words};
 ghost use Rattle.yak_model.specs.Placed.{used_mark};
 ghost use Rattle.yak_model.specs.Spaces.{SpaceState};
-ghost use Rattle.yak_model.specs.Standing.{words_made};
+ghost use Rattle.yak_model.specs.Standing.{counted_on, words_made};
 ghost use Rattle.yak_model.specs.Stands.{Stands};
 ghost use Rattle.heap_core.specs.Callers.{FillsPages, KnowsAlone, TellsKnown, TellsThread, standing_told, words_asked, words_used};
 
@@ -52,9 +52,9 @@ impl<W: Words> Caller for CoreCaller<W> {
 
     fn make_call(&mut self, call: Call) -> Reply {
         let stepped = self.core.step(self.thread, call);
-        self.made = self.made.saturating_add(words_made(call, stepped.reply));
+        self.made = count_up(self.made, words_made(call, stepped.reply));
         if let Some(census) = stepped.full {
-            self.refusals = self.refusals.saturating_add(1);
+            self.refusals = count_up(self.refusals, 1);
             self.last = Some((census, self.core.depth(self.thread), words_asked(call)));
         }
         stepped.reply
@@ -112,6 +112,14 @@ pub(crate) fn words_in_use<W: Words>(words: &mut W, map: Areas) -> u64
         used += get_page(words, map, page, USED_MARK);
     }
     used
+}
+
+/// A count after so many more, or the greatest number where that is more.
+fn count_up(count: u64, more: u64) -> u64
+    ensures counted { result ≡ counted_on count more }
+    ensures rises { count ≤ result }
+{
+    count.saturating_add(more)
 }
 
 /// The words of the object that a call makes.
