@@ -17,8 +17,8 @@ ghost use Rattle.heap_core.specs.Lawful.{AreLawful, PackedIfAsked};
 ghost use Rattle.heap_core.specs.Records.{SomeRecorded, StandsRecorded};
 ghost use Rattle.heap_core.specs.Steps.{entries};
 
-use crate::calls::answer;
 use crate::caller::words_in_use;
+use crate::calls::answer;
 use crate::made::open_words;
 use heap_words::{Areas, Image, MakeError, Words, get_depth};
 use object_layout::{Call, Census, Reply, Shortage};
