@@ -32,6 +32,7 @@ pub struct CoreCaller<W: Words> {
     made: u64,
     /// How many calls were answered by `OutOfHeap`, or the greatest number where they are more.
     refusals: u64,
+    /// The pages, the thread's depth and the words asked for at the last of them.
     last: Option<(Census, u8, u16)>,
     // the thread is one of the heap's
     pub ghost has_thread: { HasThread core.map thread },
