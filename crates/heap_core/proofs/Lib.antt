@@ -23,6 +23,14 @@ pub mod OpeningRecords
 pub mod Gathered
 pub mod Bounds
 pub mod Plainly
+pub mod Threads
+pub mod Answering
+pub mod Alone
+pub mod Calling
+pub mod Others
+pub mod Weights
+pub mod Filling
+pub mod Called
 pub mod StepsMade
 pub mod StepsEnded
 pub mod Recognized

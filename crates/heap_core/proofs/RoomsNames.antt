@@ -95,7 +95,7 @@ not_below {X} x (e ∷ es) below c = ⊎_elim
     (λ (b : Contains (keys_of es) x). not_below x es (second (is_lt (name_cmp x e.0)) (below_all name_cmp x es) below) b)
     (contains_cases e.0 (keys_of es) x c)
 
-keys-distinct : {X : Type 0} (es : List (Name × X)) → T (is_sorted name_cmp es) → Distinct (keys_of es)
+pub keys-distinct : {X : Type 0} (es : List (Name × X)) → T (is_sorted name_cmp es) → Distinct (keys_of es)
 keys-distinct [] up = tt
 keys-distinct {X} (e ∷ es) up = (not_below e.0 es (first (below_all name_cmp e.0 es) (is_sorted name_cmp es) up), keys-distinct es (second (below_all name_cmp e.0 es) (is_sorted name_cmp es) up))
 
@@ -107,7 +107,7 @@ key_of {X} (a ∷ es) e c = ⊎_elim
     (contains_cases a es e c)
 
 -- an entry is what a scan finds, and what a scan finds has a key
-entry-found : {X : Type 0} (es : List (Name × X)) (e : Name × X) → T (is_sorted name_cmp es) → Contains es e → find name_cmp e.0 es ≡ Some e.1
+pub entry-found : {X : Type 0} (es : List (Name × X)) (e : Name × X) → T (is_sorted name_cmp es) → Contains es e → find name_cmp e.0 es ≡ Some e.1
 entry-found [] e up c = absurd (omega (arith, c.1))
 entry-found {X} (a ∷ es) e up c = ⊎_elim
     (λ (same : a ≡ e). find_same e.0 a.0 a.1 es (ap (λ (b : Name × X). b.0) (sym same)) ∙ ap (λ (b : Name × X). Some b.1) same)
@@ -117,14 +117,14 @@ entry-found {X} (a ∷ es) e up c = ⊎_elim
     find_other e.0 a.0 a.1 es ne ∙ entry-found es e (second (below_all name_cmp a.0 es) (is_sorted name_cmp es) up) b)
     (contains_cases a es e c)
 
-found-key : {X : Type 0} (es : List (Name × X)) (n : Name) (v : X) → find name_cmp n es ≡ Some v → Contains (keys_of es) n
+pub found-key : {X : Type 0} (es : List (Name × X)) (n : Name) (v : X) → find name_cmp n es ≡ Some v → Contains (keys_of es) n
 found-key [] n v e = absurd (cc)
 found-key {X} (a ∷ es) n v e = ⊎_elim
     (λ (same : n ≡ a.0). subst (Contains (keys_of (a ∷ es))) (sym same) (contains_first a.0 (keys_of es)))
     (λ (ne : n ≢ a.0). contains_cons a.0 (keys_of es) n (found-key es n v (sym (find_other n a.0 a.1 es ne) ∙ e)))
     (same_or_other n a.0)
 
-key-found : {X : Type 0} (es : List (Name × X)) (n : Name) → Contains (keys_of es) n → (v : X) × (find name_cmp n es ≡ Some v)
+pub key-found : {X : Type 0} (es : List (Name × X)) (n : Name) → Contains (keys_of es) n → (v : X) × (find name_cmp n es ≡ Some v)
 key-found [] n c = absurd (omega (arith, c.1))
 key-found {X} (a ∷ es) n c = ⊎_elim
     (λ (same : n ≡ a.0). (a.1, find_same n a.0 a.1 es same))

@@ -5,6 +5,7 @@ pub mod Room
 pub mod Opening
 pub mod Records
 pub mod Lawful
+pub mod Callers
 pub mod Collecting
 pub mod Makings
 pub mod EpochEnds

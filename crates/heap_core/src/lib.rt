@@ -2,6 +2,7 @@
 #![tactic(auto)]
 
 mod barriers;
+mod caller;
 mod calls;
 mod collections;
 mod endings;
@@ -12,6 +13,7 @@ mod objects;
 mod owned;
 mod slots;
 
+pub use caller::CoreCaller;
 pub use owned::{Core, Stepped};
 
 /// The fields of the root object.

@@ -17,9 +17,10 @@ ghost use Rattle.heap_core.specs.Lawful.{AreLawful, PackedIfAsked};
 ghost use Rattle.heap_core.specs.Records.{SomeRecorded, StandsRecorded};
 ghost use Rattle.heap_core.specs.Steps.{entries};
 
+use crate::caller::words_in_use;
 use crate::calls::answer;
 use crate::made::open_words;
-use heap_words::{Areas, Image, MakeError, Words};
+use heap_words::{Areas, Image, MakeError, Words, get_depth};
 use object_layout::{Call, Census, Reply, Shortage};
 use std::alloc::Global;
 
@@ -112,5 +113,33 @@ impl<W: Words> Core<W> {
         ensures { result ≡ self.words }
     {
         self.words
+    }
+}
+
+impl<W: Words> Core<W> {
+    ghost use Rattle.heap_words.specs.Contents.{depth_of};
+    ghost use Rattle.yak_model.specs.Lawful.{present_words};
+    ghost use Rattle.heap_core.specs.Callers.{words_used};
+
+    /// The depth of a thread: how many epochs it has open.
+    pub fn depth(&mut self, thread: u8) -> u8
+        requires thread { HasThread self.old.map thread }
+        ensures depth { result ≡ depth_of (contents self.old.map (W.words self.old.words)) thread }
+        ensures words { W.words self.new.words ≡ W.words self.old.words }
+        ensures map { self.new.map ≡ self.old.map }
+        ensures base { W.base self.new.words ≡ W.base self.old.words }
+    {
+        get_depth(&mut self.words, self.map, thread)
+    }
+
+    /// The words of all objects that are present.
+    pub fn present_words(&mut self) -> u64
+        ensures present { (s : SpaceState) → Stands self.old.map (contents self.old.map (W.words self.old.words)) s → result ≡ present_words s }
+        ensures used { result ≡ words_used (contents self.old.map (W.words self.old.words)).table }
+        ensures words { W.words self.new.words ≡ W.words self.old.words }
+        ensures map { self.new.map ≡ self.old.map }
+        ensures base { W.base self.new.words ≡ W.base self.old.words }
+    {
+        words_in_use(&mut self.words, self.map)
     }
 }
