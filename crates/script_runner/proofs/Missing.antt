@@ -1,0 +1,2 @@
+-- Stands in for what isn't proved yet.
+axiom pub missing : ⊥
