@@ -1,1 +1,4 @@
 pub mod Missing
+pub mod Unique
+pub mod Lawful
+pub mod Runs

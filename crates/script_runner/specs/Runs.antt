@@ -60,12 +60,12 @@ pub record IsRun (size : Heap) (lines : List Line) (replies : List Reply) (held 
   pub leaves : spaces standard_limits size.threads history state
   pub heap : IsHeapOf size held state
 
--- The call of a line had this reply, and led the heap to another: each state that the words stood for turns by entries whose
--- one call is the line's to a state that they stand for now. The entries may come after each history that left that state,
--- and after them Control is packed where the last is a collection that was asked for.
+-- The call of a line had this reply, and led the heap to another: each state that the words stood for, with its crossing
+-- references recorded, turns by entries whose one call is the line's to a state that they stand for now. The entries may come
+-- after each history that left that state, and after them Control is packed where the last is a collection that was asked for.
 pub record RunsLine (line : Line) (reply : Reply) (heap next : Held) : Type 0 where
   pub entries : List Entry
   pub told : calls_of entries ≡ said line reply ∷ []
-  pub turns : (state : SpaceState) (stands : Stands heap.map (contents heap.map heap.words) state) → (later : SpaceState) × TurnsAll state entries later × (after : Stands next.map (contents next.map next.words) later) × (Recorded heap.map (contents heap.map heap.words) state stands → Recorded next.map (contents next.map next.words) later after)
+  pub turns : (state : SpaceState) (stands : Stands heap.map (contents heap.map heap.words) state) → Recorded heap.map (contents heap.map heap.words) state stands → (later : SpaceState) × TurnsAll state entries later × (after : Stands next.map (contents next.map next.words) later) × Recorded next.map (contents next.map next.words) later after
   pub lawful : (state : SpaceState) (stands : Stands heap.map (contents heap.map heap.words) state) → Recorded heap.map (contents heap.map heap.words) state stands → (before : List Entry) → PackedIfAsked heap.map (contents heap.map heap.words) state stands before → AreLawful heap.map.pages before state entries
   pub packed : (before : List Entry) (state : SpaceState) (stands : Stands next.map (contents next.map next.words) state) → PackedIfAsked next.map (contents next.map next.words) state stands (before ++ entries)

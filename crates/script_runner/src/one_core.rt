@@ -1,5 +1,5 @@
 //! Running a script on one core.
-ghost use Rattle.std.specs.Prelude.{◌≡◌, IfOk};
+ghost use Rattle.std.specs.Prelude.{◌≡◌, ◌++◌, [], ◌∷◌, IfOk, OnOk};
 ghost use Rattle.heap_words.specs.Map.{HasThread};
 ghost use Rattle.object_layout.specs.Calls.{IsCall};
 ghost use Rattle.script_text.specs.Printing.{IsValid};
@@ -33,6 +33,13 @@ fn run_line(core: &mut Core<Image>, line: Line) -> Reply
     stepped.reply
 }
 
+/// Puts a reply behind the others.
+fn add(replies: &mut Vec<Reply>, reply: Reply) -> Result<(), NoMemory>
+    ensures { OnOk result (replies.new.items ≡ replies.old.items ++ reply ∷ []) }
+{
+    replies.push(reply).map_err(|_| NoMemory)
+}
+
 /// Runs the commands of a script on a new heap, in the order of their lines. Each has one reply.
 ///
 /// # Errors
@@ -53,9 +60,7 @@ pub fn replay(alloc: Global, script: &Script) -> Result<Replayed, NoMemory>
     let mut replies = Vec::new(alloc);
     'lines: for line in &script.lines {
         let reply = run_line(&mut core, *line);
-        if replies.push(reply).is_err() {
-            return Err(NoMemory);
-        }
+        add(&mut replies, reply)?;
     }
     Ok(Replayed { replies, core })
 }
