@@ -1,2 +1,3 @@
-pub mod Runs
-pub mod Unbuilt
+pub mod Decimals
+pub mod Settings
+pub mod Words

@@ -1,5 +1,2 @@
--- Scripts of built commands, what running them gives, and how a run of the program ends.
-pub mod Built
-pub mod Replays
-pub mod Endings
-pub mod Keeping
+-- What words ask for, what that gives, and how a run of the program ends.
+pub mod Forms
