@@ -1,2 +1,6 @@
 -- Stands in for what isn't proved yet.
-axiom pub missing : ⊥
+use Rattle.script_runner.specs.Missing.{Missing}
+
+pub whatever : {A : Type 0} → Missing → A
+unfolding Missing
+whatever h = absurd h

@@ -1,2 +1,3 @@
 -- What running a script gives.
 pub mod Runs
+pub mod Missing

@@ -3,6 +3,7 @@ ghost use Rattle.std.specs.Prelude.{◌≡◌, ◌++◌, [], ◌∷◌, IfOk, On
 ghost use Rattle.heap_words.specs.Map.{HasThread};
 ghost use Rattle.object_layout.specs.Calls.{IsCall};
 ghost use Rattle.script_text.specs.Printing.{IsValid};
+ghost use Rattle.script_runner.specs.Missing.{Missing};
 ghost use Rattle.script_runner.specs.Runs.{RunsLine, IsRun, held_of};
 
 use crate::stub::step;
@@ -24,6 +25,7 @@ pub struct Replayed {
 fn run_line(core: &mut Core<Image>, line: Line) -> Reply
     requires thread { HasThread core.old.map line.thread }
     requires number { IsCall line.call }
+    requires missing { Missing }
     ensures runs { RunsLine line result
         (held_of core.old.map (⟦<Image as Words>⟧.words core.old.words))
         (held_of core.new.map (⟦<Image as Words>⟧.words core.new.words)) }
@@ -46,7 +48,8 @@ fn add(replies: &mut Vec<Reply>, reply: Reply) -> Result<(), NoMemory>
 ///
 /// `NoMemory` where an allocation was refused.
 pub fn replay(alloc: Global, script: &Script) -> Result<Replayed, NoMemory>
-    requires { IsValid script.now }
+    requires valid { IsValid script.now }
+    requires missing { Missing }
     ensures { IfOk result (λ replayed. IsRun script.now.heap script.now.lines replayed.replies.items
         (held_of replayed.core.map (⟦<Image as Words>⟧.words replayed.core.words))) }
 {

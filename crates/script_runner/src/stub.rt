@@ -10,6 +10,7 @@ ghost use Rattle.yak_model.specs.Packed.{IsPacked};
 ghost use Rattle.yak_model.specs.Spaces.{SpaceState, TurnsAll};
 ghost use Rattle.yak_model.specs.Stands.{Stands};
 ghost use Rattle.yak_model.specs.Recorded.{Recorded};
+ghost use Rattle.script_runner.specs.Missing.{Missing};
 ghost use Rattle.heap_core.specs.Lawful.{AreLawful, PackedIfAsked};
 ghost use Rattle.heap_core.specs.Steps.{entries};
 
@@ -21,6 +22,7 @@ use object_layout::{Call, Reply};
 pub(crate) fn step(core: &mut Core<Image>, thread: u8, call: Call) -> Stepped
     requires thread { HasThread core.old.map thread }
     requires number { IsCall call }
+    requires missing { Missing }
     ensures turns { (s : SpaceState) (h : Stands core.old.map (contents core.old.map (⟦<Image as Words>⟧.words core.old.words)) s) → (after : SpaceState) × TurnsAll s (entries thread call result) after × (later : Stands core.new.map (contents core.new.map (⟦<Image as Words>⟧.words core.new.words)) after) × (Recorded core.old.map (contents core.old.map (⟦<Image as Words>⟧.words core.old.words)) s h → Recorded core.new.map (contents core.new.map (⟦<Image as Words>⟧.words core.new.words)) after later) }
     ensures lawful { (s : SpaceState) (h : Stands core.old.map (contents core.old.map (⟦<Image as Words>⟧.words core.old.words)) s) → Recorded core.old.map (contents core.old.map (⟦<Image as Words>⟧.words core.old.words)) s h → (before : List Entry) → PackedIfAsked core.old.map (contents core.old.map (⟦<Image as Words>⟧.words core.old.words)) s h before → AreLawful core.old.map.pages before s (entries thread call result) }
     ensures packed { call ≡ Collect → (s : SpaceState) (h : Stands core.new.map (contents core.new.map (⟦<Image as Words>⟧.words core.new.words)) s) → IsPacked core.new.map (contents core.new.map (⟦<Image as Words>⟧.words core.new.words)) s h Control }

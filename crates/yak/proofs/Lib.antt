@@ -1,3 +1,4 @@
 pub mod Decimals
 pub mod Settings
 pub mod Words
+pub mod Rounds

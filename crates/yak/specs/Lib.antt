@@ -1,2 +1,6 @@
 -- What words ask for, what that gives, and how a run of the program ends.
 pub mod Forms
+pub mod Generator
+pub mod Texts
+pub mod Endings
+pub mod Keeping

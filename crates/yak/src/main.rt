@@ -1,13 +1,35 @@
 //! Replays a script of calls on a heap, and writes a line for each reply.
 #![tactic(auto)]
 
+mod endings;
 mod forms;
+mod generator;
 mod numbers;
+mod plain;
+mod stub;
+mod summaries;
+#[cfg(test)]
+mod tests;
 
+use plain::{Kept, plain};
+use std::alloc::AllocError;
 use std::process::ExitCode;
+use std::{env, io};
+use yak_io::{StdSink, StdSource};
 
 fn main(rt: HostRuntime) -> ExitCode {
-    let _ = rt.alloc();
-    let _ = crate::forms::read_form(&[]);
-    ExitCode::from(5)
+    let alloc = rt.alloc();
+    // Arguments that are no text are of no stated form, as none are.
+    let words: Result<Vec<String>, AllocError> = match env::args(&rt) {
+        Ok(args) => args.skip(1).collect(alloc),
+        Err(error) if error.kind() == io::ErrorKind::OutOfMemory => return ExitCode::from(5),
+        Err(_) => Ok(Vec::new(alloc)),
+    };
+    let Ok(words) = words else {
+        return ExitCode::from(5);
+    };
+    let mut source = StdSource::new(rt.reader());
+    let mut sink = StdSink::new(io::writer(&rt));
+    let mut kept = Kept::Nothing;
+    ExitCode::from(plain(alloc, &words, &mut source, &mut sink, &mut kept))
 }

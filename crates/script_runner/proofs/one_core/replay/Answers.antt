@@ -28,10 +28,10 @@ lines-preserved c =
 pub run_line-reply-requires-clause-thread : goal.run_line-reply-requires-clause-thread
 run_line-reply-requires-clause-thread c =
     let line = runs_at c.args.script.now c.deref-line-items.result.now c.lines.line-index (record { number = 0; thread = 0; call = Int 0 })
-    (c.deref-line-items.ensures.value ∙ ap (λ (s : Contents). s.lines) c.script.view_is) c.lines-test.true c.requires in
+    (c.deref-line-items.ensures.value ∙ ap (λ (s : Contents). s.lines) c.script.view_is) c.lines-test.true c.requires.valid in
     (line.some, rw c.lines.invariant.run.heap.threads line.few)
 
 pub run_line-reply-requires-clause-number : goal.run_line-reply-requires-clause-number
 run_line-reply-requires-clause-number c =
     (runs_at c.args.script.now c.deref-line-items.result.now c.lines.line-index (record { number = 0; thread = 0; call = Int 0 })
-    (c.deref-line-items.ensures.value ∙ ap (λ (s : Contents). s.lines) c.script.view_is) c.lines-test.true c.requires).number
+    (c.deref-line-items.ensures.value ∙ ap (λ (s : Contents). s.lines) c.script.view_is) c.lines-test.true c.requires.valid).number

@@ -1,0 +1,183 @@
+-- How a run of the program ends: its status, what the status says of the words and of the input, and what is written.
+use Rattle.std.specs.Prelude.{◌≡◌, ◌<◌, ◌≤◌, ◌⊎◌, ℕ, List, [], ◌++◌, length, codes, Option, Some, None, IfSome}
+use Rattle.std.specs.Io.KnownBytes.{Appends}
+use Rattle.yak_io.specs.Causes.{Rose}
+use Rattle.yak_io.specs.Transfers.{TookAll, TookFront}
+use Rattle.script_text.specs.declared.TheConstants.{INPUT_LIMIT}
+use Rattle.script_text.specs.declared.faults.Bad.{Bad}
+use Rattle.script_text.specs.Contents.{Contents}
+use Rattle.script_text.specs.Reasons.{bad_text}
+use Rattle.yak.specs.declared.endings.Status.{Status}
+use Rattle.yak.specs.declared.endings.Status.TheVariants.{Done, Usage, Refused, ReadFault, WriteFault, NoMemory, TooLarge}
+use Rattle.object_layout.specs.declared.replies.Reply.{Reply}
+use Rattle.script_text.specs.Printing.{script_text}
+use Rattle.script_text.specs.Scripts.{IsScript, IsBad}
+use Rattle.script_runner.specs.Runs.{Held, IsRun}
+use Rattle.yak.specs.Forms.{IsAsked, IsGen, IsReplay}
+use Rattle.yak.specs.Generator.{generated}
+use Rattle.yak.specs.Texts.{replies_text, summary}
+
+-- what is written for words of no form that is answered
+abbrev pub usage_line : List ℕ
+usage_line = codes "usage: yak replay | threads | count [--workers n] [--task lines] [--pages p] | gen n\n"
+
+-- what a source tells before and after a run, and its counts of faults
+pub record Input : Type 0 where
+  pub before : Option (List ℕ)
+  pub after : Option (List ℕ)
+  pub faults_before : ℕ
+  pub faults_after : ℕ
+
+-- such a record, from its parts
+abbrev pub input_of : Option (List ℕ) → Option (List ℕ) → ℕ → ℕ → Input
+input_of before after faults_before faults_after = record { before = before; after = after; faults_before = faults_before; faults_after = faults_after }
+
+-- the same of a sink
+pub record Output : Type 0 where
+  pub before : Option (List ℕ)
+  pub after : Option (List ℕ)
+  pub faults_before : ℕ
+  pub faults_after : ℕ
+
+-- such a record, from its parts
+abbrev pub output_of : Option (List ℕ) → Option (List ℕ) → ℕ → ℕ → Output
+output_of before after faults_before faults_after = record { before = before; after = after; faults_before = faults_before; faults_after = faults_after }
+
+-- the bytes are the whole input, which is not too large
+pub record IsInput (input : Input) (bytes : List ℕ) : Type 0 where
+  pub whole : TookAll input.before input.after bytes
+  pub within : length bytes ≤ INPUT_LIMIT
+
+-- more bytes were given than an input may have
+abbrev pub IsTooLarge : Input → Type 0
+IsTooLarge input = IfSome input.before (λ told. INPUT_LIMIT < length told)
+
+-- the bytes are a script, which ran and left this heap, and the text tells the replies
+pub record Replays (bytes text : List ℕ) (held : Held) : Type 0 where
+  pub script : Contents
+  pub replies : List Reply
+  pub read : IsScript bytes script
+  pub run : IsRun script.heap script.lines replies held
+  pub written : text ≡ replies_text script.lines replies
+
+-- the script of so many rounds was printed, read again and run, and left this heap, and the text sums up the replies
+pub record Generates (rounds : ℕ) (text : List ℕ) (held : Held) : Type 0 where
+  pub replies : List Reply
+  pub read : IsScript (script_text (generated rounds)) (generated rounds)
+  pub run : IsRun (generated rounds).heap (generated rounds).lines replies held
+  pub written : text ≡ summary (generated rounds).lines replies
+
+-- the line that tells the first bad line of a text and its reason
+abbrev pub refusal_line : Bad → List ℕ
+refusal_line bad = bad_text bad ++ codes "\n"
+
+-- the bytes are no script, and this text tells why
+pub record Refuses (bytes text : List ℕ) : Type 0 where
+  pub bad : Bad
+  pub refused : IsBad bytes bad
+  pub line : text ≡ refusal_line bad
+
+-- what is kept of a heap, where any is: nothing but after a replay
+abbrev pub KeepsNothing : Option Held → Type 0
+KeepsNothing kept = kept ≡ None
+
+-- what reading and running a text of bytes comes to: a status, the text that belongs to it, and the heap
+abbrev pub comes_to : Status → List ℕ → List ℕ → Option Held → Type 0
+comes_to Done bytes text kept = (held : Held) × (kept ≡ Some held) × Replays bytes text held
+comes_to Refused bytes text kept = Refuses bytes text × KeepsNothing kept
+comes_to NoMemory bytes text kept = (text ≡ []) × KeepsNothing kept
+comes_to Usage bytes text kept = ⊥
+comes_to ReadFault bytes text kept = ⊥
+comes_to WriteFault bytes text kept = ⊥
+comes_to TooLarge bytes text kept = ⊥
+
+-- what the generated script of so many rounds comes to
+abbrev pub generates : Status → ℕ → List ℕ → Option Held → Type 0
+generates Done rounds text kept = (held : Held) × (kept ≡ Some held) × Generates rounds text held
+generates NoMemory rounds text kept = (text ≡ []) × KeepsNothing kept
+generates Refused rounds text kept = ⊥
+generates Usage rounds text kept = ⊥
+generates ReadFault rounds text kept = ⊥
+generates WriteFault rounds text kept = ⊥
+generates TooLarge rounds text kept = ⊥
+
+-- why an input gave no bytes to read
+abbrev pub gives_none : Status → Input → Type 0
+gives_none ReadFault input = Rose input.faults_before input.faults_after
+gives_none TooLarge input = IsTooLarge input
+gives_none NoMemory input = Unit {0}
+gives_none Done input = ⊥
+gives_none Usage input = ⊥
+gives_none Refused input = ⊥
+gives_none WriteFault input = ⊥
+
+-- what a status says of the words and of the input, the text that belongs to it, and the heap that is kept
+abbrev pub belongs : Status → List (List ℕ) → Input → List ℕ → Option Held → Type 0
+belongs Done words input text kept =
+    (IsReplay words × ((bytes : List ℕ) × IsInput input bytes × ((held : Held) × (kept ≡ Some held) × Replays bytes text held)))
+    ⊎ ((rounds : ℕ) × IsGen words rounds × ((held : Held) × (kept ≡ Some held) × Generates rounds text held))
+belongs Usage words input text kept = (IsAsked words → ⊥) × (text ≡ usage_line) × KeepsNothing kept
+belongs Refused words input text kept = IsReplay words × ((bytes : List ℕ) × IsInput input bytes × Refuses bytes text) × KeepsNothing kept
+belongs ReadFault words input text kept = IsReplay words × Rose input.faults_before input.faults_after × (text ≡ []) × KeepsNothing kept
+belongs WriteFault words input text kept = ⊥
+belongs NoMemory words input text kept = (text ≡ []) × KeepsNothing kept
+belongs TooLarge words input text kept = IsReplay words × IsTooLarge input × (text ≡ []) × KeepsNothing kept
+
+-- the text of a status was written
+pub record IsWritten (words : List (List ℕ)) (input : Input) (output : Output) (status : Status) (text : List ℕ) (kept : Option Held) : Type 0 where
+  pub meaning : belongs status words input text kept
+  pub all : Appends output.before output.after text
+
+-- the writing failed within the text of another status
+pub record IsCut (words : List (List ℕ)) (input : Input) (output : Output) (instead : Status) (text : List ℕ) (unkept : Option Held) : Type 0 where
+  pub meaning : belongs instead words input text unkept
+  pub some : 0 < length text
+  pub front : TookFront output.before output.after text
+  pub rose : Rose output.faults_before output.faults_after
+
+-- the writing failed: a front was written of the text that belongs to another status
+abbrev pub EndsCut : List (List ℕ) → Input → Output → Type 0
+EndsCut words input output = (instead : Status) × (text : List ℕ) × (unkept : Option Held) × IsCut words input output instead text unkept
+
+-- a run on these words, with this input and output, ends with a status
+abbrev pub ends : Status → List (List ℕ) → Input → Output → Option Held → Type 0
+ends WriteFault words input output kept = KeepsNothing kept × EndsCut words input output
+ends status words input output kept = (text : List ℕ) × IsWritten words input output status text kept
+
+-- the number that stands for a status
+abbrev pub number_of : Status → ℕ
+number_of Done = 0
+number_of Usage = 1
+number_of Refused = 2
+number_of ReadFault = 3
+number_of WriteFault = 4
+number_of NoMemory = 5
+number_of TooLarge = 6
+
+-- a number stands for a status with which a run ends
+abbrev pub EndsAs : ℕ → List (List ℕ) → Input → Output → Option Held → Type 0
+EndsAs number words input output kept = (status : Status) × (number ≡ number_of status) × ends status words input output kept
+
+-- the headline: the input is a script, the replies to its calls were written, and the heap is kept
+abbrev pub EndsReplayed : Input → Output → Option Held → Type 0
+EndsReplayed input output kept =
+    (bytes : List ℕ) × IsInput input bytes × ((text : List ℕ) × (held : Held) × (kept ≡ Some held) × Replays bytes text held × Appends output.before output.after text)
+
+-- the input is no script, and the line that tells why was written
+abbrev pub EndsRefused : Input → Output → Type 0
+EndsRefused input output = (bytes : List ℕ) × IsInput input bytes × ((text : List ℕ) × Refuses bytes text × Appends output.before output.after text)
+
+-- the generated script of so many rounds ran, its summary was written, and the heap is kept
+abbrev pub EndsGenerated : ℕ → Output → Option Held → Type 0
+EndsGenerated rounds output kept = (text : List ℕ) × (held : Held) × (kept ≡ Some held) × Generates rounds text held × Appends output.before output.after text
+
+-- nothing is written
+abbrev pub WritesNothing : Output → Type 0
+WritesNothing output = Appends output.before output.after []
+
+-- the words ask for a replay, the input is told, and neither end counted a fault
+pub record IsFaultless (words : List (List ℕ)) (input : Input) (output : Output) (bytes : List ℕ) : Type 0 where
+  pub named : IsReplay words
+  pub told : input.before ≡ Some bytes
+  pub read_well : Rose input.faults_before input.faults_after → ⊥
+  pub written_well : Rose output.faults_before output.faults_after → ⊥

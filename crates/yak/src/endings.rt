@@ -1,0 +1,20 @@
+//! How a run ends.
+
+/// What the process tells its caller: the number of a variant is its exit status.
+#[derive(Clone, Copy, Debug, PartialEq, Eq, Drop)]
+pub enum Status {
+    /// The input was read to its end, and all output was taken.
+    Done,
+    /// The words are of no stated form.
+    Usage,
+    /// The input is no script.
+    Refused,
+    /// The source failed.
+    ReadFault,
+    /// The sink failed.
+    WriteFault,
+    /// An allocation was refused.
+    NoMemory,
+    /// The input has more than `INPUT_LIMIT` bytes.
+    TooLarge,
+}

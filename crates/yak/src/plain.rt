@@ -1,0 +1,246 @@
+//! The top call.
+ghost use Rattle.std.specs.Prelude.{◌≡◌, ◌≢◌, ◌≤◌, ◌<◌, ◌⊎◌, ℕ, List, [], None, Option, map, codes, Some, IfOk, IfErr, OnErr, IfSome, length, string_bytes};
+ghost use Rattle.std.specs.Io.KnownBytes.{Appends};
+ghost use Rattle.script_text.specs.Contents.{Contents};
+ghost use Rattle.yak_io.specs.Causes.{Rose};
+ghost use Rattle.script_text.specs.Scripts.{IsBad, IsScript};
+ghost use Rattle.yak.specs.Forms.{IsAsked, IsGen, IsReplay};
+ghost use Rattle.script_text.specs.declared.faults.Bad.{Bad};
+ghost use Rattle.script_runner.specs.Runs.{held_of};
+ghost use Rattle.yak.specs.Keeping.{held_by};
+ghost use Rattle.yak.specs.declared.endings.Status.TheVariants.{Done, NoMemory};
+ghost use Rattle.yak.specs.Endings.{usage_line, input_of, output_of, IsInput, refusal_line, KeepsNothing, comes_to, generates, gives_none, belongs, ends, EndsAs, EndsCut, EndsGenerated, EndsReplayed, EndsRefused, IsFaultless, Input};
+
+use crate::endings::Status;
+use crate::forms::{Form, MAX_ROUNDS, read_form};
+use crate::generator::generated_script;
+use crate::stub::replay;
+use crate::summaries::{reply_lines, summed_up};
+use heap_core::Core;
+use heap_words::{Image, Words};
+use object_layout::NoMemory;
+use script_text::{Bad, INPUT_LIMIT, ReadError, read_script};
+use std::alloc::{AllocError, Global};
+use yak_io::{ReadAllError, Sink, Source, read_all, write_all};
+
+/// The heap as a run left it.
+#[derive(Drop)]
+pub enum Kept {
+    /// No heap.
+    Nothing,
+    /// The heap after the last call of a replay.
+    Alone(Core<Image>),
+}
+
+const USAGE: &[u8] = b"usage: yak replay | threads | count [--workers n] [--task lines] [--pages p] | gen n\n";
+
+/// The whole input, or why there is none.
+fn read_input<S: Source>(alloc: Global, source: &mut S) -> Result<Vec<u8>, Status>
+    ensures later { S.faults source.old ≤ S.faults source.new }
+    ensures read { IfOk result (λ bytes. IsInput (input_of (S.left source.old) (S.left source.new) (S.faults source.old) (S.faults source.new)) bytes.items) }
+    ensures none { IfErr result (λ status. gives_none status (input_of (S.left source.old) (S.left source.new) (S.faults source.old) (S.faults source.new))) }
+{
+    match read_all(alloc, source, INPUT_LIMIT as u64) {
+        Ok(bytes) => Ok(bytes),
+        Err(ReadAllError::Failed) => Err(Status::ReadFault),
+        Err(ReadAllError::TooLarge) => Err(Status::TooLarge),
+        Err(ReadAllError::Memory) => Err(Status::NoMemory),
+    }
+}
+
+/// What a run comes to before anything is written.
+#[derive(Drop)]
+struct Prepared {
+    status: Status,
+    text: Vec<u8>,
+    kept: Kept,
+}
+
+/// A run that ends with a status, and writes and keeps nothing.
+fn stopped(alloc: Global, status: Status) -> Prepared
+    ensures status { result.status ≡ status }
+    ensures text { result.text.items ≡ [] }
+    ensures kept { held_by ⟦<Image as Words>⟧.words result.kept ≡ None }
+{
+    Prepared {
+        status,
+        text: Vec::new(alloc),
+        kept: Kept::Nothing,
+    }
+}
+
+/// The line that tells the first bad line of a text and its reason.
+fn refusal(alloc: Global, bad: Bad) -> Result<Vec<u8>, AllocError>
+    ensures { IfOk result (λ text. text.items ≡ refusal_line bad) }
+{
+    let line = format!(in alloc; "{bad}\n")?;
+    Ok(line.into_bytes())
+}
+
+/// A run that wrote a text and left a heap.
+fn done(alloc: Global, text: Result<Vec<u8>, NoMemory>, core: Core<Image>) -> Prepared
+    ensures done { IfOk text (λ bytes. (result.status ≡ Done) × (result.text.items ≡ bytes.items) × (held_by ⟦<Image as Words>⟧.words result.kept ≡ Some (held_of core.map (⟦<Image as Words>⟧.words core.words)))) }
+    ensures none { OnErr text ((result.status ≡ NoMemory) × (result.text.items ≡ []) × (held_by ⟦<Image as Words>⟧.words result.kept ≡ None)) }
+{
+    match text {
+        Ok(text) => Prepared {
+            status: Status::Done,
+            text,
+            kept: Kept::Alone(core),
+        },
+        Err(_) => stopped(alloc, Status::NoMemory),
+    }
+}
+
+/// Reads and runs a text.
+fn answer(alloc: Global, bytes: &[u8]) -> Prepared
+    requires { length bytes.now ≤ INPUT_LIMIT }
+    ensures { comes_to result.status bytes.now result.text.items (held_by ⟦<Image as Words>⟧.words result.kept) }
+{
+    let script = match read_script(alloc, bytes) {
+        Ok(script) => script,
+        Err(ReadError::Refused(bad)) => return refused(alloc, bad),
+        Err(ReadError::Memory) => return stopped(alloc, Status::NoMemory),
+    };
+    match replay(alloc, &script) {
+        Ok(replayed) => {
+            let text = reply_lines(alloc, &script.lines, &replayed.replies);
+            done(alloc, text, replayed.core)
+        }
+        Err(_) => stopped(alloc, Status::NoMemory),
+    }
+}
+
+/// Makes, reads and runs the script of so many rounds.
+fn generate(alloc: Global, rounds: u32) -> Prepared
+    requires { rounds ≤ MAX_ROUNDS }
+    ensures { generates result.status rounds result.text.items (held_by ⟦<Image as Words>⟧.words result.kept) }
+{
+    let Ok(script) = generated_script(alloc, rounds) else {
+        return stopped(alloc, Status::NoMemory);
+    };
+    match replay(alloc, &script) {
+        Ok(replayed) => {
+            let text = summed_up(alloc, &script.lines, &replayed.replies);
+            done(alloc, text, replayed.core)
+        }
+        Err(_) => stopped(alloc, Status::NoMemory),
+    }
+}
+
+/// A run that is refused for a bad line.
+fn refused(alloc: Global, bad: Bad) -> Prepared
+    ensures { (bytes : List ℕ) → IsBad bytes bad → comes_to result.status bytes result.text.items (held_by ⟦<Image as Words>⟧.words result.kept) }
+{
+    match refusal(alloc, bad) {
+        Ok(text) => Prepared {
+            status: Status::Refused,
+            text,
+            kept: Kept::Nothing,
+        },
+        Err(_) => stopped(alloc, Status::NoMemory),
+    }
+}
+
+/// A run whose words are of no form that is answered.
+fn usage(alloc: Global) -> Prepared
+    ensures { (words : List (List ℕ)) (input : Input) → (IsAsked words → ⊥) → belongs result.status words input result.text.items (held_by ⟦<Image as Words>⟧.words result.kept) }
+{
+    match Vec::from_slice(alloc, USAGE) {
+        Ok(text) => Prepared {
+            status: Status::Usage,
+            text,
+            kept: Kept::Nothing,
+        },
+        Err(_) => stopped(alloc, Status::NoMemory),
+    }
+}
+
+/// Does all but the writing.
+fn prepare<S: Source>(alloc: Global, args: &[String], source: &mut S) -> Prepared
+    ensures later { S.faults source.old ≤ S.faults source.new }
+    ensures unread { (IsReplay (map string_bytes args.now) → ⊥) → source.new ≡ source.old }
+    ensures text { belongs result.status (map string_bytes args.now)
+        (input_of (S.left source.old) (S.left source.new) (S.faults source.old) (S.faults source.new)) result.text.items (held_by ⟦<Image as Words>⟧.words result.kept) }
+{
+    match read_form(args) {
+        Some(Form::Replay) => match read_input(alloc, source) {
+            Ok(bytes) => answer(alloc, &bytes),
+            Err(status) => stopped(alloc, status),
+        },
+        Some(Form::Gen(rounds)) => generate(alloc, rounds),
+        _ => usage(alloc),
+    }
+}
+
+/// Runs what the words ask for, and says how that ended.
+fn ended<S: Source, K: Sink>(
+    alloc: Global,
+    args: &[String],
+    source: &mut S,
+    sink: &mut K,
+    kept: &mut Kept,
+) -> Status
+    requires { KeepsNothing (held_by ⟦<Image as Words>⟧.words kept.old) }
+    ensures unread { (IsReplay (map string_bytes args.now) → ⊥) → source.new ≡ source.old }
+    ensures ends { ends result (map string_bytes args.now)
+        (input_of (S.left source.old) (S.left source.new) (S.faults source.old) (S.faults source.new))
+        (output_of (K.written sink.old) (K.written sink.new) (K.faults sink.old) (K.faults sink.new)) (held_by ⟦<Image as Words>⟧.words kept.new) }
+{
+    let prepared = prepare(alloc, args, source);
+    if write_all(sink, &prepared.text).is_err() {
+        return Status::WriteFault;
+    }
+    *kept = prepared.kept;
+    prepared.status
+}
+
+/// Does what the words ask for, and gives the number of the status with which that ended.
+///
+/// `replay` reads the source's bytes as a script and runs it, and writes a line for the reply to each command. `gen n` makes
+/// a script of n rounds as bytes, runs it in the same way, and writes a summary of the replies. Other words get the usage
+/// line. Nothing may be kept at the call; afterwards the heap is kept where the status is 0. All output is made in memory
+/// before the first byte is written. `docs/FORMAT.md` has the forms and the statuses.
+pub fn plain<S: Source, K: Sink>(
+    alloc: Global,
+    args: &[String],
+    source: &mut S,
+    sink: &mut K,
+    kept: &mut Kept,
+) -> u8
+    requires { KeepsNothing (held_by ⟦<Image as Words>⟧.words kept.old) }
+    ensures ending { EndsAs result (map string_bytes args.now)
+        (input_of (S.left source.old) (S.left source.new) (S.faults source.old) (S.faults source.new))
+        (output_of (K.written sink.old) (K.written sink.new) (K.faults sink.old) (K.faults sink.new)) (held_by ⟦<Image as Words>⟧.words kept.new) }
+    ensures replays { IsReplay (map string_bytes args.now) → result ≡ 0 → EndsReplayed
+        (input_of (S.left source.old) (S.left source.new) (S.faults source.old) (S.faults source.new))
+        (output_of (K.written sink.old) (K.written sink.new) (K.faults sink.old) (K.faults sink.new)) (held_by ⟦<Image as Words>⟧.words kept.new) }
+    ensures generates { (rounds : ℕ) → IsGen (map string_bytes args.now) rounds → result ≡ 0 → EndsGenerated rounds
+        (output_of (K.written sink.old) (K.written sink.new) (K.faults sink.old) (K.faults sink.new)) (held_by ⟦<Image as Words>⟧.words kept.new) }
+    ensures unread { (IsReplay (map string_bytes args.now) → ⊥) → source.new ≡ source.old }
+    ensures usage { result ≡ 1 → (IsAsked (map string_bytes args.now) → ⊥) × Appends (K.written sink.old) (K.written sink.new) usage_line }
+    ensures refused { result ≡ 2 → IsReplay (map string_bytes args.now) × EndsRefused
+        (input_of (S.left source.old) (S.left source.new) (S.faults source.old) (S.faults source.new))
+        (output_of (K.written sink.old) (K.written sink.new) (K.faults sink.old) (K.faults sink.new)) }
+    ensures read_fault { result ≡ 3 → IsReplay (map string_bytes args.now) × Rose (S.faults source.old) (S.faults source.new) × Appends (K.written sink.old) (K.written sink.new) [] }
+    ensures write_fault { result ≡ 4 → Rose (K.faults sink.old) (K.faults sink.new) }
+    ensures cut { result ≡ 4 → EndsCut (map string_bytes args.now)
+        (input_of (S.left source.old) (S.left source.new) (S.faults source.old) (S.faults source.new))
+        (output_of (K.written sink.old) (K.written sink.new) (K.faults sink.old) (K.faults sink.new)) }
+    ensures no_memory { result ≡ 5 → Appends (K.written sink.old) (K.written sink.new) [] }
+    ensures too_large { result ≡ 6 → IsReplay (map string_bytes args.now) × IfSome (S.left source.old) (λ told. INPUT_LIMIT < length told) × Appends (K.written sink.old) (K.written sink.new) [] }
+    ensures kept { result ≢ 0 → KeepsNothing (held_by ⟦<Image as Words>⟧.words kept.new) }
+    ensures other_words { (IsAsked (map string_bytes args.now) → ⊥) → (result ≡ 1) ⊎ (result ≡ 4) ⊎ (result ≡ 5) }
+    ensures every_script { (bytes : List ℕ) (script : Contents) → IsFaultless (map string_bytes args.now)
+        (input_of (S.left source.old) (S.left source.new) (S.faults source.old) (S.faults source.new))
+        (output_of (K.written sink.old) (K.written sink.new) (K.faults sink.old) (K.faults sink.new)) bytes → length bytes ≤ INPUT_LIMIT → IsScript bytes script → (result ≡ 0) ⊎ (result ≡ 5) }
+    ensures every_refusal { (bytes : List ℕ) (bad : Bad) → IsFaultless (map string_bytes args.now)
+        (input_of (S.left source.old) (S.left source.new) (S.faults source.old) (S.faults source.new))
+        (output_of (K.written sink.old) (K.written sink.new) (K.faults sink.old) (K.faults sink.new)) bytes → length bytes ≤ INPUT_LIMIT → IsBad bytes bad → (result ≡ 2) ⊎ (result ≡ 5) }
+    ensures every_gen { (rounds : ℕ) → IsGen (map string_bytes args.now) rounds → (Rose (K.faults sink.old) (K.faults sink.new) → ⊥) → (result ≡ 0) ⊎ (result ≡ 5) }
+    ensures every_excess { (bytes : List ℕ) → IsFaultless (map string_bytes args.now)
+        (input_of (S.left source.old) (S.left source.new) (S.faults source.old) (S.faults source.new))
+        (output_of (K.written sink.old) (K.written sink.new) (K.faults sink.old) (K.faults sink.new)) bytes → INPUT_LIMIT < length bytes → (result ≡ 6) ⊎ (result ≡ 5) }
+{
+    ended(alloc, args, source, sink, kept) as u8
+}
