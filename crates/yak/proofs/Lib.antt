@@ -2,3 +2,5 @@ pub mod Decimals
 pub mod Settings
 pub mod Words
 pub mod Rounds
+pub mod Told
+pub mod Kinds

@@ -8,7 +8,6 @@ ghost use Rattle.yak.specs.Forms.{IsAsked, IsGen, IsReplay};
 ghost use Rattle.script_text.specs.declared.faults.Bad.{Bad};
 ghost use Rattle.script_runner.specs.Runs.{held_of};
 ghost use Rattle.yak.specs.Keeping.{held_by};
-ghost use Rattle.yak.specs.declared.endings.Status.TheVariants.{Done, NoMemory};
 ghost use Rattle.yak.specs.Endings.{usage_line, input_of, output_of, IsInput, refusal_line, KeepsNothing, comes_to, generates, gives_none, belongs, ends, EndsAs, EndsCut, EndsGenerated, EndsReplayed, EndsRefused, IsFaultless, Input};
 
 use crate::endings::Status;
@@ -19,7 +18,7 @@ use crate::summaries::{reply_lines, summed_up};
 use heap_core::Core;
 use heap_words::{Image, Words};
 use object_layout::NoMemory;
-use script_text::{Bad, INPUT_LIMIT, ReadError, read_script};
+use script_text::{Bad, INPUT_LIMIT, ReadError, law_script_or_refusal, read_script};
 use std::alloc::{AllocError, Global};
 use yak_io::{ReadAllError, Sink, Source, read_all, write_all};
 
@@ -79,8 +78,8 @@ fn refusal(alloc: Global, bad: Bad) -> Result<Vec<u8>, AllocError>
 
 /// A run that wrote a text and left a heap.
 fn done(alloc: Global, text: Result<Vec<u8>, NoMemory>, core: Core<Image>) -> Prepared
-    ensures done { IfOk text (λ bytes. (result.status ≡ Done) × (result.text.items ≡ bytes.items) × (held_by ⟦<Image as Words>⟧.words result.kept ≡ Some (held_of core.map (⟦<Image as Words>⟧.words core.words)))) }
-    ensures none { OnErr text ((result.status ≡ NoMemory) × (result.text.items ≡ []) × (held_by ⟦<Image as Words>⟧.words result.kept ≡ None)) }
+    ensures done { IfOk text (λ bytes. (result.status ≡ Status.Done) × (result.text.items ≡ bytes.items) × (held_by ⟦<Image as Words>⟧.words result.kept ≡ Some (held_of core.map (⟦<Image as Words>⟧.words core.words)))) }
+    ensures none { OnErr text ((result.status ≡ Status.NoMemory) × (result.text.items ≡ []) × (held_by ⟦<Image as Words>⟧.words result.kept ≡ None)) }
 {
     match text {
         Ok(text) => Prepared {
@@ -174,7 +173,7 @@ fn prepare<S: Source>(alloc: Global, args: &[String], source: &mut S) -> Prepare
 }
 
 /// Runs what the words ask for, and says how that ended.
-fn ended<S: Source, K: Sink>(
+fn written<S: Source, K: Sink>(
     alloc: Global,
     args: &[String],
     source: &mut S,
@@ -193,6 +192,34 @@ fn ended<S: Source, K: Sink>(
     }
     *kept = prepared.kept;
     prepared.status
+}
+
+/// The same, with what it tells of words, inputs and outputs of each kind.
+fn ended<S: Source, K: Sink>(
+    alloc: Global,
+    args: &[String],
+    source: &mut S,
+    sink: &mut K,
+    kept: &mut Kept,
+) -> Status
+    requires { KeepsNothing (held_by ⟦<Image as Words>⟧.words kept.old) }
+    ensures unread { (IsReplay (map string_bytes args.now) → ⊥) → source.new ≡ source.old }
+    ensures ends { ends result (map string_bytes args.now)
+        (input_of (S.left source.old) (S.left source.new) (S.faults source.old) (S.faults source.new))
+        (output_of (K.written sink.old) (K.written sink.new) (K.faults sink.old) (K.faults sink.new)) (held_by ⟦<Image as Words>⟧.words kept.new) }
+    ensures generates { (rounds : ℕ) → IsGen (map string_bytes args.now) rounds → result ≡ Status.Done → EndsGenerated rounds
+        (output_of (K.written sink.old) (K.written sink.new) (K.faults sink.old) (K.faults sink.new)) (held_by ⟦<Image as Words>⟧.words kept.new) }
+    ensures other_words { (IsAsked (map string_bytes args.now) → ⊥) → (result ≡ Status.Usage) ⊎ (result ≡ Status.WriteFault) ⊎ (result ≡ Status.NoMemory) }
+    ensures every_script { (bytes : List ℕ) (script : Contents) → IsFaultless (map string_bytes args.now)
+        (input_of (S.left source.old) (S.left source.new) (S.faults source.old) (S.faults source.new))
+        (output_of (K.written sink.old) (K.written sink.new) (K.faults sink.old) (K.faults sink.new)) bytes → length bytes ≤ INPUT_LIMIT → IsScript bytes script → (result ≡ Status.Done) ⊎ (result ≡ Status.NoMemory) }
+    ensures every_refusal { (bytes : List ℕ) (bad : Bad) → IsFaultless (map string_bytes args.now)
+        (input_of (S.left source.old) (S.left source.new) (S.faults source.old) (S.faults source.new))
+        (output_of (K.written sink.old) (K.written sink.new) (K.faults sink.old) (K.faults sink.new)) bytes → length bytes ≤ INPUT_LIMIT → IsBad bytes bad → (result ≡ Status.Refused) ⊎ (result ≡ Status.NoMemory) }
+    ensures every_gen { (rounds : ℕ) → IsGen (map string_bytes args.now) rounds → (Rose (K.faults sink.old) (K.faults sink.new) → ⊥) → (result ≡ Status.Done) ⊎ (result ≡ Status.NoMemory) }
+{
+    law_script_or_refusal();
+    written(alloc, args, source, sink, kept)
 }
 
 /// Does what the words ask for, and gives the number of the status with which that ended.

@@ -57,7 +57,10 @@ fn push_reply(alloc: Global, text: &mut Vec<u8>, reply: Reply) -> Result<(), NoM
     let mut line = Vec::new(alloc);
     print_reply(alloc, &mut line, 0, reply)?;
     // What stands behind the number 0 and the space.
-    text.extend_from_slice(&line[2..]).map_err(|_| NoMemory)
+    match text.extend_from_slice(&line[2..]) {
+        Ok(()) => Ok(()),
+        Err(_) => Err(NoMemory),
+    }
 }
 
 /// The summary of the replies to so many calls.
