@@ -3,4 +3,4 @@ pub mod Settings
 pub mod Words
 pub mod Rounds
 pub mod Told
-pub mod Kinds
+pub mod Statuses

@@ -1,4 +1,4 @@
-use Rattle.yak.proofs.Kinds.{gen_ends, generated_so, other_words, refusal_ends, script_ends}
+use Rattle.yak.proofs.Statuses.{gen_ends, generated_so, other_words, refusal_ends, script_ends}
 use Rattle.yak.proofs.plain.ended.Goals as goal
 
 pub returns-clause-generates : goal.returns-clause-generates

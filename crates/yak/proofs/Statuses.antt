@@ -53,7 +53,7 @@ generated_so Done words input output kept rounds (text, written) gen done = made
   where
     made : (text : List ℕ) (written : IsWritten words input output Done text kept) → belongs Done words input text kept → EndsGenerated rounds output kept
     made text written (inl replay) = absurd (gen_or_replay words rounds replay.0 gen)
-    made text written (inr (other, is, held, here, generates)) =
+    made text written (inr (other, is, (held, here, generates))) =
         (text, held, here, subst (λ (n : ℕ). Generates n text held) (same_rounds words other rounds is gen) generates, written.all)
 generated_so Usage words input output kept rounds h gen done = absurd (cc done)
 generated_so Refused words input output kept rounds h gen done = absurd (cc done)
@@ -90,7 +90,7 @@ script_ends never TooLarge words input output kept h bytes script clean fits is 
 
 done_refused : Never → (words : List (List ℕ)) (input : Input) (output : Output) (text : List ℕ) (kept : Option Held) → belongs Done words input text kept
     → (bytes : List ℕ) (bad : Bad) → IsFaultless words input output bytes → IsBad bytes bad → ⊥
-done_refused never words input output text kept (inl (replay, other, is, held, here, replays)) bytes bad clean bad_is =
+done_refused never words input output text kept (inl (replay, (other, is, (held, here, replays)))) bytes bad clean bad_is =
     never bytes replays.script bad (subst (λ (l : List ℕ). IsScript l replays.script) (same_input input bytes other clean.told is) replays.read) bad_is
 done_refused never words input output text kept (inr (rounds, gen, more)) bytes bad clean bad_is = gen_or_replay words rounds clean.named gen
 
