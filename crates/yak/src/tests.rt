@@ -154,7 +154,7 @@ fn scripts_are_replayed_or_refused(rt: HostRuntime) -> Result<(), Fail> {
         (
             "heap 2 2\n2 new 0\n1 new 234\n1 new 0\n2 dup 1\n2 same 1 2\n2 store 1 0 0\n",
             0,
-            "2 ok\n3 ok\n4 out of heap\n5 ok\n6 yes\n7 bad field\n",
+            "2 ok\n3 ok\n4 ok\n5 ok\n6 yes\n7 bad field\n",
         ),
         (
             "heap 4 1\n1 int 5\n1 load 1 0\n1 load 0 16\n1 get 2\n1 new 254\n1 pop\n1 pop\n1 pop\n1 get 0\n",
