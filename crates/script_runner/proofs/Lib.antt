@@ -1,4 +1,3 @@
-pub mod Missing
 pub mod Unique
 pub mod Lawful
 pub mod Runs

@@ -1,3 +1,2 @@
 -- What running a script gives.
 pub mod Runs
-pub mod Missing

@@ -3,10 +3,8 @@ ghost use Rattle.std.specs.Prelude.{◌≡◌, ◌++◌, [], ◌∷◌, IfOk, On
 ghost use Rattle.heap_words.specs.Map.{HasThread};
 ghost use Rattle.object_layout.specs.Calls.{IsCall};
 ghost use Rattle.script_text.specs.Printing.{IsValid};
-ghost use Rattle.script_runner.specs.Missing.{Missing};
 ghost use Rattle.script_runner.specs.Runs.{RunsLine, IsRun, held_of};
 
-use crate::stub::step;
 use heap_core::Core;
 use heap_words::{Image, MakeError, Words};
 use object_layout::{NoMemory, Reply};
@@ -25,13 +23,12 @@ pub struct Replayed {
 fn run_line(core: &mut Core<Image>, line: Line) -> Reply
     requires thread { HasThread core.old.map line.thread }
     requires number { IsCall line.call }
-    requires missing { Missing }
     ensures runs { RunsLine line result
         (held_of core.old.map (⟦<Image as Words>⟧.words core.old.words))
         (held_of core.new.map (⟦<Image as Words>⟧.words core.new.words)) }
     ensures map { core.new.map ≡ core.old.map }
 {
-    let stepped = step(core, line.thread, line.call);
+    let stepped = core.step(line.thread, line.call);
     stepped.reply
 }
 
@@ -49,7 +46,6 @@ fn add(replies: &mut Vec<Reply>, reply: Reply) -> Result<(), NoMemory>
 /// `NoMemory` where an allocation was refused.
 pub fn replay(alloc: Global, script: &Script) -> Result<Replayed, NoMemory>
     requires valid { IsValid script.now }
-    requires missing { Missing }
     ensures { IfOk result (λ replayed. IsRun script.now.heap script.now.lines replayed.replies.items
         (held_of replayed.core.map (⟦<Image as Words>⟧.words replayed.core.words))) }
 {

@@ -13,11 +13,11 @@ ghost use Rattle.yak.specs.Endings.{usage_line, input_of, output_of, IsInput, re
 use crate::endings::Status;
 use crate::forms::{Form, MAX_ROUNDS, read_form};
 use crate::generator::generated_script;
-use crate::stub::replay;
 use crate::summaries::{reply_lines, summed_up};
 use heap_core::Core;
 use heap_words::{Image, Words};
 use object_layout::NoMemory;
+use script_runner::replay;
 use script_text::{Bad, INPUT_LIMIT, ReadError, law_script_or_refusal, read_script};
 use std::alloc::{AllocError, Global};
 use yak_io::{ReadAllError, Sink, Source, read_all, write_all};
