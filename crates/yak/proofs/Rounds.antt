@@ -178,16 +178,43 @@ all_fine (c ∷ first) second a b = (a.0, all_fine first second a.1 b)
 
 fine_kind : (t u f k r : ℕ) → 1 ≤ t → t ≤ 4 → 1 ≤ u → u ≤ 4 → f < 16 → k < 20 → AllFine (kind t u f k r)
 unfolding AllFine
-fine_kind t u f k zero a b c d small few =
-    (fine t a b Begin tt begin_short, (fine t a b (New 3) tt (new_short 3 (omega arith)), (fine t a b (New k) tt (new_short k few),
-    (fine t a b (Store 1 0 2) tt (store_short 1 0 2 (omega arith) (omega arith) (omega arith)), (fine t a b (Store 0 f 1) tt (store_short 0 f 1 (omega arith) small (omega arith)),
-    (fine t a b End tt end_short, (fine t a b Pop tt pop_short, (fine t a b Pop tt pop_short, tt))))))))
+fine_kind t u f k zero a b c d small few = (
+  fine t a b Begin tt begin_short,
+  (
+    fine t a b (New 3) tt (new_short 3 (omega arith)),
+    (
+      fine t a b (New k) tt (new_short k few),
+      (
+        fine t a b (Store 1 0 2) tt (store_short 1 0 2 (omega arith) (omega arith) (omega arith)),
+        (
+          fine t a b (Store 0 f 1) tt (store_short 0 f 1 (omega arith) small (omega arith)),
+          (fine t a b End tt end_short, (fine t a b Pop tt pop_short, (fine t a b Pop tt pop_short, tt))),
+        ),
+      ),
+    ),
+  ),
+)
 fine_kind t u f k (suc zero) a b c d small few =
     (fine t a b Begin tt begin_short, (fine t a b (New k) tt (new_short k few), (fine t a b Pop tt pop_short, (fine t a b End tt end_short, tt))))
-fine_kind t u f k (suc (suc r)) a b c d small few =
-    (fine t a b Begin tt begin_short, (fine t a b (New k) tt (new_short k few), (fine t a b (Store 0 f 1) tt (store_short 0 f 1 (omega arith) small (omega arith)),
-    (fine u c d (Load 0 f) tt (load_short f small), (fine t a b Null tt null_short, (fine t a b (Store 0 f 2) tt (store_short 0 f 2 (omega arith) small (omega arith)),
-    (fine t a b Pop tt pop_short, (fine t a b Pop tt pop_short, (fine t a b End tt end_short, (fine u c d (Get 1) tt get_short, (fine u c d Pop tt pop_short, tt)))))))))))
+fine_kind t u f k (suc (suc r)) a b c d small few = (
+  fine t a b Begin tt begin_short,
+  (
+    fine t a b (New k) tt (new_short k few),
+    (
+      fine t a b (Store 0 f 1) tt (store_short 0 f 1 (omega arith) small (omega arith)),
+      (
+        fine u c d (Load 0 f) tt (load_short f small),
+        (
+          fine t a b Null tt null_short,
+          (
+            fine t a b (Store 0 f 2) tt (store_short 0 f 2 (omega arith) small (omega arith)),
+            (fine t a b Pop tt pop_short, (fine t a b Pop tt pop_short, (fine t a b End tt end_short, (fine u c d (Get 1) tt get_short, (fine u c d Pop tt pop_short, tt))))),
+          ),
+        ),
+      ),
+    ),
+  ),
+)
 
 fine_round : (t x : ℕ) → 1 ≤ t → t ≤ 4 → AllFine (round t x)
 fine_round t x some few =

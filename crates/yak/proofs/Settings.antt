@@ -103,7 +103,7 @@ same_option words setting number other rest others (inl (word, joined, is)) (inl
     let texts : setting_word setting ++ codes "=" ++ decimal number ≡ setting_word setting ++ codes "=" ++ decimal other = sym joined.spelled ∙ heads ∙ joined'.spelled in
     record {
       numbers = decimal_injective number other (small setting number joined.within) (small setting other joined'.within)
-      (append_cancel_left (setting_word setting ++ codes "=") (decimal number) (decimal other) texts);
+          (append_cancel_left (setting_word setting ++ codes "=") (decimal number) (decimal other) texts);
       rests = tail_of _ _ _ _ (sym is ∙ is');
     }
 same_option words setting number other rest others (inl (word, joined, is)) (inr (within, is')) =
@@ -152,9 +152,10 @@ next_sets : (before settings : Settings) (words : List (List ℕ)) (setting : Se
 next_sets before settings words setting number rest is (all_told empty same) = absurd (no_words_left words setting number rest empty is)
 next_sets before settings words setting number rest is (one_told setting' number' rest' is' untold later) =
     let alike : setting' ≡ setting = same_setting setting' setting (sym (first_letter words setting' number' rest' is') ∙ first_letter words setting number rest is) in
-    let one : IsOne number number' rest rest' = same_option words setting number number' rest rest' is (subst (λ (s : Setting). IsSetting words s number' rest') alike is') in
-    (subst (λ (s : Setting). told s before ≡ None) alike untold,
-     rw one.rests (subst (λ (z : Settings). Sets settings z rest') (ap (λ (s : Setting). tell s number' before) alike ∙ ap (λ (n : ℕ). tell setting n before) (sym one.numbers)) later))
+    let one : IsOne number number' rest rest' = same_option words setting number number' rest rest' is (subst (λ (s : Setting). IsSetting words s number' rest') alike is') in (
+      subst (λ (s : Setting). told s before ≡ None) alike untold,
+      rw one.rests (subst (λ (z : Settings). Sets settings z rest') (ap (λ (s : Setting). tell s number' before) alike ∙ ap (λ (n : ℕ). tell setting n before) (sym one.numbers)) later),
+    )
 
 pub same_next : (all : List (List ℕ)) (before after : Settings) (words : List (List ℕ)) (setting : Setting) (number : ℕ) (rest : List (List ℕ))
     → IsSame all before words → IsSetting words setting number rest → told setting before ≡ None → after ≡ tell setting number before → IsSame all after rest

@@ -60,7 +60,7 @@ IsSetting words setting number rest =
 pub data Sets (settings : Settings) : Settings → List (List ℕ) → Type 0 where
   all_told : {before : Settings} {words : List (List ℕ)} → words ≡ [] → settings ≡ before → Sets settings before words
   one_told : {before : Settings} {words : List (List ℕ)} (setting : Setting) (number : ℕ) (rest : List (List ℕ)) → IsSetting words setting number rest
-    → told setting before ≡ None → Sets settings (tell setting number before) rest → Sets settings before words
+      → told setting before ≡ None → Sets settings (tell setting number before) rest → Sets settings before words
 
 -- the number that was told, or else the default
 abbrev pub or_default : Option ℕ → ℕ → ℕ

@@ -1,8 +1,8 @@
 //! The script of `gen`.
-ghost use Rattle.std.specs.Prelude.{◌≡◌, ◌≤◌, ◌<◌, ◌+◌, ◌++◌, ◌∷◌, ◌^◌, [], length, IfOk, OnOk};
+ghost use Rattle.std.specs.Prelude.{◌≡◌, ◌≤◌, ◌<◌, ◌+◌, ◌++◌, ◌∷◌, ◌^◌, ℕ, [], length, IfOk, OnOk};
 ghost use Rattle.script_text.specs.Printing.{IsValid, script_text};
 ghost use Rattle.script_text.specs.Scripts.{IsScript};
-ghost use Rattle.yak.specs.Generator.{commands, generated, numbered, rounds};
+ghost use Rattle.yak.specs.Generator.{commands, generated, kind, numbered, rounds};
 
 use crate::forms::MAX_ROUNDS;
 use object_layout::{Call, NoMemory};
@@ -42,6 +42,59 @@ fn push_lines(lines: &mut Vec<Line>, commands: &[(u8, Call)]) -> Result<(), NoMe
     Ok(())
 }
 
+/// A round that moves an object out of a region.
+fn push_moving(lines: &mut Vec<Line>, t: u8, f: u32, k: u32) -> Result<(), NoMemory>
+    requires { length lines.old.items < 2 ^ 29 }
+    ensures { (u : ℕ) → OnOk result (lines.new.items ≡ lines.old.items ++ numbered (length lines.old.items + 2) (kind t u f k 0)) }
+{
+    let commands = [
+        (t, Call::Begin),
+        (t, Call::New(3)),
+        (t, Call::New(k)),
+        (t, Call::Store(1, 0, 2)),
+        (t, Call::Store(0, f, 1)),
+        (t, Call::End),
+        (t, Call::Pop),
+        (t, Call::Pop),
+    ];
+    push_lines(lines, &commands)
+}
+
+/// A round whose object dies.
+fn push_dying(lines: &mut Vec<Line>, t: u8, k: u32) -> Result<(), NoMemory>
+    requires { length lines.old.items < 2 ^ 29 }
+    ensures { (u f : ℕ) → OnOk result (lines.new.items ≡ lines.old.items ++ numbered (length lines.old.items + 2) (kind t u f k 1)) }
+{
+    let commands = [
+        (t, Call::Begin),
+        (t, Call::New(k)),
+        (t, Call::Pop),
+        (t, Call::End),
+    ];
+    push_lines(lines, &commands)
+}
+
+/// A round whose object another thread's stack holds at the end.
+fn push_held(lines: &mut Vec<Line>, t: u8, u: u8, f: u32, k: u32) -> Result<(), NoMemory>
+    requires { length lines.old.items < 2 ^ 29 }
+    ensures { OnOk result (lines.new.items ≡ lines.old.items ++ numbered (length lines.old.items + 2) (kind t u f k 2)) }
+{
+    let commands = [
+        (t, Call::Begin),
+        (t, Call::New(k)),
+        (t, Call::Store(0, f, 1)),
+        (u, Call::Load(0, f)),
+        (t, Call::Null),
+        (t, Call::Store(0, f, 2)),
+        (t, Call::Pop),
+        (t, Call::Pop),
+        (t, Call::End),
+        (u, Call::Get(1)),
+        (u, Call::Pop),
+    ];
+    push_lines(lines, &commands)
+}
+
 /// Puts the commands of a round on the next lines.
 fn push_round(lines: &mut Vec<Line>, t: u8, x: u32) -> Result<(), NoMemory>
     requires few { length lines.old.items < 2 ^ 29 }
@@ -49,52 +102,16 @@ fn push_round(lines: &mut Vec<Line>, t: u8, x: u32) -> Result<(), NoMemory>
     requires number { x < 65537 }
     ensures { OnOk result (lines.new.items ≡ lines.old.items ++ numbered (length lines.old.items + 2) (Rattle.yak.specs.Generator.round t x)) }
 {
-    let u = t % 4 + 1;
     let f = x / 3 % 16;
     let k = x / 48 % 20;
     let rest = x % 3;
     if rest == 0 {
-        return push_lines(
-            lines,
-            &[
-                (t, Call::Begin),
-                (t, Call::New(3)),
-                (t, Call::New(k)),
-                (t, Call::Store(1, 0, 2)),
-                (t, Call::Store(0, f, 1)),
-                (t, Call::End),
-                (t, Call::Pop),
-                (t, Call::Pop),
-            ],
-        );
+        return push_moving(lines, t, f, k);
     }
     if rest == 1 {
-        return push_lines(
-            lines,
-            &[
-                (t, Call::Begin),
-                (t, Call::New(k)),
-                (t, Call::Pop),
-                (t, Call::End),
-            ],
-        );
+        return push_dying(lines, t, k);
     }
-    push_lines(
-        lines,
-        &[
-            (t, Call::Begin),
-            (t, Call::New(k)),
-            (t, Call::Store(0, f, 1)),
-            (u, Call::Load(0, f)),
-            (t, Call::Null),
-            (t, Call::Store(0, f, 2)),
-            (t, Call::Pop),
-            (t, Call::Pop),
-            (t, Call::End),
-            (u, Call::Get(1)),
-            (u, Call::Pop),
-        ],
-    )
+    push_held(lines, t, t % 4 + 1, f, k)
 }
 
 /// Puts the commands of all rounds on lines.
@@ -120,10 +137,7 @@ fn make_script(alloc: Global, seed: u32) -> Result<Script, NoMemory>
 {
     let mut lines = Vec::new(alloc);
     push_rounds(&mut lines, seed)?;
-    push_lines(
-        &mut lines,
-        &[(1, Call::Collect), (1, Call::Census)],
-    )?;
+    push_lines(&mut lines, &[(1, Call::Collect), (1, Call::Census)])?;
     Ok(Script {
         pages: 64,
         threads: 4,

@@ -31,7 +31,8 @@ pub enum Kept {
     Alone(Core<Image>),
 }
 
-const USAGE: &[u8] = b"usage: yak replay | threads | count [--workers n] [--task lines] [--pages p] | gen n\n";
+const USAGE: &[u8] =
+    b"usage: yak replay | threads | count [--workers n] [--task lines] [--pages p] | gen n\n";
 
 /// The whole input, or why there is none.
 fn read_input<S: Source>(alloc: Global, source: &mut S) -> Result<Vec<u8>, Status>

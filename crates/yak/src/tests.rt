@@ -7,7 +7,8 @@ use yak_io::{MemorySink, MemorySource, SureSource};
 
 const FIRST_PATH: &[u8] = b"heap 4 1\n1 int 7\n1 get 1\n";
 
-const USAGE: &[u8] = b"usage: yak replay | threads | count [--workers n] [--task lines] [--pages p] | gen n\n";
+const USAGE: &[u8] =
+    b"usage: yak replay | threads | count [--workers n] [--task lines] [--pages p] | gen n\n";
 
 // The words of a line.
 fn words_of(alloc: Global, line: &str) -> Result<Vec<String>, AllocError> {
@@ -58,7 +59,10 @@ fn counts_have_a_form(rt: HostRuntime) -> Result<(), Fail> {
     for (line, told) in [
         ("count", Some((1, 64, 4096))),
         ("count --workers 2 --task=1", Some((2, 1, 4096))),
-        ("count --pages=1 --task 16777216 --workers 8", Some((8, 16777216, 1))),
+        (
+            "count --pages=1 --task 16777216 --workers 8",
+            Some((8, 16777216, 1)),
+        ),
         ("count --workers 0", None),
         ("count --workers 9", None),
         ("count --task=16777217", None),
@@ -86,9 +90,18 @@ fn counts_have_a_form(rt: HostRuntime) -> Result<(), Fail> {
 fn generated_scripts_are_summed_up(rt: HostRuntime) -> Result<(), Fail> {
     let alloc = rt.alloc();
     for (line, text) in [
-        ("gen 0", "calls 2\nmoved 0\npages free 63 region 0 control 1\n"),
-        ("gen 1", "calls 13\nmoved 1\npages free 63 region 0 control 1\n"),
-        ("gen 3", "calls 32\nmoved 4\npages free 63 region 0 control 1\n"),
+        (
+            "gen 0",
+            "calls 2\nmoved 0\npages free 63 region 0 control 1\n",
+        ),
+        (
+            "gen 1",
+            "calls 13\nmoved 1\npages free 63 region 0 control 1\n",
+        ),
+        (
+            "gen 3",
+            "calls 32\nmoved 4\npages free 63 region 0 control 1\n",
+        ),
     ] {
         let args = words_of(alloc, line)?;
         // A generated script reads nothing: the source's first call would fail.
@@ -96,7 +109,11 @@ fn generated_scripts_are_summed_up(rt: HostRuntime) -> Result<(), Fail> {
         let mut source = MemorySource::new(Vec::new(alloc), 5, fails);
         let mut sink = MemorySink::new(alloc, 100, Vec::new(alloc))?;
         let mut kept = Kept::Nothing;
-        assert_eq!(rt; plain(alloc, &args, &mut source, &mut sink, &mut kept), 0, "{line}");
+        assert_eq!(rt;
+            plain(alloc, &args, &mut source, &mut sink, &mut kept),
+            0,
+            "{line}"
+        );
         assert_eq!(rt; sink.written(), text.as_bytes(), "{line}");
         let Kept::Alone(core) = kept else {
             panic!(rt; "no heap was kept");

@@ -10,5 +10,5 @@ returns-clause-runs c = record {
   turns = λ state stands recorded. let turned = c.step-stepped.ensures.turns state stands in (turned.0, turned.1, turned.2, turned.3 recorded);
   lawful = c.step-stepped.ensures.lawful;
   packed = packed_after c.args.line.thread c.args.line.call c.step-stepped.result
-  (held_of c.step-stepped.new.self.map c.step-stepped.new.self.words.words.items) c.step-stepped.ensures.packed;
+      (held_of c.step-stepped.new.self.map c.step-stepped.new.self.words.words.items) c.step-stepped.ensures.packed;
 }
