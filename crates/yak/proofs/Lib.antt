@@ -1,2 +1,6 @@
-pub mod Runs
-pub mod Unbuilt
+pub mod Decimals
+pub mod Settings
+pub mod Words
+pub mod Rounds
+pub mod Told
+pub mod Statuses

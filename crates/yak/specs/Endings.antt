@@ -1,5 +1,5 @@
 -- How a run of the program ends: its status, what the status says of the words and of the input, and what is written.
-use Rattle.std.specs.Prelude.{◌≡◌, ◌<◌, ◌≤◌, ℕ, List, [], ◌∷◌, ◌++◌, length, codes, Option, Some, None, IfSome}
+use Rattle.std.specs.Prelude.{◌≡◌, ◌<◌, ◌≤◌, ◌⊎◌, ℕ, List, [], ◌++◌, length, codes, Option, Some, None, IfSome}
 use Rattle.std.specs.Io.KnownBytes.{Appends}
 use Rattle.yak_io.specs.Causes.{Rose}
 use Rattle.yak_io.specs.Transfers.{TookAll, TookFront}
@@ -9,16 +9,17 @@ use Rattle.script_text.specs.Contents.{Contents}
 use Rattle.script_text.specs.Reasons.{bad_text}
 use Rattle.yak.specs.declared.endings.Status.{Status}
 use Rattle.yak.specs.declared.endings.Status.TheVariants.{Done, Usage, Refused, ReadFault, WriteFault, NoMemory, TooLarge}
-use Rattle.yak.specs.Built.{IsBuiltScript, IsRefused}
-use Rattle.yak.specs.Replays.{Held, IsRun}
+use Rattle.object_layout.specs.declared.replies.Reply.{Reply}
+use Rattle.script_text.specs.Printing.{script_text}
+use Rattle.script_text.specs.Scripts.{IsScript, IsBad}
+use Rattle.script_runner.specs.Runs.{Held, IsRun}
+use Rattle.yak.specs.Forms.{IsAsked, IsGen, IsReplay}
+use Rattle.yak.specs.Generator.{generated}
+use Rattle.yak.specs.Texts.{replies_text, summary}
 
--- the words ask for a replay
-abbrev pub IsReplay : List (List ℕ) → Type 0
-IsReplay words = words ≡ codes "replay" ∷ []
-
--- what is written for words of no stated form
+-- what is written for words of no form that is answered
 abbrev pub usage_line : List ℕ
-usage_line = codes "usage: yak replay\n"
+usage_line = codes "usage: yak replay | threads | count [--workers n] [--task lines] [--pages p] | gen n\n"
 
 -- what a source tells before and after a run, and its counts of faults
 pub record Input : Type 0 where
@@ -51,20 +52,29 @@ pub record IsInput (input : Input) (bytes : List ℕ) : Type 0 where
 abbrev pub IsTooLarge : Input → Type 0
 IsTooLarge input = IfSome input.before (λ told. INPUT_LIMIT < length told)
 
--- the bytes are a script of built commands, which ran, wrote this text and left this heap
+-- the bytes are a script, which ran and left this heap, and the text tells the replies
 pub record Replays (bytes text : List ℕ) (held : Held) : Type 0 where
   pub script : Contents
-  pub read : IsBuiltScript bytes script
-  pub run : IsRun script.heap script.lines text held
+  pub replies : List Reply
+  pub read : IsScript bytes script
+  pub run : IsRun script.heap script.lines replies held
+  pub written : text ≡ replies_text script.lines replies
+
+-- the script of so many rounds was printed, read again and run, and left this heap, and the text sums up the replies
+pub record Generates (rounds : ℕ) (text : List ℕ) (held : Held) : Type 0 where
+  pub replies : List Reply
+  pub read : IsScript (script_text (generated rounds)) (generated rounds)
+  pub run : IsRun (generated rounds).heap (generated rounds).lines replies held
+  pub written : text ≡ summary (generated rounds).lines replies
 
 -- the line that tells the first bad line of a text and its reason
 abbrev pub refusal_line : Bad → List ℕ
 refusal_line bad = bad_text bad ++ codes "\n"
 
--- the bytes are no script of built commands, and this text tells why
+-- the bytes are no script, and this text tells why
 pub record Refuses (bytes text : List ℕ) : Type 0 where
   pub bad : Bad
-  pub refused : IsRefused bytes bad
+  pub refused : IsBad bytes bad
   pub line : text ≡ refusal_line bad
 
 -- what is kept of a heap, where any is: nothing but after a replay
@@ -81,6 +91,16 @@ comes_to ReadFault bytes text kept = ⊥
 comes_to WriteFault bytes text kept = ⊥
 comes_to TooLarge bytes text kept = ⊥
 
+-- what the generated script of so many rounds comes to
+abbrev pub generates : Status → ℕ → List ℕ → Option Held → Type 0
+generates Done rounds text kept = (held : Held) × (kept ≡ Some held) × Generates rounds text held
+generates NoMemory rounds text kept = (text ≡ []) × KeepsNothing kept
+generates Refused rounds text kept = ⊥
+generates Usage rounds text kept = ⊥
+generates ReadFault rounds text kept = ⊥
+generates WriteFault rounds text kept = ⊥
+generates TooLarge rounds text kept = ⊥
+
 -- why an input gave no bytes to read
 abbrev pub gives_none : Status → Input → Type 0
 gives_none ReadFault input = Rose input.faults_before input.faults_after
@@ -93,8 +113,10 @@ gives_none WriteFault input = ⊥
 
 -- what a status says of the words and of the input, the text that belongs to it, and the heap that is kept
 abbrev pub belongs : Status → List (List ℕ) → Input → List ℕ → Option Held → Type 0
-belongs Done words input text kept = IsReplay words × ((bytes : List ℕ) × IsInput input bytes × ((held : Held) × (kept ≡ Some held) × Replays bytes text held))
-belongs Usage words input text kept = (IsReplay words → ⊥) × (text ≡ usage_line) × KeepsNothing kept
+belongs Done words input text kept =
+    (IsReplay words × ((bytes : List ℕ) × IsInput input bytes × ((held : Held) × (kept ≡ Some held) × Replays bytes text held)))
+    ⊎ ((rounds : ℕ) × IsGen words rounds × ((held : Held) × (kept ≡ Some held) × Generates rounds text held))
+belongs Usage words input text kept = (IsAsked words → ⊥) × (text ≡ usage_line) × KeepsNothing kept
 belongs Refused words input text kept = IsReplay words × ((bytes : List ℕ) × IsInput input bytes × Refuses bytes text) × KeepsNothing kept
 belongs ReadFault words input text kept = IsReplay words × Rose input.faults_before input.faults_after × (text ≡ []) × KeepsNothing kept
 belongs WriteFault words input text kept = ⊥
@@ -136,14 +158,18 @@ number_of TooLarge = 6
 abbrev pub EndsAs : ℕ → List (List ℕ) → Input → Output → Option Held → Type 0
 EndsAs number words input output kept = (status : Status) × (number ≡ number_of status) × ends status words input output kept
 
--- the headline: the input is a script of built commands, the replies to its calls were written, and the heap is kept
+-- the headline: the input is a script, the replies to its calls were written, and the heap is kept
 abbrev pub EndsReplayed : Input → Output → Option Held → Type 0
 EndsReplayed input output kept =
     (bytes : List ℕ) × IsInput input bytes × ((text : List ℕ) × (held : Held) × (kept ≡ Some held) × Replays bytes text held × Appends output.before output.after text)
 
--- the input is no script of built commands, and the line that tells why was written
+-- the input is no script, and the line that tells why was written
 abbrev pub EndsRefused : Input → Output → Type 0
 EndsRefused input output = (bytes : List ℕ) × IsInput input bytes × ((text : List ℕ) × Refuses bytes text × Appends output.before output.after text)
+
+-- the generated script of so many rounds ran, its summary was written, and the heap is kept
+abbrev pub EndsGenerated : ℕ → Output → Option Held → Type 0
+EndsGenerated rounds output kept = (text : List ℕ) × (held : Held) × (kept ≡ Some held) × Generates rounds text held × Appends output.before output.after text
 
 -- nothing is written
 abbrev pub WritesNothing : Output → Type 0

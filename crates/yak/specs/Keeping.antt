@@ -3,7 +3,7 @@ use Rattle.std.specs.Prelude.{ℕ, List, Option, Some, None}
 use Rattle.heap_words.specs.declared.memory.Image.{Image}
 use Rattle.yak.specs.declared.plain.Kept.{Kept}
 use Rattle.yak.specs.declared.plain.Kept.TheVariants.{Nothing, Alone}
-use Rattle.yak.specs.Replays.{Held, held_of}
+use Rattle.script_runner.specs.Runs.{Held, held_of}
 
 -- the map and the words of the heap that is kept, if one is
 abbrev pub held_by : (Image → List ℕ) → Kept → Option Held

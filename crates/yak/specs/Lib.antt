@@ -1,5 +1,6 @@
--- Scripts of built commands, what running them gives, and how a run of the program ends.
-pub mod Built
-pub mod Replays
+-- What words ask for, what that gives, and how a run of the program ends.
+pub mod Forms
+pub mod Generator
+pub mod Texts
 pub mod Endings
 pub mod Keeping

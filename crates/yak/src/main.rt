@@ -1,10 +1,12 @@
 //! Replays a script of calls on a heap, and writes a line for each reply.
 #![tactic(auto)]
 
-mod built;
 mod endings;
+mod forms;
+mod generator;
+mod numbers;
 mod plain;
-mod replay;
+mod summaries;
 #[cfg(test)]
 mod tests;
 

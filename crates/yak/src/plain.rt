@@ -1,19 +1,24 @@
 //! The top call.
-ghost use Rattle.std.specs.Prelude.{◌≡◌, ◌≢◌, ◌↔◌, ◌≤◌, ◌<◌, ◌⊎◌, ℕ, List, [], None, Option, map, codes, IfOk, IfErr, IfSome, IsTrue, length, string_bytes};
+ghost use Rattle.std.specs.Prelude.{◌≡◌, ◌≢◌, ◌≤◌, ◌<◌, ◌⊎◌, ℕ, List, [], None, Option, map, codes, Some, IfOk, IfErr, OnErr, IfSome, length, string_bytes};
 ghost use Rattle.std.specs.Io.KnownBytes.{Appends};
 ghost use Rattle.script_text.specs.Contents.{Contents};
 ghost use Rattle.yak_io.specs.Causes.{Rose};
-ghost use Rattle.yak.specs.Built.{IsBuiltScript, IsRefused};
+ghost use Rattle.script_text.specs.Scripts.{IsBad, IsScript};
+ghost use Rattle.yak.specs.Forms.{IsAsked, IsGen, IsReplay};
 ghost use Rattle.script_text.specs.declared.faults.Bad.{Bad};
+ghost use Rattle.script_runner.specs.Runs.{held_of};
 ghost use Rattle.yak.specs.Keeping.{held_by};
-ghost use Rattle.yak.specs.Endings.{IsReplay, usage_line, input_of, output_of, IsInput, refusal_line, KeepsNothing, comes_to, gives_none, belongs, ends, EndsAs, EndsCut, EndsReplayed, EndsRefused, IsFaultless, Input};
+ghost use Rattle.yak.specs.Endings.{usage_line, input_of, output_of, IsInput, refusal_line, KeepsNothing, comes_to, generates, gives_none, belongs, ends, EndsAs, EndsCut, EndsGenerated, EndsReplayed, EndsRefused, IsFaultless, Input};
 
-use crate::built::read_built;
 use crate::endings::Status;
-use crate::replay::replay;
+use crate::forms::{Form, MAX_ROUNDS, read_form};
+use crate::generator::generated_script;
+use crate::summaries::{reply_lines, summed_up};
 use heap_core::Core;
 use heap_words::{Image, Words};
-use script_text::{Bad, INPUT_LIMIT, ReadError};
+use object_layout::NoMemory;
+use script_runner::replay;
+use script_text::{Bad, INPUT_LIMIT, ReadError, law_script_or_refusal, read_script};
 use std::alloc::{AllocError, Global};
 use yak_io::{ReadAllError, Sink, Source, read_all, write_all};
 
@@ -26,13 +31,8 @@ pub enum Kept {
     Alone(Core<Image>),
 }
 
-const USAGE: &[u8] = b"usage: yak replay\n";
-
-fn is_replay(args: &[String]) -> bool
-    ensures { IsTrue result ↔ IsReplay (map string_bytes args.now) }
-{
-    args.len() == 1 && args[0].as_str() == "replay"
-}
+const USAGE: &[u8] =
+    b"usage: yak replay | threads | count [--workers n] [--task lines] [--pages p] | gen n\n";
 
 /// The whole input, or why there is none.
 fn read_input<S: Source>(alloc: Global, source: &mut S) -> Result<Vec<u8>, Status>
@@ -77,29 +77,60 @@ fn refusal(alloc: Global, bad: Bad) -> Result<Vec<u8>, AllocError>
     Ok(line.into_bytes())
 }
 
+/// A run that wrote a text and left a heap.
+fn done(alloc: Global, text: Result<Vec<u8>, NoMemory>, core: Core<Image>) -> Prepared
+    ensures done { IfOk text (λ bytes. (result.status ≡ Status.Done) × (result.text.items ≡ bytes.items) × (held_by ⟦<Image as Words>⟧.words result.kept ≡ Some (held_of core.map (⟦<Image as Words>⟧.words core.words)))) }
+    ensures none { OnErr text ((result.status ≡ Status.NoMemory) × (result.text.items ≡ []) × (held_by ⟦<Image as Words>⟧.words result.kept ≡ None)) }
+{
+    match text {
+        Ok(text) => Prepared {
+            status: Status::Done,
+            text,
+            kept: Kept::Alone(core),
+        },
+        Err(_) => stopped(alloc, Status::NoMemory),
+    }
+}
+
 /// Reads and runs a text.
 fn answer(alloc: Global, bytes: &[u8]) -> Prepared
     requires { length bytes.now ≤ INPUT_LIMIT }
     ensures { comes_to result.status bytes.now result.text.items (held_by ⟦<Image as Words>⟧.words result.kept) }
 {
-    let script = match read_built(alloc, bytes) {
+    let script = match read_script(alloc, bytes) {
         Ok(script) => script,
         Err(ReadError::Refused(bad)) => return refused(alloc, bad),
         Err(ReadError::Memory) => return stopped(alloc, Status::NoMemory),
     };
     match replay(alloc, &script) {
-        Ok(replayed) => Prepared {
-            status: Status::Done,
-            text: replayed.text,
-            kept: Kept::Alone(replayed.core),
-        },
+        Ok(replayed) => {
+            let text = reply_lines(alloc, &script.lines, &replayed.replies);
+            done(alloc, text, replayed.core)
+        }
+        Err(_) => stopped(alloc, Status::NoMemory),
+    }
+}
+
+/// Makes, reads and runs the script of so many rounds.
+fn generate(alloc: Global, rounds: u32) -> Prepared
+    requires { rounds ≤ MAX_ROUNDS }
+    ensures { generates result.status rounds result.text.items (held_by ⟦<Image as Words>⟧.words result.kept) }
+{
+    let Ok(script) = generated_script(alloc, rounds) else {
+        return stopped(alloc, Status::NoMemory);
+    };
+    match replay(alloc, &script) {
+        Ok(replayed) => {
+            let text = summed_up(alloc, &script.lines, &replayed.replies);
+            done(alloc, text, replayed.core)
+        }
         Err(_) => stopped(alloc, Status::NoMemory),
     }
 }
 
 /// A run that is refused for a bad line.
 fn refused(alloc: Global, bad: Bad) -> Prepared
-    ensures { (bytes : List ℕ) → IsRefused bytes bad → comes_to result.status bytes result.text.items (held_by ⟦<Image as Words>⟧.words result.kept) }
+    ensures { (bytes : List ℕ) → IsBad bytes bad → comes_to result.status bytes result.text.items (held_by ⟦<Image as Words>⟧.words result.kept) }
 {
     match refusal(alloc, bad) {
         Ok(text) => Prepared {
@@ -111,9 +142,9 @@ fn refused(alloc: Global, bad: Bad) -> Prepared
     }
 }
 
-/// A run whose words are of no stated form.
+/// A run whose words are of no form that is answered.
 fn usage(alloc: Global) -> Prepared
-    ensures { (words : List (List ℕ)) (input : Input) → (IsReplay words → ⊥) → belongs result.status words input result.text.items (held_by ⟦<Image as Words>⟧.words result.kept) }
+    ensures { (words : List (List ℕ)) (input : Input) → (IsAsked words → ⊥) → belongs result.status words input result.text.items (held_by ⟦<Image as Words>⟧.words result.kept) }
 {
     match Vec::from_slice(alloc, USAGE) {
         Ok(text) => Prepared {
@@ -128,20 +159,22 @@ fn usage(alloc: Global) -> Prepared
 /// Does all but the writing.
 fn prepare<S: Source>(alloc: Global, args: &[String], source: &mut S) -> Prepared
     ensures later { S.faults source.old ≤ S.faults source.new }
+    ensures unread { (IsReplay (map string_bytes args.now) → ⊥) → source.new ≡ source.old }
     ensures text { belongs result.status (map string_bytes args.now)
         (input_of (S.left source.old) (S.left source.new) (S.faults source.old) (S.faults source.new)) result.text.items (held_by ⟦<Image as Words>⟧.words result.kept) }
 {
-    if !is_replay(args) {
-        return usage(alloc);
-    }
-    match read_input(alloc, source) {
-        Ok(bytes) => answer(alloc, &bytes),
-        Err(status) => stopped(alloc, status),
+    match read_form(args) {
+        Some(Form::Replay) => match read_input(alloc, source) {
+            Ok(bytes) => answer(alloc, &bytes),
+            Err(status) => stopped(alloc, status),
+        },
+        Some(Form::Gen(rounds)) => generate(alloc, rounds),
+        _ => usage(alloc),
     }
 }
 
 /// Runs what the words ask for, and says how that ended.
-fn ended<S: Source, K: Sink>(
+fn written<S: Source, K: Sink>(
     alloc: Global,
     args: &[String],
     source: &mut S,
@@ -149,6 +182,7 @@ fn ended<S: Source, K: Sink>(
     kept: &mut Kept,
 ) -> Status
     requires { KeepsNothing (held_by ⟦<Image as Words>⟧.words kept.old) }
+    ensures unread { (IsReplay (map string_bytes args.now) → ⊥) → source.new ≡ source.old }
     ensures ends { ends result (map string_bytes args.now)
         (input_of (S.left source.old) (S.left source.new) (S.faults source.old) (S.faults source.new))
         (output_of (K.written sink.old) (K.written sink.new) (K.faults sink.old) (K.faults sink.new)) (held_by ⟦<Image as Words>⟧.words kept.new) }
@@ -161,11 +195,40 @@ fn ended<S: Source, K: Sink>(
     prepared.status
 }
 
+/// The same, with what it tells of words, inputs and outputs of each kind.
+fn ended<S: Source, K: Sink>(
+    alloc: Global,
+    args: &[String],
+    source: &mut S,
+    sink: &mut K,
+    kept: &mut Kept,
+) -> Status
+    requires { KeepsNothing (held_by ⟦<Image as Words>⟧.words kept.old) }
+    ensures unread { (IsReplay (map string_bytes args.now) → ⊥) → source.new ≡ source.old }
+    ensures ends { ends result (map string_bytes args.now)
+        (input_of (S.left source.old) (S.left source.new) (S.faults source.old) (S.faults source.new))
+        (output_of (K.written sink.old) (K.written sink.new) (K.faults sink.old) (K.faults sink.new)) (held_by ⟦<Image as Words>⟧.words kept.new) }
+    ensures generates { (rounds : ℕ) → IsGen (map string_bytes args.now) rounds → result ≡ Status.Done → EndsGenerated rounds
+        (output_of (K.written sink.old) (K.written sink.new) (K.faults sink.old) (K.faults sink.new)) (held_by ⟦<Image as Words>⟧.words kept.new) }
+    ensures other_words { (IsAsked (map string_bytes args.now) → ⊥) → (result ≡ Status.Usage) ⊎ (result ≡ Status.WriteFault) ⊎ (result ≡ Status.NoMemory) }
+    ensures every_script { (bytes : List ℕ) (script : Contents) → IsFaultless (map string_bytes args.now)
+        (input_of (S.left source.old) (S.left source.new) (S.faults source.old) (S.faults source.new))
+        (output_of (K.written sink.old) (K.written sink.new) (K.faults sink.old) (K.faults sink.new)) bytes → length bytes ≤ INPUT_LIMIT → IsScript bytes script → (result ≡ Status.Done) ⊎ (result ≡ Status.NoMemory) }
+    ensures every_refusal { (bytes : List ℕ) (bad : Bad) → IsFaultless (map string_bytes args.now)
+        (input_of (S.left source.old) (S.left source.new) (S.faults source.old) (S.faults source.new))
+        (output_of (K.written sink.old) (K.written sink.new) (K.faults sink.old) (K.faults sink.new)) bytes → length bytes ≤ INPUT_LIMIT → IsBad bytes bad → (result ≡ Status.Refused) ⊎ (result ≡ Status.NoMemory) }
+    ensures every_gen { (rounds : ℕ) → IsGen (map string_bytes args.now) rounds → (Rose (K.faults sink.old) (K.faults sink.new) → ⊥) → (result ≡ Status.Done) ⊎ (result ≡ Status.NoMemory) }
+{
+    law_script_or_refusal();
+    written(alloc, args, source, sink, kept)
+}
+
 /// Does what the words ask for, and gives the number of the status with which that ended.
 ///
-/// The one form of words is `replay`: the source's bytes are read as a script and run, and a line is written for the reply
-/// to each command. Nothing may be kept at the call; afterwards the heap is kept where the status is 0. All output is made
-/// in memory before the first byte is written. `docs/FORMAT.md` has the statuses.
+/// `replay` reads the source's bytes as a script and runs it, and writes a line for the reply to each command. `gen n` makes
+/// a script of n rounds as bytes, runs it in the same way, and writes a summary of the replies. Other words get the usage
+/// line. Nothing may be kept at the call; afterwards the heap is kept where the status is 0. All output is made in memory
+/// before the first byte is written. `docs/FORMAT.md` has the forms and the statuses.
 pub fn plain<S: Source, K: Sink>(
     alloc: Global,
     args: &[String],
@@ -177,28 +240,32 @@ pub fn plain<S: Source, K: Sink>(
     ensures ending { EndsAs result (map string_bytes args.now)
         (input_of (S.left source.old) (S.left source.new) (S.faults source.old) (S.faults source.new))
         (output_of (K.written sink.old) (K.written sink.new) (K.faults sink.old) (K.faults sink.new)) (held_by ⟦<Image as Words>⟧.words kept.new) }
-    ensures replays { result ≡ 0 → EndsReplayed
+    ensures replays { IsReplay (map string_bytes args.now) → result ≡ 0 → EndsReplayed
         (input_of (S.left source.old) (S.left source.new) (S.faults source.old) (S.faults source.new))
         (output_of (K.written sink.old) (K.written sink.new) (K.faults sink.old) (K.faults sink.new)) (held_by ⟦<Image as Words>⟧.words kept.new) }
-    ensures usage { result ≡ 1 → (IsReplay (map string_bytes args.now) → ⊥) × Appends (K.written sink.old) (K.written sink.new) usage_line }
-    ensures refused { result ≡ 2 → EndsRefused
+    ensures generates { (rounds : ℕ) → IsGen (map string_bytes args.now) rounds → result ≡ 0 → EndsGenerated rounds
+        (output_of (K.written sink.old) (K.written sink.new) (K.faults sink.old) (K.faults sink.new)) (held_by ⟦<Image as Words>⟧.words kept.new) }
+    ensures unread { (IsReplay (map string_bytes args.now) → ⊥) → source.new ≡ source.old }
+    ensures usage { result ≡ 1 → (IsAsked (map string_bytes args.now) → ⊥) × Appends (K.written sink.old) (K.written sink.new) usage_line }
+    ensures refused { result ≡ 2 → IsReplay (map string_bytes args.now) × EndsRefused
         (input_of (S.left source.old) (S.left source.new) (S.faults source.old) (S.faults source.new))
         (output_of (K.written sink.old) (K.written sink.new) (K.faults sink.old) (K.faults sink.new)) }
-    ensures read_fault { result ≡ 3 → Rose (S.faults source.old) (S.faults source.new) × Appends (K.written sink.old) (K.written sink.new) [] }
+    ensures read_fault { result ≡ 3 → IsReplay (map string_bytes args.now) × Rose (S.faults source.old) (S.faults source.new) × Appends (K.written sink.old) (K.written sink.new) [] }
     ensures write_fault { result ≡ 4 → Rose (K.faults sink.old) (K.faults sink.new) }
     ensures cut { result ≡ 4 → EndsCut (map string_bytes args.now)
         (input_of (S.left source.old) (S.left source.new) (S.faults source.old) (S.faults source.new))
         (output_of (K.written sink.old) (K.written sink.new) (K.faults sink.old) (K.faults sink.new)) }
     ensures no_memory { result ≡ 5 → Appends (K.written sink.old) (K.written sink.new) [] }
-    ensures too_large { result ≡ 6 → IfSome (S.left source.old) (λ told. INPUT_LIMIT < length told) × Appends (K.written sink.old) (K.written sink.new) [] }
+    ensures too_large { result ≡ 6 → IsReplay (map string_bytes args.now) × IfSome (S.left source.old) (λ told. INPUT_LIMIT < length told) × Appends (K.written sink.old) (K.written sink.new) [] }
     ensures kept { result ≢ 0 → KeepsNothing (held_by ⟦<Image as Words>⟧.words kept.new) }
-    ensures other_words { (IsReplay (map string_bytes args.now) → ⊥) → (result ≡ 1) ⊎ (result ≡ 4) ⊎ (result ≡ 5) }
+    ensures other_words { (IsAsked (map string_bytes args.now) → ⊥) → (result ≡ 1) ⊎ (result ≡ 4) ⊎ (result ≡ 5) }
     ensures every_script { (bytes : List ℕ) (script : Contents) → IsFaultless (map string_bytes args.now)
         (input_of (S.left source.old) (S.left source.new) (S.faults source.old) (S.faults source.new))
-        (output_of (K.written sink.old) (K.written sink.new) (K.faults sink.old) (K.faults sink.new)) bytes → length bytes ≤ INPUT_LIMIT → IsBuiltScript bytes script → (result ≡ 0) ⊎ (result ≡ 5) }
+        (output_of (K.written sink.old) (K.written sink.new) (K.faults sink.old) (K.faults sink.new)) bytes → length bytes ≤ INPUT_LIMIT → IsScript bytes script → (result ≡ 0) ⊎ (result ≡ 5) }
     ensures every_refusal { (bytes : List ℕ) (bad : Bad) → IsFaultless (map string_bytes args.now)
         (input_of (S.left source.old) (S.left source.new) (S.faults source.old) (S.faults source.new))
-        (output_of (K.written sink.old) (K.written sink.new) (K.faults sink.old) (K.faults sink.new)) bytes → length bytes ≤ INPUT_LIMIT → IsRefused bytes bad → (result ≡ 2) ⊎ (result ≡ 5) }
+        (output_of (K.written sink.old) (K.written sink.new) (K.faults sink.old) (K.faults sink.new)) bytes → length bytes ≤ INPUT_LIMIT → IsBad bytes bad → (result ≡ 2) ⊎ (result ≡ 5) }
+    ensures every_gen { (rounds : ℕ) → IsGen (map string_bytes args.now) rounds → (Rose (K.faults sink.old) (K.faults sink.new) → ⊥) → (result ≡ 0) ⊎ (result ≡ 5) }
     ensures every_excess { (bytes : List ℕ) → IsFaultless (map string_bytes args.now)
         (input_of (S.left source.old) (S.left source.new) (S.faults source.old) (S.faults source.new))
         (output_of (K.written sink.old) (K.written sink.new) (K.faults sink.old) (K.faults sink.new)) bytes → INPUT_LIMIT < length bytes → (result ≡ 6) ⊎ (result ≡ 5) }

@@ -1,3 +1,4 @@
+use crate::forms::{Form, read_form};
 use crate::plain::{Kept, plain};
 use object_layout::{Call, Reply};
 use std::alloc::{AllocError, Global};
@@ -6,27 +7,118 @@ use yak_io::{MemorySink, MemorySource, SureSource};
 
 const FIRST_PATH: &[u8] = b"heap 4 1\n1 int 7\n1 get 1\n";
 
-// The words of a replay.
-fn replay_words(alloc: Global) -> Result<Vec<String>, AllocError> {
+const USAGE: &[u8] =
+    b"usage: yak replay | threads | count [--workers n] [--task lines] [--pages p] | gen n\n";
+
+// The words of a line.
+fn words_of(alloc: Global, line: &str) -> Result<Vec<String>, AllocError> {
     let mut words = Vec::new(alloc);
-    words.push(String::from_str(alloc, "replay")?)?;
+    for word in line.split_whitespace() {
+        words.push(String::from_str(alloc, word)?)?;
+    }
     Ok(words)
 }
 
 #[test]
 fn other_words_give_the_usage_line(rt: HostRuntime) -> Result<(), Fail> {
     let alloc = rt.alloc();
-    let mut args = Vec::new(alloc);
-    // No words, `replay` alone, and `replay x`.
-    for (next, status) in [("replay", 1), ("x", 0), ("y", 1)] {
+    for (line, status) in [
+        ("", 1),
+        ("replay", 0),
+        ("replay x", 1),
+        ("Replay", 1),
+        ("repla", 1),
+        ("--", 1),
+        ("help", 1),
+        ("--help", 1),
+        ("--version", 1),
+        ("gen", 1),
+        ("gen 100001", 1),
+        ("gen 01", 1),
+        ("gen +1", 1),
+        ("gen 1 1", 1),
+        ("threads", 1),
+        ("count", 1),
+        ("count --workers 2 --task=1", 1),
+    ] {
+        let args = words_of(alloc, line)?;
         let mut source = SureSource::new(Vec::from_slice(alloc, FIRST_PATH)?);
         let mut sink = MemorySink::new(alloc, 100, Vec::new(alloc))?;
         let mut kept = Kept::Nothing;
         let ended = plain(alloc, &args, &mut source, &mut sink, &mut kept);
-        assert_eq!(rt; ended, status, "before {next}");
-        let is_usage = sink.written() == b"usage: yak replay\n".as_slice();
-        assert_eq!(rt; is_usage, status == 1, "before {next}");
-        args.push(String::from_str(alloc, next)?)?;
+        assert_eq!(rt; ended, status, "{line}");
+        let is_usage = sink.written() == USAGE;
+        assert_eq!(rt; is_usage, status == 1, "{line}");
+    }
+    Ok(())
+}
+
+#[test]
+fn counts_have_a_form(rt: HostRuntime) -> Result<(), Fail> {
+    let alloc = rt.alloc();
+    for (line, told) in [
+        ("count", Some((1, 64, 4096))),
+        ("count --workers 2 --task=1", Some((2, 1, 4096))),
+        (
+            "count --pages=1 --task 16777216 --workers 8",
+            Some((8, 16777216, 1)),
+        ),
+        ("count --workers 0", None),
+        ("count --workers 9", None),
+        ("count --task=16777217", None),
+        ("count --pages 4097", None),
+        ("count --task", None),
+        ("count --task=", None),
+        ("count --task = 1", None),
+        ("count --task=1 --task 1", None),
+        ("count --task=01", None),
+        ("count --work 1", None),
+        ("count 1", None),
+        ("count --workers 1 --", None),
+    ] {
+        let args = words_of(alloc, line)?;
+        let found = match read_form(&args) {
+            Some(Form::Count(options)) => Some((options.workers, options.task, options.pages)),
+            _ => None,
+        };
+        assert!(rt; found == told, "{line}");
+    }
+    Ok(())
+}
+
+#[test]
+fn generated_scripts_are_summed_up(rt: HostRuntime) -> Result<(), Fail> {
+    let alloc = rt.alloc();
+    for (line, text) in [
+        (
+            "gen 0",
+            "calls 2\nmoved 0\npages free 63 region 0 control 1\n",
+        ),
+        (
+            "gen 1",
+            "calls 13\nmoved 1\npages free 63 region 0 control 1\n",
+        ),
+        (
+            "gen 3",
+            "calls 32\nmoved 4\npages free 63 region 0 control 1\n",
+        ),
+    ] {
+        let args = words_of(alloc, line)?;
+        // A generated script reads nothing: the source's first call would fail.
+        let fails = Vec::from_slice(alloc, &[1])?;
+        let mut source = MemorySource::new(Vec::new(alloc), 5, fails);
+        let mut sink = MemorySink::new(alloc, 100, Vec::new(alloc))?;
+        let mut kept = Kept::Nothing;
+        assert_eq!(rt;
+            plain(alloc, &args, &mut source, &mut sink, &mut kept),
+            0,
+            "{line}"
+        );
+        assert_eq!(rt; sink.written(), text.as_bytes(), "{line}");
+        let Kept::Alone(core) = kept else {
+            panic!(rt; "no heap was kept");
+        };
+        assert_eq!(rt; (core.pages(), core.threads()), (64, 4), "{line}");
     }
     Ok(())
 }
@@ -34,7 +126,7 @@ fn other_words_give_the_usage_line(rt: HostRuntime) -> Result<(), Fail> {
 #[test]
 fn the_kept_heap_answers_further_calls(rt: HostRuntime) -> Result<(), Fail> {
     let alloc = rt.alloc();
-    let args = replay_words(alloc)?;
+    let args = words_of(alloc, "replay")?;
     let mut source = SureSource::new(Vec::from_slice(alloc, FIRST_PATH)?);
     let mut sink = MemorySink::new(alloc, 100, Vec::new(alloc))?;
     let mut kept = Kept::Nothing;
@@ -52,7 +144,7 @@ fn the_kept_heap_answers_further_calls(rt: HostRuntime) -> Result<(), Fail> {
 #[test]
 fn scripts_are_replayed_or_refused(rt: HostRuntime) -> Result<(), Fail> {
     let alloc = rt.alloc();
-    let args = replay_words(alloc)?;
+    let args = words_of(alloc, "replay")?;
     for (script, status, written) in [
         ("heap 4 1\n1 int 7\n1 get 1\n", 0, "2 ok\n3 int 7\n"),
         ("heap 4 1\n1 int 7\n1 get 1", 0, "2 ok\n3 int 7\n"),
@@ -79,7 +171,7 @@ fn scripts_are_replayed_or_refused(rt: HostRuntime) -> Result<(), Fail> {
         (
             "heap 2 2\n2 new 0\n1 new 234\n1 new 0\n2 dup 1\n2 same 1 2\n2 store 1 0 0\n",
             0,
-            "2 ok\n3 ok\n4 out of heap\n5 ok\n6 yes\n7 bad field\n",
+            "2 ok\n3 ok\n4 ok\n5 ok\n6 yes\n7 bad field\n",
         ),
         (
             "heap 4 1\n1 int 5\n1 load 1 0\n1 load 0 16\n1 get 2\n1 new 254\n1 pop\n1 pop\n1 pop\n1 get 0\n",
@@ -104,12 +196,22 @@ fn scripts_are_replayed_or_refused(rt: HostRuntime) -> Result<(), Fail> {
             0,
             "2 ok\n3 ok\n4 ok\n5 ok\n6 ok\n7 ok\n8 ok\n9 ok\n10 too deep\n",
         ),
-        ("heap 4 1\n1 collect", 2, "line 2: bad command\n"),
-        ("heap 4 1\n1 collect 1", 2, "line 2: bad command\n"),
+        ("heap 4 1\n1 collect", 0, "2 ok\n"),
+        ("heap 4 1\n1 collect 1", 2, "line 2: extra word\n"),
         ("heap 4 1\n2 collect", 2, "line 2: bad thread\n"),
-        ("heap 4 1\n1 collect\n1 in", 2, "line 2: bad command\n"),
-        ("heap 4 1\n1 int\n1 collect", 2, "line 2: missing word\n"),
+        ("heap 4 1\n1 collect\n1 in", 2, "line 3: bad command\n"),
         ("heap 4 9\n1 collect", 2, "line 1: bad header\n"),
+        (
+            "heap 1 1\n1 new 234\n1 new 0\n1 pop\n1 new 0\n",
+            0,
+            "2 ok\n3 out of heap\n4 ok\n5 ok\n",
+        ),
+        (
+            "heap 8 1\n1 begin\n1 new 3\n1 end\n1 get 1\n1 census\n",
+            0,
+            "2 ok\n3 ok\n4 ok moved 1\n5 ref 3\n6 pages free 7 region 0 control 1\n",
+        ),
+        ("heap 4 1\n1 end\n", 0, "2 no epoch\n"),
     ] {
         let mut source = SureSource::new(Vec::from_slice(alloc, script.as_bytes())?);
         let mut sink = MemorySink::new(alloc, 100, Vec::new(alloc))?;
@@ -124,7 +226,7 @@ fn scripts_are_replayed_or_refused(rt: HostRuntime) -> Result<(), Fail> {
 #[test]
 fn faults_and_limits_have_statuses(rt: HostRuntime) -> Result<(), Fail> {
     let alloc = rt.alloc();
-    let args = replay_words(alloc)?;
+    let args = words_of(alloc, "replay")?;
     // The script comes in five pieces, and the sixth call tells its end.
     for failing in 1..=7u32 {
         let fails = Vec::from_slice(alloc, &[failing])?;

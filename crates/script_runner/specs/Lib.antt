@@ -1,0 +1,2 @@
+-- What running a script gives.
+pub mod Runs

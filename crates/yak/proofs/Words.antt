@@ -1,0 +1,99 @@
+-- Forms by their words.
+use Rattle.std.proofs.Common.{◌≡◌, ◌≢◌, ◌≤◌, ℕ, Bool, true, false, List, [], ◌∷◌, Option, Some, None, codes, refl, sym, ap, subst, ◌∙◌}
+use Rattle.std.specs.Prelude.{MatchOption, decimal}
+use Rattle.std.specs.Str.{bytes_eq}
+use Rattle.std.proofs.lemmas.Slice.Eq.{bytes_eq-Decides}
+use Rattle.yak.specs.declared.forms.TheConstants.{MAX_ROUNDS}
+use Rattle.yak.specs.declared.forms.Form.{Form}
+use Rattle.yak.specs.declared.forms.Form.TheVariants.{Replay, Threads, Count, Gen}
+use Rattle.yak.specs.declared.forms.Options.{Options}
+use Rattle.yak.specs.declared.forms.Settings.{Settings}
+use Rattle.yak.specs.Forms.{IsBuiltForm, IsForm, Sets, chosen, unset}
+
+-- the first word of a form
+pub form_word : Form → List ℕ
+form_word Replay = codes "replay"
+form_word Threads = codes "threads"
+form_word (Count options) = codes "count"
+form_word (Gen rounds) = codes "gen"
+
+differ : (a b : List ℕ) → bytes_eq a b ≡ false → a ≡ b → ⊥
+differ a b unlike same = let e : true ≡ false = sym ((bytes_eq-Decides a b).1 same) ∙ unlike in absurd (cc e)
+
+heads : (a b : List ℕ) (xs ys : List (List ℕ)) → a ∷ xs ≡ b ∷ ys → a ≡ b
+heads a b xs ys e = cc e
+
+tails : (a b : List ℕ) (xs ys : List (List ℕ)) → a ∷ xs ≡ b ∷ ys → xs ≡ ys
+tails a b xs ys e = cc e
+
+pub no_words : (form : Form) → IsForm [] form → ⊥
+no_words Replay e = cc e
+no_words Threads e = cc e
+no_words (Count options) h = let e = h.2 in cc e
+no_words (Gen rounds) h = let e = h.1 in cc e
+
+pub first_word : (word : List ℕ) (rest : List (List ℕ)) (form : Form) → IsForm (word ∷ rest) form → word ≡ form_word form
+unfolding form_word
+first_word word rest Replay e = heads _ _ _ _ e
+first_word word rest Threads e = heads _ _ _ _ e
+first_word word rest (Count options) h = heads _ _ _ _ h.2
+first_word word rest (Gen rounds) h = heads _ _ _ _ h.1
+
+-- words of one form ask for the word of no other
+pub same_word : (words : List (List ℕ)) (one other : Form) → IsForm words one → IsForm words other → form_word one ≡ form_word other
+same_word [] one other a b = absurd (no_words one a)
+same_word (word ∷ rest) one other a b = sym (first_word word rest one a) ∙ first_word word rest other b
+
+pub other_word : (word : List ℕ) (rest : List (List ℕ)) → word ≢ codes "replay" → word ≢ codes "threads" → word ≢ codes "gen" → word ≢ codes "count" → (form : Form) → IsForm (word ∷ rest) form → ⊥
+unfolding form_word
+other_word word rest a b c d Replay h = a (first_word word rest Replay h)
+other_word word rest a b c d Threads h = b (first_word word rest Threads h)
+other_word word rest a b c d (Count options) h = d (first_word word rest (Count options) h)
+other_word word rest a b c d (Gen rounds) h = c (first_word word rest (Gen rounds) h)
+
+only : (word : List ℕ) (rest : List (List ℕ)) (wanted : List ℕ) (form : Form) → word ≡ wanted → bytes_eq wanted (form_word form) ≡ false → IsForm (word ∷ rest) form → ⊥
+only word rest wanted form is unlike h = differ wanted (form_word form) unlike (sym is ∙ first_word word rest form h)
+
+not_replay : (word : List ℕ) (rest : List (List ℕ)) → word ≡ codes "replay" → rest ≢ [] → (form : Form) → IsForm (word ∷ rest) form → ⊥
+unfolding form_word
+not_replay word rest is some Replay h = some (tails _ _ _ _ h)
+not_replay word rest is some Threads h = only word rest (codes "replay") Threads is refl h
+not_replay word rest is some (Count options) h = only word rest (codes "replay") (Count options) is refl h
+not_replay word rest is some (Gen rounds) h = only word rest (codes "replay") (Gen rounds) is refl h
+
+not_threads : (word : List ℕ) (rest : List (List ℕ)) → word ≡ codes "threads" → rest ≢ [] → (form : Form) → IsForm (word ∷ rest) form → ⊥
+unfolding form_word
+not_threads word rest is some Replay h = only word rest (codes "threads") Replay is refl h
+not_threads word rest is some Threads h = some (tails _ _ _ _ h)
+not_threads word rest is some (Count options) h = only word rest (codes "threads") (Count options) is refl h
+not_threads word rest is some (Gen rounds) h = only word rest (codes "threads") (Gen rounds) is refl h
+
+pub replay_form : (result : Option Form) (word : List ℕ) (rest : List (List ℕ)) → word ≡ codes "replay" → MatchOption result (rest ≢ []) (λ found. (found ≡ Replay) × (rest ≡ []))
+    → MatchOption result ((form : Form) → IsForm (word ∷ rest) form → ⊥) (λ form. IsForm (word ∷ rest) form)
+replay_form None word rest is some = not_replay word rest is some
+replay_form (Some form) word rest is found = rw found.0 (rw (is, found.1) refl)
+
+pub threads_form : (result : Option Form) (word : List ℕ) (rest : List (List ℕ)) → word ≡ codes "threads" → MatchOption result (rest ≢ []) (λ found. (found ≡ Threads) × (rest ≡ []))
+    → MatchOption result ((form : Form) → IsForm (word ∷ rest) form → ⊥) (λ form. IsForm (word ∷ rest) form)
+threads_form None word rest is some = not_threads word rest is some
+threads_form (Some form) word rest is found = rw found.0 (rw (is, found.1) refl)
+
+pub not_gen : (word : List ℕ) (rest : List (List ℕ)) → word ≡ codes "gen" → ((rounds : ℕ) → rounds ≤ MAX_ROUNDS → rest ≢ decimal rounds ∷ []) → (form : Form) → IsForm (word ∷ rest) form → ⊥
+unfolding form_word
+not_gen word rest is none Replay h = only word rest (codes "gen") Replay is refl h
+not_gen word rest is none Threads h = only word rest (codes "gen") Threads is refl h
+not_gen word rest is none (Count options) h = only word rest (codes "gen") (Count options) is refl h
+not_gen word rest is none (Gen rounds) h = none rounds h.0 (tails _ _ _ _ h.1)
+
+pub gen_form : (word : List ℕ) (rest : List (List ℕ)) (rounds : ℕ) → word ≡ codes "gen" → rounds ≤ MAX_ROUNDS → rest ≡ decimal rounds ∷ [] → IsForm (word ∷ rest) (Gen rounds)
+gen_form word rest rounds is few same = (few, rw (is, same) refl)
+
+pub not_count : (word : List ℕ) (rest : List (List ℕ)) → word ≡ codes "count" → ((settings : Settings) → Sets settings unset rest → ⊥) → (form : Form) → IsForm (word ∷ rest) form → ⊥
+unfolding form_word
+not_count word rest is none Replay h = only word rest (codes "count") Replay is refl h
+not_count word rest is none Threads h = only word rest (codes "count") Threads is refl h
+not_count word rest is none (Count options) h = none h.0 (subst (λ (l : List (List ℕ)). Sets h.0 unset l) (sym (tails _ _ _ _ h.2)) h.3)
+not_count word rest is none (Gen rounds) h = only word rest (codes "count") (Gen rounds) is refl h
+
+pub count_form : (word : List ℕ) (rest : List (List ℕ)) (settings : Settings) (options : Options) → word ≡ codes "count" → Sets settings unset rest → options ≡ chosen settings → IsForm (word ∷ rest) (Count options)
+count_form word rest settings options is sets same = (settings, rest, ap (λ (w : List ℕ). w ∷ rest) is, sets, same)

@@ -1,0 +1,100 @@
+-- The forms of words that are understood, and which of them are answered.
+use Rattle.std.specs.Prelude.{◌≡◌, ◌≤◌, ◌⊎◌, ℕ, List, [], ◌∷◌, ◌++◌, Option, Some, None, codes, decimal}
+use Rattle.object_layout.specs.declared.TheConstants.{MAX_THREADS}
+use Rattle.script_text.specs.declared.TheConstants.{INPUT_LIMIT, MAX_PAGES}
+use Rattle.yak.specs.declared.forms.TheConstants.{MAX_ROUNDS}
+use Rattle.yak.specs.declared.forms.Form.{Form}
+use Rattle.yak.specs.declared.forms.Form.TheVariants.{Replay, Threads, Count, Gen}
+use Rattle.yak.specs.declared.forms.Options.{Options}
+use Rattle.yak.specs.declared.forms.Setting.{Setting}
+use Rattle.yak.specs.declared.forms.Setting.TheVariants.{Workers, Task, Pages}
+use Rattle.yak.specs.declared.forms.Settings.{Settings}
+
+-- ---- the options of a count
+
+-- the word of an option
+abbrev pub setting_word : Setting → List ℕ
+setting_word Workers = codes "--workers"
+setting_word Task = codes "--task"
+setting_word Pages = codes "--pages"
+
+-- the greatest number of an option; the least is 1
+abbrev pub most_of : Setting → ℕ
+most_of Workers = MAX_THREADS
+most_of Task = INPUT_LIMIT
+most_of Pages = MAX_PAGES
+
+-- the number that was told for an option
+abbrev pub told : Setting → Settings → Option ℕ
+told Workers settings = settings.workers
+told Task settings = settings.task
+told Pages settings = settings.pages
+
+-- the settings with this number for an option
+abbrev pub tell : Setting → ℕ → Settings → Settings
+tell Workers number settings = record settings { workers = Some number }
+tell Task number settings = record settings { task = Some number }
+tell Pages number settings = record settings { pages = Some number }
+
+-- no option was told
+abbrev pub unset : Settings
+unset = record { workers = None; task = None; pages = None }
+
+-- a number that an option may have
+pub record IsNumber (setting : Setting) (number : ℕ) : Type 0 where
+  pub some : 1 ≤ number
+  pub few : number ≤ most_of setting
+
+-- one word that tells an option, = and its number
+pub record IsJoined (word : List ℕ) (setting : Setting) (number : ℕ) : Type 0 where
+  pub within : IsNumber setting number
+  pub spelled : word ≡ setting_word setting ++ codes "=" ++ decimal number
+
+-- the words begin with an option and its number, as one word with = or as two words, and this is the rest of them
+abbrev pub IsSetting : List (List ℕ) → Setting → ℕ → List (List ℕ) → Type 0
+IsSetting words setting number rest =
+    ((word : List ℕ) × IsJoined word setting number × (words ≡ word ∷ rest))
+    ⊎ (IsNumber setting number × (words ≡ setting_word setting ∷ decimal number ∷ rest))
+
+-- The words tell options, one after another and each at most once: from the settings before they lead to these.
+pub data Sets (settings : Settings) : Settings → List (List ℕ) → Type 0 where
+  all_told : {before : Settings} {words : List (List ℕ)} → words ≡ [] → settings ≡ before → Sets settings before words
+  one_told : {before : Settings} {words : List (List ℕ)} (setting : Setting) (number : ℕ) (rest : List (List ℕ)) → IsSetting words setting number rest
+      → told setting before ≡ None → Sets settings (tell setting number before) rest → Sets settings before words
+
+-- the number that was told, or else the default
+abbrev pub or_default : Option ℕ → ℕ → ℕ
+or_default None number = number
+or_default (Some number) other = number
+
+-- what a count is made with
+abbrev pub chosen : Settings → Options
+chosen settings = record { workers = or_default settings.workers 1; task = or_default settings.task 64; pages = or_default settings.pages MAX_PAGES }
+
+-- ---- the forms
+
+-- the words are of this form
+abbrev pub IsForm : List (List ℕ) → Form → Type 0
+IsForm words Replay = words ≡ codes "replay" ∷ []
+IsForm words Threads = words ≡ codes "threads" ∷ []
+IsForm words (Count options) = (settings : Settings) × (rest : List (List ℕ)) × (words ≡ codes "count" ∷ rest) × Sets settings unset rest × (options ≡ chosen settings)
+IsForm words (Gen rounds) = (rounds ≤ MAX_ROUNDS) × (words ≡ codes "gen" ∷ decimal rounds ∷ [])
+
+-- a form that is answered: the others get the usage line too
+abbrev pub IsBuiltForm : Form → Type 0
+IsBuiltForm Replay = Unit {0}
+IsBuiltForm Threads = ⊥
+IsBuiltForm (Count options) = ⊥
+IsBuiltForm (Gen rounds) = Unit {0}
+
+-- the words ask for what is answered
+abbrev pub IsAsked : List (List ℕ) → Type 0
+IsAsked words = (form : Form) × IsForm words form × IsBuiltForm form
+
+-- the words ask for a replay
+abbrev pub IsReplay : List (List ℕ) → Type 0
+IsReplay words = IsForm words Replay
+
+-- the words ask for the generated script of so many rounds
+abbrev pub IsGen : List (List ℕ) → ℕ → Type 0
+IsGen words rounds = IsForm words (Gen rounds)

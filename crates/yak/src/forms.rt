@@ -1,0 +1,253 @@
+//! The forms of words that are understood.
+ghost use Rattle.std.specs.Prelude.{◌≡◌, ◌≢◌, ◌≤◌, ◌<◌, ◌++◌, ◌∷◌, ℕ, List, [], None, Some, map, codes, decimal, length, MatchOption, IfSome, string_bytes};
+ghost use Rattle.yak.specs.declared.forms.Form.{Form};
+ghost use Rattle.yak.specs.declared.forms.Setting.{Setting};
+ghost use Rattle.yak.specs.declared.forms.Settings.{Settings};
+ghost use Rattle.yak.specs.Forms.{IsForm, IsJoined, IsSetting, Sets, chosen, most_of, setting_word, tell, told, unset};
+
+use crate::numbers::number_of;
+use object_layout::MAX_THREADS;
+use script_text::{INPUT_LIMIT, MAX_PAGES};
+
+/// The greatest number of rounds of a generated script.
+pub const MAX_ROUNDS: u32 = 100000;
+
+/// What a count is made with.
+#[derive(Clone, Copy, Debug, PartialEq, Eq, Drop)]
+pub struct Options {
+    /// From 1 to `MAX_THREADS`.
+    pub workers: u32,
+    /// Lines of a task, from 1 to `INPUT_LIMIT`.
+    pub task: u32,
+    /// From 1 to `MAX_PAGES`.
+    pub pages: u32,
+}
+
+/// What a list of words asks for.
+#[derive(Clone, Copy, Debug, PartialEq, Eq, Drop)]
+pub enum Form {
+    /// To run a script on one core.
+    Replay,
+    /// To run each thread of a script on a worker of its own.
+    Threads,
+    /// To count the words of a text.
+    Count(Options),
+    /// To run the generated script of so many rounds, at most `MAX_ROUNDS`.
+    Gen(u32),
+}
+
+/// An option of `count`.
+#[derive(Clone, Copy, Debug, PartialEq, Eq, Drop)]
+pub enum Setting {
+    Workers,
+    Task,
+    Pages,
+}
+
+/// The numbers of the options that were read.
+#[derive(Clone, Copy, Debug, PartialEq, Eq, Drop)]
+pub struct Settings {
+    pub workers: Option<u32>,
+    pub task: Option<u32>,
+    pub pages: Option<u32>,
+}
+
+impl Setting {
+    /// The option's word.
+    fn word(self) -> &'static str
+        ensures { result.now ≡ setting_word self }
+    {
+        match self {
+            Setting::Workers => "--workers",
+            Setting::Task => "--task",
+            Setting::Pages => "--pages",
+        }
+    }
+
+    /// The greatest number that it may have.
+    fn most(self) -> u32
+        ensures { result ≡ most_of self }
+    {
+        match self {
+            Setting::Workers => u32::from(MAX_THREADS),
+            Setting::Task => INPUT_LIMIT as u32,
+            Setting::Pages => MAX_PAGES,
+        }
+    }
+}
+
+impl Settings {
+    /// The same with the number of an option, unless it has one already.
+    fn with(self, setting: Setting, number: u32) -> Option<Settings>
+        ensures { MatchOption result (told setting self ≢ None) (λ after. (told setting self ≡ None) × (after ≡ tell setting number self)) }
+    {
+        let number = Some(number);
+        match setting {
+            Setting::Workers if self.workers.is_none() => Some(Settings {
+                workers: number,
+                ..self
+            }),
+            Setting::Task if self.task.is_none() => Some(Settings {
+                task: number,
+                ..self
+            }),
+            Setting::Pages if self.pages.is_none() => Some(Settings {
+                pages: number,
+                ..self
+            }),
+            _ => None,
+        }
+    }
+
+    /// What a count is made with, where what wasn't told has its default.
+    fn chosen(self) -> Options
+        ensures { result ≡ Rattle.yak.specs.Forms.chosen self }
+    {
+        Options {
+            workers: self.workers.unwrap_or(1),
+            task: self.task.unwrap_or(64),
+            pages: self.pages.unwrap_or(MAX_PAGES),
+        }
+    }
+}
+
+/// What stands behind the front of a text.
+fn behind<'a>(text: &'a [u8], front: &[u8]) -> Option<&'a [u8]>
+    ensures { MatchOption result ((rest : List ℕ) → text.now ≢ front.now ++ rest) (λ rest. text.now ≡ front.now ++ rest.now) }
+{
+    let size = front.len();
+    if text.len() < size || &text[..size] != front {
+        return None;
+    }
+    Some(&text[size..])
+}
+
+/// The number of an option that is told in one word, with `=`.
+fn joined(word: &[u8], setting: Setting) -> Option<u32>
+    ensures { MatchOption result ((number : ℕ) → IsJoined word.now setting number → ⊥) (λ number. IsJoined word.now setting number) }
+{
+    let after = behind(word, setting.word().as_bytes())?;
+    let digits = behind(after, b"=")?;
+    let number = number_of(digits, 1, u64::from(setting.most()))?;
+    Some(number as u32)
+}
+
+/// The number of an option that the words begin with, and the words behind it.
+fn split(words: &[String], setting: Setting) -> Option<(u32, &[String])>
+    ensures { MatchOption result
+        ((number : ℕ) (rest : List (List ℕ)) → IsSetting (map string_bytes words.now) setting number rest → ⊥)
+        (λ found. IsSetting (map string_bytes words.now) setting found.0 (map string_bytes found.1.now)) }
+{
+    let (word, rest) = words.split_first()?;
+    if let Some(number) = joined(word.as_bytes(), setting) {
+        return Some((number, rest));
+    }
+    if word.as_str() != setting.word() {
+        return None;
+    }
+    let (digits, after) = rest.split_first()?;
+    let number = number_of(digits.as_bytes(), 1, u64::from(setting.most()))?;
+    Some((number as u32, after))
+}
+
+/// The option that the words begin with, its number, and the words behind it.
+fn next_setting(words: &[String]) -> Option<(Setting, u32, &[String])>
+    ensures { MatchOption result
+        ((setting : Setting) (number : ℕ) (rest : List (List ℕ)) → IsSetting (map string_bytes words.now) setting number rest → ⊥)
+        (λ found. IsSetting (map string_bytes words.now) found.0 found.1 (map string_bytes found.2.now)) }
+{
+    if let Some((number, rest)) = split(words, Setting::Workers) {
+        return Some((Setting::Workers, number, rest));
+    }
+    if let Some((number, rest)) = split(words, Setting::Task) {
+        return Some((Setting::Task, number, rest));
+    }
+    match split(words, Setting::Pages) {
+        Some((number, rest)) => Some((Setting::Pages, number, rest)),
+        None => None,
+    }
+}
+
+/// The numbers of the options of `count`.
+fn read_settings(words: &[String]) -> Option<Settings>
+    ensures { MatchOption result
+        ((settings : Settings) → Sets settings unset (map string_bytes words.now) → ⊥)
+        (λ settings. Sets settings unset (map string_bytes words.now)) }
+{
+    let mut settings = Settings {
+        workers: None,
+        task: None,
+        pages: None,
+    };
+    let mut left = words;
+    'settings: while !left.is_empty() {
+        let Some((setting, number, rest)) = next_setting(left) else {
+            return None;
+        };
+        settings = match settings.with(setting, number) {
+            Some(settings) => settings,
+            None => return None,
+        };
+        left = rest;
+    }
+    Some(settings)
+}
+
+/// The number of rounds of `gen`.
+fn read_rounds(words: &[String]) -> Option<u32>
+    ensures { MatchOption result
+        ((rounds : ℕ) → rounds ≤ MAX_ROUNDS → map string_bytes words.now ≢ decimal rounds ∷ [])
+        (λ rounds. (rounds ≤ MAX_ROUNDS) × (map string_bytes words.now ≡ decimal rounds ∷ [])) }
+{
+    let (word, rest) = words.split_first()?;
+    if !rest.is_empty() {
+        return None;
+    }
+    let rounds = number_of(word.as_bytes(), 0, u64::from(MAX_ROUNDS))?;
+    Some(rounds as u32)
+}
+
+/// A form of one word alone.
+fn alone(form: Form, rest: &[String]) -> Option<Form>
+    ensures { MatchOption result (map string_bytes rest.now ≢ []) (λ found. (found ≡ form) × (map string_bytes rest.now ≡ [])) }
+{
+    if rest.is_empty() { Some(form) } else { None }
+}
+
+/// The form of the words after the first.
+fn read_rest(word: &str, rest: &[String]) -> Option<Form>
+    ensures { MatchOption result
+        ((form : Form) → IsForm (word.now ∷ map string_bytes rest.now) form → ⊥)
+        (λ form. IsForm (word.now ∷ map string_bytes rest.now) form) }
+{
+    if word == "replay" {
+        return alone(Form::Replay, rest);
+    }
+    if word == "threads" {
+        return alone(Form::Threads, rest);
+    }
+    if word == "gen" {
+        return match read_rounds(rest) {
+            Some(rounds) => Some(Form::Gen(rounds)),
+            None => None,
+        };
+    }
+    if word != "count" {
+        return None;
+    }
+    match read_settings(rest) {
+        Some(settings) => Some(Form::Count(settings.chosen())),
+        None => None,
+    }
+}
+
+/// What the words ask for, if they are of a stated form.
+#[tactic(auto, using(crate::proofs::Words::no_words))]
+pub fn read_form(words: &[String]) -> Option<Form>
+    ensures { MatchOption result
+        ((form : Form) → IsForm (map string_bytes words.now) form → ⊥)
+        (λ form. IsForm (map string_bytes words.now) form) }
+{
+    let (word, rest) = words.split_first()?;
+    read_rest(word.as_str(), rest)
+}
