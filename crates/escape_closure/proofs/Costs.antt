@@ -1,6 +1,5 @@
 -- The words that an end moves, in the words before and after the moves.
-use Rattle.std.proofs.Common.{◌≡◌, ◌≢◌, ◌⊎◌, ℕ, ◌+◌, ◌*◌, ◌≤◌, ◌<◌, Bool, false, Some, List, get_or, length, zero, suc, refl, sym, ap, subst, ◌∙◌, arith, inl, inr}
-use Rattle.object_layout.specs.declared.names.Name.{Name}
+use Rattle.std.proofs.Common.{◌≡◌, ℕ, ◌+◌, ◌*◌, ◌≤◌, ◌<◌, Bool, false, Some, List, get_or, length, zero, suc, refl, sym, ap, ◌∙◌, arith}
 use Rattle.object_layout.specs.declared.TheConstants.{OBJECT_WORDS}
 use Rattle.heap_words.specs.declared.map.Areas.{Areas}
 use Rattle.heap_words.specs.Map.{HasThread, IsAreas}
@@ -15,8 +14,8 @@ use Rattle.relocation.proofs.Lawful.{by_move-at}
 use Rattle.relocation.proofs.Moving.{fields_at-header}
 use Rattle.relocation.proofs.SlidLawful.{keep-case}
 use Rattle.forwarding.specs.Entering.{words_brought}
-use Rattle.escape_closure.specs.Ends.{PlanReady, References}
-use Rattle.escape_closure.specs.Leaving.{Carried, ReadyToMove, is_home, left_behind, objects_left}
+use Rattle.escape_closure.specs.Ends.{References}
+use Rattle.escape_closure.specs.Leaving.{Carried, ReadyToMove, is_home, left_behind}
 use Rattle.escape_closure.proofs.Carries.{innermost_valid, rest}
 use Rattle.escape_closure.proofs.Fates.{OneEach, moves_so, one_each}
 use Rattle.escape_closure.proofs.Leads.{moved_at, size_now, words_same}

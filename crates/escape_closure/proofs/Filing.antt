@@ -1,7 +1,7 @@
 -- The start of an end: what is recorded is filed.
 use Rattle.std.proofs.Props.{props}
-use Rattle.std.proofs.Math.Logic.{∥∥₁_elim, ∥∥₁_map, ⊎_elim}
-use Rattle.std.proofs.Common.{◌≡◌, ◌≢◌, ◌⊎◌, ◌↔◌, ℕ, ◌+◌, ◌-◌, ◌*◌, ◌≤◌, ◌<◌, Some, List, [], ◌∷◌, ◌++◌, zero, suc, length, get_or, drop, take, replicate, set, refl, sym, ap, subst, ◌∙◌, arith, inl, inr, get_or-set_other, length-append, length-take}
+use Rattle.std.proofs.Math.Logic.{∥∥₁_elim, ⊎_elim}
+use Rattle.std.proofs.Common.{◌≡◌, ◌⊎◌, ◌↔◌, ℕ, ◌+◌, ◌-◌, ◌*◌, ◌≤◌, ◌<◌, List, [], ◌∷◌, ◌++◌, zero, suc, length, get_or, drop, take, replicate, set, refl, sym, ap, subst, ◌∙◌, arith, inl, inr, get_or-set_other, length-append, length-take}
 use Rattle.std.specs.List.{All, Contains, flat_map}
 use Rattle.std.proofs.lemmas.Bool.{cases_lt}
 use Rattle.heap_walks.proofs.Lists.{distinct_fit}
@@ -10,7 +10,6 @@ use Rattle.relocation.proofs.SlidLaid.{get-table_of, length-table_of}
 use Rattle.remember_sets.proofs.Sets.{contains_at}
 use Rattle.std.proofs.lemmas.List.Elements.{Contains-append_left, Contains-append_right}
 use Rattle.std.proofs.lemmas.List.{get_or_default, get_or-replicate, length-replicate}
-use Rattle.object_layout.specs.declared.names.Name.{Name}
 use Rattle.heap_words.specs.declared.map.Areas.{Areas}
 use Rattle.heap_words.specs.declared.TheConstants.{BUFFER_ENTRIES}
 use Rattle.heap_words.specs.Map.{heap_length}
@@ -19,7 +18,7 @@ use Rattle.yak_model.specs.Spaces.{SpaceState}
 use Rattle.yak_model.specs.State.{State, view}
 use Rattle.yak_model.specs.Placed.{Places}
 use Rattle.yak_model.specs.Stands.{SetsStand, Stands, StandsAs, claim_counter, free_pages, pool_length, set_entries, unused_heads}
-use Rattle.yak_model.specs.Recorded.{IsReader, IsRecorded, Recorded, RecordedAs}
+use Rattle.yak_model.specs.Recorded.{IsReader, IsRecorded, Recorded}
 use Rattle.yak_model.proofs.Data.{in_heap}
 use Rattle.region_pages.specs.declared.TheConstants.{CLAIM_COUNTER, POOL_LENGTH}
 use Rattle.remember_sets.specs.declared.TheConstants.{SET_ENTRIES}
@@ -145,14 +144,14 @@ module _ (m : Areas) (c filing : Contents) (filed : (a : ℕ) → IsFiled filing
       let front : length (take (set_entries c.heads) c.sets) ≤ set_entries c.heads = omega (arith, length-take (set_entries c.heads) c.sets) in
       let at : (j : ℕ) → j < n → get_or xs j 0 ≡ place j = λ j lt. get-table_of place n j 0 lt in
       let fit : n ≤ length joint = distinct_fit xs n (length joint) (omega (arith, length-table_of place n))
-          (λ j lt. subst (λ i. i < length joint) (sym (at j lt)) (place_is j lt).0)
-          (λ i j li lj e.
-          let same : place i ≡ place j = sym (at i li) ∙ e ∙ at j lj in
-          let word : get_or filing.sets i 0 ≡ get_or filing.sets j 0 = sym (place_is i li).1 ∙ ap (λ p. get_or joint p 0) same ∙ (place_is j lj).1 in
-          let a = (sets.listed i li).1 in
-          let b = (sets.listed j lj).1 in
-          let slot : get_or filing.sets (heap_length m + get_or filing.sets i 0) 0 ≡ get_or filing.sets (heap_length m + get_or filing.sets j 0) 0 = ap (λ w. get_or filing.sets (heap_length m + w) 0) word in
-          omega (arith, a, b, slot)) in
+      (λ j lt. subst (λ i. i < length joint) (sym (at j lt)) (place_is j lt).0)
+      (λ i j li lj e.
+      let same : place i ≡ place j = sym (at i li) ∙ e ∙ at j lj in
+      let word : get_or filing.sets i 0 ≡ get_or filing.sets j 0 = sym (place_is i li).1 ∙ ap (λ p. get_or joint p 0) same ∙ (place_is j lj).1 in
+      let a = (sets.listed i li).1 in
+      let b = (sets.listed j lj).1 in
+      let slot : get_or filing.sets (heap_length m + get_or filing.sets i 0) 0 ≡ get_or filing.sets (heap_length m + get_or filing.sets j 0) 0 = ap (λ w. get_or filing.sets (heap_length m + w) 0) word in
+      omega (arith, a, b, slot)) in
       omega (arith, fit, size, front)
 
 module _ (m : Areas) (c filing : Contents) (s : SpaceState) (st : Stands m c s) (recorded : Recorded m c s st) (filed : (a : ℕ) → IsFiled filing a ↔ (IsFiled c a ⊎ Contains (logged c) a)) (sets : SetsHold m filing) (others : filing ≡ with_no_logs m (with_sets c filing)) (limits : InLimits m filing) where

@@ -1,5 +1,5 @@
 -- What an end tells of the words before its buffers were filed.
-use Rattle.std.proofs.Common.{◌≡◌, ◌≢◌, ◌⊎◌, ◌↔◌, ℕ, ◌+◌, ◌-◌, ◌*◌, ◌/◌, ◌≤◌, ◌<◌, ◌++◌, false, Some, List, [], length, get_or, set, drop, take, refl, sym, ap, subst, ◌∙◌, arith, inl, inr, get_or-set_other}
+use Rattle.std.proofs.Common.{◌≡◌, ◌≢◌, ◌⊎◌, ◌↔◌, ℕ, ◌+◌, ◌*◌, ◌≤◌, ◌<◌, false, List, length, get_or, set, refl, sym, ap, subst, ◌∙◌, arith, get_or-set_other}
 use Rattle.std.specs.List.{Contains}
 use Rattle.object_layout.specs.declared.replies.Shortage.{Shortage}
 use Rattle.heap_words.specs.declared.map.Areas.{Areas}
@@ -14,14 +14,13 @@ use Rattle.yak_model.specs.Spaces.{SpaceState, innermost}
 use Rattle.yak_model.specs.State.{State, object_of, view}
 use Rattle.yak_model.specs.Placed.{Places, space_word}
 use Rattle.yak_model.specs.Stands.{Stands, StandsAs, claim_counter, current, free_pages, pool_length, set_entries, words_of}
-use Rattle.yak_model.specs.Recorded.{Recorded, RecordedAs}
+use Rattle.yak_model.specs.Recorded.{RecordedAs}
 use Rattle.remember_sets.specs.declared.TheConstants.{SET_ENTRIES}
 use Rattle.forwarding.specs.Crossing.{AreFiled}
 use Rattle.escape_closure.specs.Needs.{InOrder, pages_needed}
 use Rattle.escape_closure.specs.Targets.{TargetsWritten}
-use Rattle.escape_closure.specs.Rolls.{OnlyScratch}
-use Rattle.escape_closure.specs.Ends.{EndPlanned, FallsShort, RegionEnded, RegionShort, StateEnded, TightEnded, region_word}
-use Rattle.escape_closure.specs.Leaving.{Begun, Filed, RegionReady, TightReady, records_of}
+use Rattle.escape_closure.specs.Ends.{EndPlanned, FallsShort, RegionEnded, RegionShort, TightEnded, region_word}
+use Rattle.escape_closure.specs.Leaving.{Begun, RegionReady, TightReady, records_of}
 use Rattle.region_pages.specs.Counts.{used_of}
 use Rattle.region_pages.proofs.Counting.{used_is}
 use Rattle.escape_closure.proofs.Costs.{few_words}
@@ -74,7 +73,7 @@ module _ (m : Areas) (c : Contents) (s : SpaceState) (st : Stands m c s) (t esca
   pub region_from : (d : Contents) (count : ℕ) → RegionEnded m b.filing d s b.later t count → RegionEnded m c d s st t count
   region_from d count r =
       let told : (o : InOrder s st.places t count) × (pages_needed m b.filing s st.places t count o ≤ length (free_pages b.filing.heads b.filing.pool)) × (length r.claimed ≡ pages_needed m b.filing s st.places t count o) =
-          subst (λ (l : Places). (o : InOrder s l t count) × (pages_needed m b.filing s l t count o ≤ length (free_pages b.filing.heads b.filing.pool)) × (length r.claimed ≡ pages_needed m b.filing s l t count o)) b.places (r.order, r.enough, r.claims) in
+      subst (λ (l : Places). (o : InOrder s l t count) × (pages_needed m b.filing s l t count o ≤ length (free_pages b.filing.heads b.filing.pool)) × (length r.claimed ≡ pages_needed m b.filing s l t count o)) b.places (r.order, r.enough, r.claims) in
       record {
         state = r.state;
         order = told.0;

@@ -1,5 +1,5 @@
 -- The steps of an end, from its plan to the words that it leaves.
-use Rattle.std.specs.Prelude.{◌≡◌, ◌≢◌, ◌⊎◌, ◌↔◌, ℕ, ◌+◌, ◌-◌, ◌*◌, ◌/◌, ◌≤◌, ◌<◌, ◌==◌, cond, Bool, true, false, List, length, drop, slice_index, slice_set, map, Option, Some, None}
+use Rattle.std.specs.Prelude.{◌≡◌, ◌≢◌, ◌⊎◌, ◌↔◌, ℕ, ◌+◌, ◌-◌, ◌*◌, ◌/◌, ◌≤◌, ◌<◌, ◌==◌, cond, Bool, false, List, length, drop, slice_index, slice_set, map, Option, Some, None}
 use Rattle.object_layout.specs.declared.names.Name.{Name}
 use Rattle.epoch_lattice.specs.declared.Space.{Space}
 use Rattle.epoch_lattice.specs.declared.Space.TheVariants.{Control}

@@ -1,5 +1,5 @@
 use Rattle.std.proofs.Math.Logic.{∥∥₁_map}
-use Rattle.std.proofs.Common.{length, ◌+◌, ◌*◌, ◌≡◌, ◌≤◌, ℕ, List, arith, sym, subst, ap}
+use Rattle.std.proofs.Common.{length, ◌≡◌, arith, ap}
 use Rattle.heap_words.specs.Contents.{Contents, contents, depth_of, stack_of}
 use Rattle.heap_words.proofs.Contents.{length-sets}
 use Rattle.escape_closure.proofs.Filing.{begun, buffers_told, few_filed, filed_recorded, filed_stands, none_logged, sets_told}

@@ -1,14 +1,12 @@
 use Rattle.std.proofs.Props.{props}
 use Rattle.std.proofs.Math.Logic.{∥∥₁_elim, ∥∥₁_map}
-use Rattle.std.proofs.Common.{length, ◌≡◌, ℕ, ◌+◌, ◌*◌, ◌≤◌, List, refl, sym, ap, subst, ◌∙◌, arith}
-use Rattle.epoch_lattice.specs.declared.TheConstants.{MAX_DEPTH}
-use Rattle.heap_words.specs.Map.{heap_length}
+use Rattle.std.proofs.Common.{length, ◌≡◌, ℕ, ◌≤◌, List, sym, ap, subst, ◌∙◌, arith}
 use Rattle.heap_words.specs.Contents.{Contents, contents, depth_of, stack_of}
 use Rattle.heap_words.specs.declared.map.Areas.{Areas}
 use Rattle.yak_model.specs.Spaces.{SpaceState}
 use Rattle.yak_model.specs.Stands.{Stands, set_entries}
 use Rattle.remember_sets.specs.Filed.{SetsHold}
-use Rattle.relocation.specs.Moves.{AllMovable, Numbered, move_at, words_moved}
+use Rattle.relocation.specs.Moves.{move_at, words_moved}
 use Rattle.escape_closure.specs.Ends.{PlanReady, References}
 use Rattle.escape_closure.proofs.Costs.{few_words, words_mid}
 use Rattle.escape_closure.proofs.Carries.{carried, carry_movable, movable_told}

@@ -1,15 +1,14 @@
 use Rattle.std.proofs.Props.{props}
 use Rattle.std.proofs.Math.Logic.{∥∥₁_elim, ∥∥₁_map}
-use Rattle.std.proofs.Common.{length, ◌≡◌, Bool, false, get_or, ℕ, ◌+◌, ◌*◌, ◌≤◌, List, refl, sym, ap, subst, ◌∙◌, arith}
+use Rattle.std.proofs.Common.{length, ◌≡◌, Bool, false, get_or, ℕ, ◌+◌, ◌≤◌, List, sym, ap, subst, ◌∙◌, arith}
 use Rattle.heap_words.specs.declared.map.Areas.{Areas}
-use Rattle.heap_words.specs.Map.{heap_length}
 use Rattle.heap_words.specs.Contents.{Contents, contents, depth_of, stack_of}
-use Rattle.region_pages.proofs.Shapes.{Shape, shape}
+use Rattle.region_pages.proofs.Shapes.{shape}
 use Rattle.yak_model.specs.Spaces.{SpaceState}
 use Rattle.yak_model.specs.Stands.{Stands, set_entries}
 use Rattle.yak_model.specs.Plans.{cleared, forwarded}
 use Rattle.relocation.specs.Moves.{move_at, words_moved}
-use Rattle.escape_closure.specs.Leaving.{Carried, ReadyToMove, RegionReady, objects_left}
+use Rattle.escape_closure.specs.Leaving.{Carried, ReadyToMove, objects_left}
 use Rattle.escape_closure.proofs.Costs.{few_words, words_later}
 use Rattle.forwarding.specs.Entering.{words_brought}
 use Rattle.escape_closure.proofs.Readies.{plan_frame, region_ready}
