@@ -1,10 +1,10 @@
 -- Lawful histories that grow by the entries of a call.
-use Rattle.std.proofs.Common.{◌≡◌, ◌⊎◌, ℕ, List, [], ◌∷◌, ◌++◌, refl, sym, ap, subst, ◌∙◌, inl, inr, append_assoc}
+use Rattle.std.proofs.Common.{◌≡◌, ◌⊎◌, ℕ, List, [], ◌∷◌, ◌++◌, refl, sym, ap, subst, inl, inr, append_assoc}
 use Rattle.std.proofs.lemmas.List.{append-nil}
 use Rattle.heap_core.specs.Lawful.{AreLawful}
 use Rattle.yak_model.specs.History.{Entry, Said, Collected}
 use Rattle.yak_model.specs.Lawful.{BeginsWithCause, IsEntryLawful}
-use Rattle.yak_model.specs.Spaces.{SpaceState, Turns, TurnsAll}
+use Rattle.yak_model.specs.Spaces.{SpaceState, TurnsAll}
 use Rattle.yak_model.specs.Unique.{StatesAreUnique}
 use Rattle.script_runner.proofs.Unique.{turns_between, turns_unique}
 

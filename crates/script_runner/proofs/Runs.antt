@@ -1,5 +1,5 @@
 -- Runs that grow by a line.
-use Rattle.std.proofs.Common.{◌≡◌, ◌+◌, ◌≤◌, ◌<◌, ℕ, List, [], ◌∷◌, ◌++◌, Bool, true, false, get_or, length, refl, sym, ap, subst, ◌∙◌, arith, append_assoc}
+use Rattle.std.proofs.Common.{◌≡◌, ◌+◌, ◌≤◌, ◌<◌, ℕ, List, [], ◌∷◌, ◌++◌, true, false, get_or, length, refl, sym, ap, subst, ◌∙◌, arith, append_assoc}
 use Rattle.std.proofs.lemmas.List.Elements.{All-cons, All-get_or, All-nil, filter-append}
 use Rattle.std.specs.Prelude.{All}
 use Rattle.epoch_lattice.specs.declared.Space.TheVariants.{Control}
@@ -22,7 +22,7 @@ use Rattle.yak_model.specs.Graph.{standard_limits}
 use Rattle.yak_model.specs.History.{Entry, Said, Collected}
 use Rattle.yak_model.specs.Lawful.{EndsAsked}
 use Rattle.yak_model.specs.Packed.{IsPacked}
-use Rattle.yak_model.specs.Spaces.{SpaceState, TurnsAll, spaces, opening_spaces}
+use Rattle.yak_model.specs.Spaces.{SpaceState, spaces, opening_spaces}
 use Rattle.yak_model.specs.Stands.{Stands}
 use Rattle.yak_model.specs.Unique.{StatesAreUnique}
 use Rattle.script_runner.specs.Runs.{Held, IsRun, RunsLine, all_said, calls_of, held_of, is_call, said}

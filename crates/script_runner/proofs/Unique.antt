@@ -1,14 +1,14 @@
 -- A history leaves one state.
-use Rattle.std.proofs.Common.{◌≡◌, ◌⊎◌, ℕ, List, [], ◌∷◌, ◌++◌, Option, Some, None, Bool, refl, sym, ap, subst, ◌∙◌, inl, inr}
+use Rattle.std.proofs.Common.{◌≡◌, ℕ, List, [], ◌∷◌, ◌++◌, Option, Some, None, refl, sym, subst, ◌∙◌, inl, inr}
 use Rattle.object_layout.specs.declared.calls.Call.{Call}
 use Rattle.object_layout.specs.declared.calls.Call.TheVariants as call
 use Rattle.object_layout.specs.declared.replies.Reply.{Reply}
 use Rattle.object_layout.specs.declared.replies.Reply.TheVariants as reply
 use Rattle.object_layout.specs.declared.replies.Refusal.{Refusal}
 use Rattle.std.specs.Prelude.{MatchOption}
-use Rattle.yak_model.specs.Graph.{Does, Graph, answers, make, refusal_of}
+use Rattle.yak_model.specs.Graph.{Does, Graph, answers, refusal_of}
 use Rattle.yak_model.specs.History.{Entry, Said, Collected}
-use Rattle.yak_model.specs.Spaces.{SpaceState, Turns, TurnsAll, homes_after}
+use Rattle.yak_model.specs.Spaces.{SpaceState, Turns, TurnsAll}
 use Rattle.yak_model.specs.Unique.{StatesAreUnique}
 
 made_unique : (g : Graph) (t k : ℕ) (said : Reply) (h other : Graph) → Does g t (call.New k) said h → Does g t (call.New k) said other → h ≡ other

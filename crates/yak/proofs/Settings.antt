@@ -195,3 +195,11 @@ some_left words test is no_more e = let t : false ≡ true = sym no_more ∙ is 
 pub none_left : (words : List (String Global)) (test : Bool) → test ≡ (length words == 0) → test ≡ true → words ≡ []
 none_left [] test is yes' = refl
 none_left (word ∷ words) test is yes' = let t : true ≡ false = sym yes' ∙ is ∙ eqb-suc-zero (length words) in absurd (cc t)
+
+-- ---- one result
+
+pub sets_unique : (one before other : Settings) (words : List (List ℕ)) → Sets one before words → Sets other before words → one ≡ other
+sets_unique one before other words (all_told empty same) (all_told empty' same') = same ∙ sym same'
+sets_unique one before other words (all_told empty same) (one_told setting number rest is untold later) = absurd (no_words_left words setting number rest empty is)
+sets_unique one before other words (one_told setting number rest is untold later) sets =
+    sets_unique one (tell setting number before) other rest later (next_sets before other words setting number rest is sets).1

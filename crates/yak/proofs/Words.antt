@@ -1,14 +1,16 @@
 -- Forms by their words.
-use Rattle.std.proofs.Common.{◌≡◌, ◌≢◌, ◌≤◌, ℕ, Bool, true, false, List, [], ◌∷◌, Option, Some, None, codes, refl, sym, ap, subst, ◌∙◌}
+use Rattle.std.proofs.Common.{◌≡◌, ◌≢◌, ◌≤◌, ℕ, Bool, true, false, List, [], ◌∷◌, Option, Some, None, codes, refl, sym, ap, subst, ◌∙◌, arith}
 use Rattle.std.specs.Prelude.{MatchOption, decimal}
 use Rattle.std.specs.Str.{bytes_eq}
 use Rattle.std.proofs.lemmas.Slice.Eq.{bytes_eq-Decides}
+use Rattle.std.proofs.lemmas.Fmt.{decimal_injective}
 use Rattle.yak.specs.declared.forms.TheConstants.{MAX_ROUNDS}
 use Rattle.yak.specs.declared.forms.Form.{Form}
 use Rattle.yak.specs.declared.forms.Form.TheVariants.{Replay, Threads, Count, Gen}
 use Rattle.yak.specs.declared.forms.Options.{Options}
 use Rattle.yak.specs.declared.forms.Settings.{Settings}
-use Rattle.yak.specs.Forms.{IsBuiltForm, IsForm, Sets, chosen, unset}
+use Rattle.yak.specs.Forms.{IsForm, Sets, chosen, unset}
+use Rattle.yak.proofs.Settings.{sets_unique}
 
 -- the first word of a form
 pub form_word : Form → List ℕ
@@ -18,7 +20,7 @@ form_word (Count options) = codes "count"
 form_word (Gen rounds) = codes "gen"
 
 differ : (a b : List ℕ) → bytes_eq a b ≡ false → a ≡ b → ⊥
-differ a b unlike same = let e : true ≡ false = sym ((bytes_eq-Decides a b).1 same) ∙ unlike in absurd (cc e)
+differ a b differs same = let e : true ≡ false = sym ((bytes_eq-Decides a b).1 same) ∙ differs in absurd (cc e)
 
 heads : (a b : List ℕ) (xs ys : List (List ℕ)) → a ∷ xs ≡ b ∷ ys → a ≡ b
 heads a b xs ys e = cc e
@@ -52,7 +54,7 @@ other_word word rest a b c d (Count options) h = d (first_word word rest (Count 
 other_word word rest a b c d (Gen rounds) h = c (first_word word rest (Gen rounds) h)
 
 only : (word : List ℕ) (rest : List (List ℕ)) (wanted : List ℕ) (form : Form) → word ≡ wanted → bytes_eq wanted (form_word form) ≡ false → IsForm (word ∷ rest) form → ⊥
-only word rest wanted form is unlike h = differ wanted (form_word form) unlike (sym is ∙ first_word word rest form h)
+only word rest wanted form is differs h = differ wanted (form_word form) differs (sym is ∙ first_word word rest form h)
 
 not_replay : (word : List ℕ) (rest : List (List ℕ)) → word ≡ codes "replay" → rest ≢ [] → (form : Form) → IsForm (word ∷ rest) form → ⊥
 unfolding form_word
@@ -97,3 +99,42 @@ not_count word rest is none (Gen rounds) h = only word rest (codes "count") (Gen
 
 pub count_form : (word : List ℕ) (rest : List (List ℕ)) (settings : Settings) (options : Options) → word ≡ codes "count" → Sets settings unset rest → options ≡ chosen settings → IsForm (word ∷ rest) (Count options)
 count_form word rest settings options is sets same = (settings, rest, ap (λ (w : List ℕ). w ∷ rest) is, sets, same)
+
+-- ---- one form
+
+abbrev IsOneForm : Form → Form → List (List ℕ) → Type 0
+IsOneForm one other words = IsForm words one → IsForm words other → one ≡ other
+
+unlike : (words : List (List ℕ)) (one other : Form) → bytes_eq (form_word one) (form_word other) ≡ false → IsOneForm one other words
+unlike words one other differs a b = absurd (differ (form_word one) (form_word other) differs (same_word words one other a b))
+
+same_count : (words : List (List ℕ)) (one other : Options) → IsOneForm (Count one) (Count other) words
+same_count words one other a b =
+    let rests : a.1 ≡ b.1 = tails _ _ _ _ (sym a.2 ∙ b.2) in
+    let settings : a.0 ≡ b.0 = sets_unique a.0 unset b.0 a.1 a.3 (subst (λ (l : List (List ℕ)). Sets b.0 unset l) (sym rests) b.3) in
+    ap Count (a.4 ∙ ap chosen settings ∙ sym b.4)
+
+same_gen : (words : List (List ℕ)) (one other : ℕ) → IsOneForm (Gen one) (Gen other) words
+same_gen words one other a b =
+    let few = a.0 in
+    let less = b.0 in
+    ap Gen (decimal_injective one other (omega (arith, few)) (omega (arith, less)) (heads _ _ _ _ (tails _ _ _ _ (sym a.1 ∙ b.1))))
+
+pub one_form : (words : List (List ℕ)) (one other : Form) → IsForm words one → IsForm words other → one ≡ other
+unfolding form_word
+one_form words Replay Replay a b = refl
+one_form words Replay Threads a b = unlike words Replay Threads refl a b
+one_form words Replay (Count other) a b = unlike words Replay (Count other) refl a b
+one_form words Replay (Gen other) a b = unlike words Replay (Gen other) refl a b
+one_form words Threads Replay a b = unlike words Threads Replay refl a b
+one_form words Threads Threads a b = refl
+one_form words Threads (Count other) a b = unlike words Threads (Count other) refl a b
+one_form words Threads (Gen other) a b = unlike words Threads (Gen other) refl a b
+one_form words (Count one) Replay a b = unlike words (Count one) Replay refl a b
+one_form words (Count one) Threads a b = unlike words (Count one) Threads refl a b
+one_form words (Count one) (Count other) a b = same_count words one other a b
+one_form words (Count one) (Gen other) a b = unlike words (Count one) (Gen other) refl a b
+one_form words (Gen one) Replay a b = unlike words (Gen one) Replay refl a b
+one_form words (Gen one) Threads a b = unlike words (Gen one) Threads refl a b
+one_form words (Gen one) (Count other) a b = unlike words (Gen one) (Count other) refl a b
+one_form words (Gen one) (Gen other) a b = same_gen words one other a b

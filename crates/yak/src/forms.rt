@@ -251,3 +251,9 @@ pub fn read_form(words: &[String]) -> Option<Form>
     let (word, rest) = words.split_first()?;
     read_rest(word.as_str(), rest)
 }
+
+/// Words are of one form at most.
+#[tactic(auto, using(crate::proofs::Words::one_form))]
+pub fn law_one_form()
+    ensures { (words : List (List ℕ)) (one other : Form) → IsForm words one → IsForm words other → one ≡ other }
+{}

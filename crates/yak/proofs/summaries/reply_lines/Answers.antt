@@ -1,8 +1,7 @@
-use Rattle.std.proofs.Common.{◌≡◌, ◌<◌, List, ◌++◌, ℕ, length, take, sym, ap, ◌∙◌, arith}
+use Rattle.std.proofs.Common.{◌<◌, length, take, sym, ◌∙◌, arith}
 use Rattle.std.proofs.lemmas.List.{length-take-le, take_more}
 use Rattle.object_layout.specs.declared.calls.Call.TheVariants.{Int}
 use Rattle.object_layout.specs.declared.replies.Reply.TheVariants.{Ok}
-use Rattle.script_text.specs.Replies.{reply_line}
 use Rattle.yak.proofs.Told.{lines_text_more}
 use Rattle.yak.proofs.summaries.reply_lines.Goals as goal
 
