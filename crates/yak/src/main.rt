@@ -9,6 +9,8 @@ mod plain;
 mod summaries;
 #[cfg(test)]
 mod tests;
+#[cfg(test)]
+mod watched;
 
 use plain::{Kept, plain};
 use std::alloc::AllocError;
