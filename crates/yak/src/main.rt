@@ -11,6 +11,8 @@ mod summaries;
 mod tests;
 #[cfg(test)]
 mod watched;
+#[cfg(test)]
+mod worked;
 
 use plain::{Kept, plain};
 use std::alloc::AllocError;
