@@ -1,0 +1,5 @@
+pub mod Runs
+pub mod Keys
+pub mod Walks
+pub mod Adds
+pub mod Counted
