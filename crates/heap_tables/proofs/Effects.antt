@@ -6,6 +6,8 @@ use Rattle.std.proofs.lemmas.Bool.Decides.{nat_tests}
 use Rattle.std.proofs.lemmas.Bool.{cases_lt}
 use Rattle.std.specs.FinMap.{get, insert}
 use Rattle.object_layout.specs.declared.names.Name.{Name}
+use Rattle.object_layout.specs.declared.TheConstants.{MAX_SERIAL, OBJECT_WORDS}
+use Rattle.yak_model.specs.declared.TheConstants.{STACK_SLOTS}
 use Rattle.object_layout.specs.declared.calls.Call.{Call}
 use Rattle.object_layout.specs.declared.calls.Call.TheVariants as call
 use Rattle.object_layout.specs.declared.replies.Refusal.{Refusal}
@@ -16,8 +18,8 @@ use Rattle.yak_model.specs.declared.datum.Datum.{Datum}
 use Rattle.yak_model.specs.declared.datum.Datum.TheVariants as datum
 use Rattle.yak_model.specs.Graph.{Content, Does, Fields, Graph, IsThread, Thread, idle, is_reference, fields_at, fields_or_none, make, next_name, push, put_field, first_refusal, refusal_of, shown, slot_of, stack_of, thread_of, with_object, with_thread}
 use Rattle.yak_model.specs.Private.{IsKnown, IsMade, KnownAfter, KnownObjects, OwnCall, StoresKnown}
-use Rattle.yak_model.specs.Standing.{Standing, MovesKnown, Stays}
-use Rattle.heap_tables.specs.Runs.{IsInSlot, stack_in, slot_in, pushed, popped, next_of, Since, Ran, IsShown}
+use Rattle.yak_model.specs.Standing.{Standing, MovesKnown, Stays, Counted, AddsEntries, counted_on, entries_of, words_made}
+use Rattle.heap_tables.specs.Runs.{IsInSlot, stack_in, slot_in, pushed, popped, next_of, IsShown}
 
 leb_false : (a b : ℕ) → b < a → leb a b ≡ false
 leb_false a b h = grind (arith, nat_tests)
@@ -73,8 +75,8 @@ module _ (s : Standing) (known : KnownObjects) (asked : Call) (said : Reply) (ow
   good_slot : (i : ℕ) → i < length (stack_in s) → leb (length (stack_of m.before s.thread)) i ≡ false
   good_slot i h = ap (λ (st : List Datum). leb (length st) i) stack_before ∙ leb_false _ _ h
 
-  not_full : length (stack_in s) < 64 → leb 64 (length (stack_of m.before s.thread)) ≡ false
-  not_full h = ap (λ (st : List Datum). leb 64 (length st)) stack_before ∙ leb_false _ _ h
+  not_full : length (stack_in s) < STACK_SLOTS → leb STACK_SLOTS (length (stack_of m.before s.thread)) ≡ false
+  not_full h = ap (λ (st : List Datum). leb STACK_SLOTS (length st)) stack_before ∙ leb_false _ _ h
 
   good_reference : (i : ℕ) (name : Name) → slot_in s i ≡ datum.Object name → not (is_reference (slot_of m.before s.thread i)) ≡ false
   good_reference i name h = ap (λ v. not (is_reference v)) (slot_before i ∙ h)
@@ -90,7 +92,7 @@ module _ (s : Standing) (known : KnownObjects) (asked : Call) (said : Reply) (ow
 
 module _ (s : Standing) (known : KnownObjects) (said : Reply) (own : Thread) (knows : KnownObjects → Type 0) where
   pub load_effect : (i f : ℕ) → MovesKnown s known (call.Load i f) said own knows
-      → (name : Name) (values : List Datum) → IsInSlot s known i name values → f < length values → length (stack_in s) < 64
+      → (name : Name) (values : List Datum) → IsInSlot s known i name values → f < length values → length (stack_in s) < STACK_SLOTS
       → own ≡ pushed s.own (get_or values f datum.Null)
   load_effect i f m name values slot bound room =
       let free : refusal_of m.before s.thread (call.Load i f) ≡ None =
@@ -105,7 +107,7 @@ module _ (s : Standing) (known : KnownObjects) (said : Reply) (own : Thread) (kn
   pub load_keeps : (i f : ℕ) → MovesKnown s known (call.Load i f) said own knows → knows known
   load_keeps i f m = m.known_later known (λ _. refl, λ _. refl)
 
-  pub int_effect : (n : ℕ) → MovesKnown s known (call.Int n) said own knows → length (stack_in s) < 64 → own ≡ pushed s.own (datum.Int n)
+  pub int_effect : (n : ℕ) → MovesKnown s known (call.Int n) said own knows → length (stack_in s) < STACK_SLOTS → own ≡ pushed s.own (datum.Int n)
   int_effect n m room =
       let free : refusal_of m.before s.thread (call.Int n) ≡ None = free_one _ _ (not_full s known _ said own knows m room) in
       own_with s known _ said own knows m (λ o. pushed o (datum.Int n)) (unrefused _ _ _ free m.moves.1).1
@@ -183,7 +185,7 @@ module _ (s : Standing) (known : KnownObjects) (said : Reply) (own : Thread) (kn
   made_one : Thread → Thread
   made_one o = record o { stack = o.stack ++ datum.Object (record { thread = s.thread; serial = o.made + 1 }) ∷ []; made = o.made + 1 }
 
-  pub new_effect : (k : ℕ) → MovesKnown s known (call.New k) said own knows → k + 3 ≤ s.limits.page → length (stack_in s) < 64 → s.own.made < 2 ^ 48 - 1
+  pub new_effect : (k : ℕ) → MovesKnown s known (call.New k) said own knows → k + OBJECT_WORDS ≤ s.limits.page → length (stack_in s) < STACK_SLOTS → s.own.made < MAX_SERIAL
       → ((said ≡ reply.Ok) × (own ≡ record s.own { stack = s.own.stack ++ datum.Object (next_of s) ∷ []; made = s.own.made + 1 }) × knows (insert known (next_of s) (Fields (replicate k datum.Null))))
       ⊎ ((said ≡ reply.OutOfHeap) × (own ≡ s.own) × knows known)
   unfolding made_one
@@ -201,9 +203,9 @@ module _ (s : Standing) (known : KnownObjects) (said : Reply) (own : Thread) (kn
 
       free : refusal_of m.before s.thread (call.New k) ≡ None
       free =
-          free_three _ _ _ _ _ _ (ap (λ l. ltb (l.page - 3) k) m.limits ∙ ltb_false (s.limits.page - 3) k (omega (arith, fits)))
+          free_three _ _ _ _ _ _ (ap (λ l. ltb (l.page - OBJECT_WORDS) k) m.limits ∙ ltb_false (s.limits.page - OBJECT_WORDS) k (omega (arith, fits)))
           (not_full s known _ said own knows m room)
-          (ap (λ (o : Thread). leb (2 ^ 48 - 1) o.made) m.own ∙ leb_false _ _ names)
+          (ap (λ (o : Thread). leb (MAX_SERIAL) o.made) m.own ∙ leb_false _ _ names)
 
   pub next_fresh : (asked : Call) → MovesKnown s known asked said own knows → get known (next_of s) ≡ None
   next_fresh asked m = by_option (get known (next_of s)) refl
@@ -214,16 +216,6 @@ module _ (s : Standing) (known : KnownObjects) (said : Reply) (own : Thread) (kn
       by_option : (o : Option Content) → get known (next_of s) ≡ o → get known (next_of s) ≡ None
       by_option None e = e
       by_option (Some c) e = let bound : s.own.made + 1 ≤ s.own.made = subst (λ (o : Thread). s.own.made + 1 ≤ o.made) m.own (made c e) in absurd (omega (arith, bound))
-
-module _ {S B : Type 0} (base : S → B) (tells : S → ℕ → Thread → Type 0) (tells_known : S → ℕ → KnownObjects → Type 0) (standing : S → Standing) where
-  pub ran_none : (a : S) → Ran base tells tells_known standing a a
-  ran_none a = record { stays = (refl, λ _ _ h. h, λ _ _ h. h); since = record { thread = refl; limits = refl; depth = refl; refusals = omega arith } }
-
-  pub ran_more : (a b c : S) → Ran base tells tells_known standing a b → Ran base tells tells_known standing b c → Ran base tells tells_known standing a c
-  ran_more a b c r q = record {
-    stays = (q.stays.0 ∙ r.stays.0, λ t o h. q.stays.1 t o (r.stays.1 t o h), λ t k h. q.stays.2 t k (r.stays.2 t k h));
-    since = record { thread = q.since.thread ∙ r.since.thread; limits = q.since.limits ∙ r.since.limits; depth = q.since.depth ∙ r.since.depth; refusals = omega (arith, r.since.refusals, q.since.refusals) };
-  }
 
 -- what a push and then a pop leave
 pub take_push : (xs : List Datum) (x : Datum) → take (length (xs ++ x ∷ []) - 1) (xs ++ x ∷ []) ≡ xs

@@ -4,7 +4,7 @@ ghost use Rattle.std.specs.FinMap as finite;
 ghost use Rattle.yak_model.specs.Private.{KnownObjects};
 ghost use Rattle.heap_tables.specs.Runs.{KeepsKnown, IsInSlot, HasField, HasFields, KnowsSome, Ran, stack_in, slot_in, pushed, popped, next_of, with_made, with_new, with_field, IsShown, RanOut};
 ghost use Rattle.object_layout.specs.declared.names.Name.{Name};
-ghost use Rattle.object_layout.specs.declared.TheConstants.{MAX_SERIAL, OBJECT_WORDS};
+ghost use Rattle.object_layout.specs.declared.TheConstants.{MAX_INT, MAX_SERIAL, OBJECT_WORDS};
 ghost use Rattle.yak_model.specs.declared.TheConstants.{STACK_SLOTS};
 ghost use Rattle.object_layout.specs.declared.replies.Reply.TheVariants as said;
 ghost use Rattle.object_layout.specs.declared.replies.Refusal.TheVariants as refusal;
@@ -28,6 +28,7 @@ pub fn load<C: Caller>(caller: &mut C, s: u32, f: u32)
 /// Pushes an integer.
 pub fn push_int<C: Caller>(caller: &mut C, i: u64)
     requires some { KnowsSome (C.knows caller.old) }
+    requires number { i ≤ MAX_INT }
     requires room { length (stack_in (C.standing caller.old)) < STACK_SLOTS }
     ensures ran { Ran C.base C.tells C.tells_known C.standing caller.old caller.new 0 }
     ensures keeps { KeepsKnown (C.knows caller.old) (C.knows caller.new) }
@@ -129,6 +130,7 @@ pub fn field_is<C: Caller>(caller: &mut C, s: u32, f: u32, top: u32, n: u64) -> 
 
 /// Puts an integer into a field of a known object.
 pub fn put_int<C: Caller>(caller: &mut C, s: u32, f: u32, n: u64, top: u32)
+    requires number { n ≤ MAX_INT }
     requires field { HasField (C.standing caller.old) (C.knows caller.old) s f }
     requires room { length (stack_in (C.standing caller.old)) < STACK_SLOTS }
     requires top { length (stack_in (C.standing caller.old)) ≡ top }

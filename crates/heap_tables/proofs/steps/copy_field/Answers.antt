@@ -1,3 +1,4 @@
+use Rattle.heap_tables.proofs.RunOn.{ran_more}
 use Rattle.std.proofs.Common.{◌≡◌, ℕ, ◌+◌, ◌<◌, ◌∙◌, ap, sym, subst, arith, length, get_or, rules}
 use Rattle.std.specs.FinMap.{insert}
 use Rattle.yak_model.specs.declared.datum.Datum.TheVariants as datum
@@ -44,3 +45,6 @@ returns-clause-stored g c known name to_name values to_values k slot bound to_sl
     let there = top_after (g.C.Caller.standing c.args.caller.now).own _ (get_or values c.args.f datum.Null) c.args.top e c.requires.top in
     subst (λ v. g.C.Caller.knows c.pop.new.caller (with_field known to_name to_values c.args.g v)) there
     (c.pop.ensures.keeps _ (c.store.ensures.stored known to_name to_values (c.load.ensures.keeps known k) (slot_after _ _ _ known _ to_name to_values e to_slot) to_bound))
+
+pub returns-clause-ran : goal.returns-clause-ran
+returns-clause-ran g c = let C = g.C.Caller in ran_more C.base C.tells C.tells_known C.standing _ _ _ (ran_more C.base C.tells C.tells_known C.standing _ _ _ c.load.ensures.ran c.store.ensures.ran) c.pop.ensures.ran

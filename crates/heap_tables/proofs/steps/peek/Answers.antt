@@ -1,3 +1,4 @@
+use Rattle.heap_tables.proofs.RunOn.{ran_more}
 use Rattle.std.proofs.Common.{◌≡◌, ℕ, ◌+◌, ◌<◌, ◌∙◌, ap, sym, subst, arith, length, get_or, rules}
 use Rattle.yak_model.specs.Graph.{Thread}
 use Rattle.yak_model.specs.declared.datum.Datum.TheVariants as datum
@@ -31,3 +32,6 @@ returns-clause-shown g c known name values k slot bound =
     let within : c.args.top < length (stack_in (g.C.Caller.standing c.load.new.caller)) =
       omega (arith, c.requires.top, ap (λ (o : Thread). length o.stack) e, length_push (stack_in (g.C.Caller.standing c.args.caller.now)) (get_or values c.args.f datum.Null)) in
     subst (λ v. IsShown v c.get-shown.result) there (c.get-shown.ensures.shown within)
+
+pub returns-clause-ran : goal.returns-clause-ran
+returns-clause-ran g c = let C = g.C.Caller in ran_more C.base C.tells C.tells_known C.standing _ _ _ (ran_more C.base C.tells C.tells_known C.standing _ _ _ c.load.ensures.ran c.get-shown.ensures.ran) c.pop.ensures.ran

@@ -1,3 +1,4 @@
+use Rattle.heap_tables.proofs.RunOn.{ran_more}
 use Rattle.std.proofs.Common.{◌≡◌, ℕ, ◌+◌, ◌<◌, ◌∙◌, ap, sym, subst, arith, length, get_or, rules}
 use Rattle.std.specs.FinMap.{insert}
 use Rattle.yak_model.specs.declared.datum.Datum.TheVariants as datum
@@ -32,3 +33,6 @@ returns-clause-stored g c known name values k slot bound =
     let there = top_after (g.C.Caller.standing c.args.caller.now).own _ (datum.Int c.args.n) c.args.top c.push_int.ensures.pushed c.requires.top in
     subst (λ v. g.C.Caller.knows c.pop.new.caller (with_field known name values c.args.f v)) there
     (c.pop.ensures.keeps _ (c.store.ensures.stored known name values (c.push_int.ensures.keeps known k) (slot_after _ _ _ known _ name values c.push_int.ensures.pushed slot) bound))
+
+pub returns-clause-ran : goal.returns-clause-ran
+returns-clause-ran g c = let C = g.C.Caller in ran_more C.base C.tells C.tells_known C.standing _ _ _ (ran_more C.base C.tells C.tells_known C.standing _ _ _ c.push_int.ensures.ran c.store.ensures.ran) c.pop.ensures.ran
