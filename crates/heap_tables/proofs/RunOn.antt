@@ -1,19 +1,23 @@
 -- Runs of calls, one after another.
 use Rattle.std.proofs.Common.{◌≡◌, ℕ, ◌+◌, ◌-◌, ◌*◌, ◌^◌, ◌≤◌, ◌<◌, min, Bool, true, false, cond, List, [], ◌∷◌, ◌++◌, refl, ◌∙◌, arith, ap, sym, subst, Option, Some, None, rules}
 use Rattle.std.specs.List.{All}
-use Rattle.std.proofs.lemmas.List.{append_assoc}
-use Rattle.std.proofs.lemmas.List.Elements.{All-append}
+use Rattle.std.proofs.lemmas.List.{append_assoc, append-nil}
+use Rattle.std.proofs.lemmas.List.Elements.{All-append, All-nil}
 use Rattle.yak_model.specs.Graph.{Thread}
 use Rattle.yak_model.specs.History.{Entry}
 use Rattle.yak_model.specs.Private.{KnownObjects}
 use Rattle.yak_model.specs.Standing.{Standing, Stays, counted_on}
 use Rattle.heap_tables.specs.Runs.{GrowsPlainly, IsPlainEntry, IsQuiet, IsRefused, Ran, RanOut, Since}
 
-counted-cases : (n a b M : ℕ) → min (min (n + a) M + b) M ≡ min (n + (a + b)) M
-counted-cases n a b M = omega arith
+counted-cases : (a b c v w M : ℕ) → min (b + 0) M ≡ min (a + v) M → min (c + 0) M ≡ min (b + w) M → min (c + 0) M ≡ min (a + (v + w)) M
+counted-cases a b c v w M r q = omega (arith, r, q)
 
-counted-twice : (n a b : ℕ) → counted_on (counted_on n a) b ≡ counted_on n (a + b)
-counted-twice n a b = counted-cases n a b (2 ^ 64 - 1)
+counted-twice : (a b c v w : ℕ) → counted_on b 0 ≡ counted_on a v → counted_on c 0 ≡ counted_on b w → counted_on c 0 ≡ counted_on a (v + w)
+counted-twice a b c v w r q = counted-cases a b c v w (2 ^ 64 - 1) r q
+
+plain-none : (t : ℕ) (a : Option (List Entry)) → GrowsPlainly t a a
+plain-none t None = refl
+plain-none t (Some list) = ([], ap Some (sym (append-nil list)), All-nil (IsPlainEntry t))
 
 plain-more : (t u : ℕ) (a b c : Option (List Entry)) → u ≡ t → GrowsPlainly t a b → GrowsPlainly u b c → GrowsPlainly t a c
 plain-more t u None b c e g h = let h2 : GrowsPlainly u None c = subst (λ o. GrowsPlainly u o c) g h in h2
@@ -27,7 +31,7 @@ since-more a b c v w r q = record {
   thread = q.thread ∙ r.thread;
   limits = q.limits ∙ r.limits;
   depth = q.depth ∙ r.depth;
-  words_made = q.words_made ∙ ap (λ n. counted_on n w) r.words_made ∙ counted-twice a.words v w;
+  words_made = counted-twice a.words b.words c.words v w r.words_made q.words_made;
   list = plain-more a.thread b.thread a.list b.list c.list r.thread r.list q.list;
 }
 
@@ -79,3 +83,11 @@ module _ {S B : Type 0} (base : S → B) (tells : S → ℕ → Thread → Type 
 
   pub out_words : (a b : S) (v w k : ℕ) → v ≡ w → RanOut base tells tells_known standing a b v k → RanOut base tells tells_known standing a b w k
   out_words a b v w k e r = subst (λ n. RanOut base tells tells_known standing a b n k) e r
+
+  -- no calls
+  pub ran_none : (a : S) → Ran base tells tells_known standing a a 0
+  ran_none a = record {
+    stays = (refl, λ _ _ h. h, λ _ _ h. h);
+    since = record { thread = refl; limits = refl; depth = refl; words_made = refl; list = plain-none (standing a).thread (standing a).list };
+    quiet = record { refusals = refl; last = refl };
+  }

@@ -54,12 +54,13 @@ abbrev pub GrowsPlainly : ℕ → Option (List Entry) → Option (List Entry) �
 GrowsPlainly t None after = after ≡ None
 GrowsPlainly t (Some list) after = (more : List Entry) × (after ≡ Some (list ++ more)) × All (IsPlainEntry t) more
 
--- Calls were made between that begin and end no epoch, and their objects have so many words.
+-- Calls were made between that begin and end no epoch, and their objects have so many words. The number of words is one that
+-- is stored, which stands at its last value.
 pub record Since (s after : Standing) (words : ℕ) : Type 0 where
   pub thread : after.thread ≡ s.thread
   pub limits : after.limits ≡ s.limits
   pub depth : after.own.depth ≡ s.own.depth
-  pub words_made : after.words ≡ counted_on s.words words
+  pub words_made : counted_on after.words 0 ≡ counted_on s.words words
   pub list : GrowsPlainly s.thread s.list after.list
 
 -- No call was refused for want of room.

@@ -1,0 +1,213 @@
+use Rattle.std.proofs.Common.{◌≡◌, ℕ, ◌+◌, ◌-◌, ◌<◌, ◌∙◌, ap, sym, subst, refl, arith, length, take, get_or, set, rules, List}
+use Rattle.yak_model.specs.Graph.{Thread}
+use Rattle.yak_model.specs.declared.datum.Datum.{Datum}
+use Rattle.yak_model.specs.declared.datum.Datum.TheVariants as datum
+use Rattle.heap_tables.specs.Runs.{pushed, popped}
+use Rattle.heap_tables.proofs.Effects.{slot_same, slot_after, top_after, size_after, take_push}
+use Rattle.yak_model.specs.Tables.{LacksWord}
+use Rattle.heap_tables.specs.Adds.{IsAddedTo}
+use Rattle.heap_tables.proofs.tables.add_links.Goals as goal
+
+pub load-requires-clause-field : goal.load-requires-clause-field
+load-requires-clause-field g c =
+    let h = c.requires.table in
+    let missing = (c.if-add_present.ensures.added h.0 h.1 h.2 h.3 h.4 h.5).1 refl in
+    let t = (h.5).is_table in
+    let e = c.bucket_of-bucket.ensures.same in
+    let small = c.bucket_of-bucket.ensures.small in
+    let same = c.add_present.ensures.own in
+    let slot = slot_same (g.C.Caller.standing c.args.caller.now).own _ h.0 c.args.table h.1 h.2 same ((h.5).slot, t.object) in
+    let within : c.bucket_of-bucket.result < length h.2 = omega (arith, t.size, small) in
+    (h.0, h.1, h.2, missing.1, slot, within)
+
+pub insert_new-requires-clause-table : goal.insert_new-requires-clause-table
+insert_new-requires-clause-table g c =
+    let h = c.requires.table in
+    let missing = (c.if-add_present.ensures.added h.0 h.1 h.2 h.3 h.4 h.5).1 refl in
+    let t = (h.5).is_table in
+    let e = c.bucket_of-bucket.ensures.same in
+    let small = c.bucket_of-bucket.ensures.small in
+    let same = c.add_present.ensures.own in
+    let slot = slot_same (g.C.Caller.standing c.args.caller.now).own _ h.0 c.args.table h.1 h.2 same ((h.5).slot, t.object) in
+    let within : c.bucket_of-bucket.result < length h.2 = omega (arith, t.size, small) in
+    let loaded = c.load.ensures.pushed h.0 h.1 h.2 missing.1 slot within ∙ ap (λ o. pushed o (get_or h.2 c.bucket_of-bucket.result datum.Null)) same in
+    let there = slot_after (g.C.Caller.standing c.args.caller.now).own _ (get_or h.2 c.bucket_of-bucket.result datum.Null) h.0 c.args.table h.1 h.2 loaded ((h.5).slot, t.object) in
+    let still = c.load.ensures.keeps h.0 missing.1 in
+    let size = size_after (g.C.Caller.standing c.args.caller.now).own _ (get_or h.2 c.bucket_of-bucket.result datum.Null) loaded in
+    (h.0, h.1, h.2, still, there, within)
+
+pub insert_new-requires-clause-names : goal.insert_new-requires-clause-names
+insert_new-requires-clause-names g c =
+    let h = c.requires.table in
+    let missing = (c.if-add_present.ensures.added h.0 h.1 h.2 h.3 h.4 h.5).1 refl in
+    let t = (h.5).is_table in
+    let e = c.bucket_of-bucket.ensures.same in
+    let small = c.bucket_of-bucket.ensures.small in
+    let same = c.add_present.ensures.own in
+    let slot = slot_same (g.C.Caller.standing c.args.caller.now).own _ h.0 c.args.table h.1 h.2 same ((h.5).slot, t.object) in
+    let within : c.bucket_of-bucket.result < length h.2 = omega (arith, t.size, small) in
+    let loaded = c.load.ensures.pushed h.0 h.1 h.2 missing.1 slot within ∙ ap (λ o. pushed o (get_or h.2 c.bucket_of-bucket.result datum.Null)) same in
+    let there = slot_after (g.C.Caller.standing c.args.caller.now).own _ (get_or h.2 c.bucket_of-bucket.result datum.Null) h.0 c.args.table h.1 h.2 loaded ((h.5).slot, t.object) in
+    let still = c.load.ensures.keeps h.0 missing.1 in
+    let size = size_after (g.C.Caller.standing c.args.caller.now).own _ (get_or h.2 c.bucket_of-bucket.result datum.Null) loaded in
+    omega (arith, c.requires.names, ap (λ (o : Thread). o.made) loaded)
+
+pub insert_new-requires-clause-room : goal.insert_new-requires-clause-room
+insert_new-requires-clause-room g c =
+    let h = c.requires.table in
+    let missing = (c.if-add_present.ensures.added h.0 h.1 h.2 h.3 h.4 h.5).1 refl in
+    let t = (h.5).is_table in
+    let e = c.bucket_of-bucket.ensures.same in
+    let small = c.bucket_of-bucket.ensures.small in
+    let same = c.add_present.ensures.own in
+    let slot = slot_same (g.C.Caller.standing c.args.caller.now).own _ h.0 c.args.table h.1 h.2 same ((h.5).slot, t.object) in
+    let within : c.bucket_of-bucket.result < length h.2 = omega (arith, t.size, small) in
+    let loaded = c.load.ensures.pushed h.0 h.1 h.2 missing.1 slot within ∙ ap (λ o. pushed o (get_or h.2 c.bucket_of-bucket.result datum.Null)) same in
+    let there = slot_after (g.C.Caller.standing c.args.caller.now).own _ (get_or h.2 c.bucket_of-bucket.result datum.Null) h.0 c.args.table h.1 h.2 loaded ((h.5).slot, t.object) in
+    let still = c.load.ensures.keeps h.0 missing.1 in
+    let size = size_after (g.C.Caller.standing c.args.caller.now).own _ (get_or h.2 c.bucket_of-bucket.result datum.Null) loaded in
+    omega (arith, c.requires.room, size)
+
+pub insert_new-requires-clause-top : goal.insert_new-requires-clause-top
+insert_new-requires-clause-top g c =
+    let h = c.requires.table in
+    let missing = (c.if-add_present.ensures.added h.0 h.1 h.2 h.3 h.4 h.5).1 refl in
+    let t = (h.5).is_table in
+    let e = c.bucket_of-bucket.ensures.same in
+    let small = c.bucket_of-bucket.ensures.small in
+    let same = c.add_present.ensures.own in
+    let slot = slot_same (g.C.Caller.standing c.args.caller.now).own _ h.0 c.args.table h.1 h.2 same ((h.5).slot, t.object) in
+    let within : c.bucket_of-bucket.result < length h.2 = omega (arith, t.size, small) in
+    let loaded = c.load.ensures.pushed h.0 h.1 h.2 missing.1 slot within ∙ ap (λ o. pushed o (get_or h.2 c.bucket_of-bucket.result datum.Null)) same in
+    let there = slot_after (g.C.Caller.standing c.args.caller.now).own _ (get_or h.2 c.bucket_of-bucket.result datum.Null) h.0 c.args.table h.1 h.2 loaded ((h.5).slot, t.object) in
+    let still = c.load.ensures.keeps h.0 missing.1 in
+    let size = size_after (g.C.Caller.standing c.args.caller.now).own _ (get_or h.2 c.bucket_of-bucket.result datum.Null) loaded in
+    omega (arith, c.requires.top, size)
+
+pub pop-requires-clause-some : goal.pop-requires-clause-some
+pop-requires-clause-some g c =
+    let h = c.requires.table in
+    let missing = (c.if-add_present.ensures.added h.0 h.1 h.2 h.3 h.4 h.5).1 refl in
+    let t = (h.5).is_table in
+    let e = c.bucket_of-bucket.ensures.same in
+    let small = c.bucket_of-bucket.ensures.small in
+    let same = c.add_present.ensures.own in
+    let slot = slot_same (g.C.Caller.standing c.args.caller.now).own _ h.0 c.args.table h.1 h.2 same ((h.5).slot, t.object) in
+    let within : c.bucket_of-bucket.result < length h.2 = omega (arith, t.size, small) in
+    let loaded = c.load.ensures.pushed h.0 h.1 h.2 missing.1 slot within ∙ ap (λ o. pushed o (get_or h.2 c.bucket_of-bucket.result datum.Null)) same in
+    let there = slot_after (g.C.Caller.standing c.args.caller.now).own _ (get_or h.2 c.bucket_of-bucket.result datum.Null) h.0 c.args.table h.1 h.2 loaded ((h.5).slot, t.object) in
+    let still = c.load.ensures.keeps h.0 missing.1 in
+    let size = size_after (g.C.Caller.standing c.args.caller.now).own _ (get_or h.2 c.bucket_of-bucket.result datum.Null) loaded in
+    let added = c.in-Ok.ensures.added h.0 h.1 h.2 h.3 still there.0 t (top_after (g.C.Caller.standing c.args.caller.now).own _ (get_or h.2 c.bucket_of-bucket.result datum.Null) c.args.top loaded c.requires.top) (sym e) small (subst (λ i. LacksWord c.args.word.now (h.3 i)) (sym e) missing.0) in
+    (added.after, added.known_now)
+
+pub pop-requires-clause-slot : goal.pop-requires-clause-slot
+pop-requires-clause-slot g c =
+    let h = c.requires.table in
+    let missing = (c.if-add_present.ensures.added h.0 h.1 h.2 h.3 h.4 h.5).1 refl in
+    let t = (h.5).is_table in
+    let e = c.bucket_of-bucket.ensures.same in
+    let small = c.bucket_of-bucket.ensures.small in
+    let same = c.add_present.ensures.own in
+    let slot = slot_same (g.C.Caller.standing c.args.caller.now).own _ h.0 c.args.table h.1 h.2 same ((h.5).slot, t.object) in
+    let within : c.bucket_of-bucket.result < length h.2 = omega (arith, t.size, small) in
+    let loaded = c.load.ensures.pushed h.0 h.1 h.2 missing.1 slot within ∙ ap (λ o. pushed o (get_or h.2 c.bucket_of-bucket.result datum.Null)) same in
+    let there = slot_after (g.C.Caller.standing c.args.caller.now).own _ (get_or h.2 c.bucket_of-bucket.result datum.Null) h.0 c.args.table h.1 h.2 loaded ((h.5).slot, t.object) in
+    let still = c.load.ensures.keeps h.0 missing.1 in
+    let size = size_after (g.C.Caller.standing c.args.caller.now).own _ (get_or h.2 c.bucket_of-bucket.result datum.Null) loaded in
+    omega (arith, size, ap (λ (o : Thread). length o.stack) c.in-Ok.ensures.own)
+
+pub pop-requires-in-Err-clause-some : goal.pop-requires-in-Err-clause-some
+pop-requires-in-Err-clause-some g c =
+    let h = c.requires.table in
+    let missing = (c.if-add_present.ensures.added h.0 h.1 h.2 h.3 h.4 h.5).1 refl in
+    let t = (h.5).is_table in
+    let e = c.bucket_of-bucket.ensures.same in
+    let small = c.bucket_of-bucket.ensures.small in
+    let same = c.add_present.ensures.own in
+    let slot = slot_same (g.C.Caller.standing c.args.caller.now).own _ h.0 c.args.table h.1 h.2 same ((h.5).slot, t.object) in
+    let within : c.bucket_of-bucket.result < length h.2 = omega (arith, t.size, small) in
+    let loaded = c.load.ensures.pushed h.0 h.1 h.2 missing.1 slot within ∙ ap (λ o. pushed o (get_or h.2 c.bucket_of-bucket.result datum.Null)) same in
+    let there = slot_after (g.C.Caller.standing c.args.caller.now).own _ (get_or h.2 c.bucket_of-bucket.result datum.Null) h.0 c.args.table h.1 h.2 loaded ((h.5).slot, t.object) in
+    let still = c.load.ensures.keeps h.0 missing.1 in
+    let size = size_after (g.C.Caller.standing c.args.caller.now).own _ (get_or h.2 c.bucket_of-bucket.result datum.Null) loaded in
+    let r = c.in-Err.ensures.kept h.0 still in (r.0, r.1)
+
+pub pop-requires-in-Err-clause-slot : goal.pop-requires-in-Err-clause-slot
+pop-requires-in-Err-clause-slot g c =
+    let h = c.requires.table in
+    let missing = (c.if-add_present.ensures.added h.0 h.1 h.2 h.3 h.4 h.5).1 refl in
+    let t = (h.5).is_table in
+    let e = c.bucket_of-bucket.ensures.same in
+    let small = c.bucket_of-bucket.ensures.small in
+    let same = c.add_present.ensures.own in
+    let slot = slot_same (g.C.Caller.standing c.args.caller.now).own _ h.0 c.args.table h.1 h.2 same ((h.5).slot, t.object) in
+    let within : c.bucket_of-bucket.result < length h.2 = omega (arith, t.size, small) in
+    let loaded = c.load.ensures.pushed h.0 h.1 h.2 missing.1 slot within ∙ ap (λ o. pushed o (get_or h.2 c.bucket_of-bucket.result datum.Null)) same in
+    let there = slot_after (g.C.Caller.standing c.args.caller.now).own _ (get_or h.2 c.bucket_of-bucket.result datum.Null) h.0 c.args.table h.1 h.2 loaded ((h.5).slot, t.object) in
+    let still = c.load.ensures.keeps h.0 missing.1 in
+    let size = size_after (g.C.Caller.standing c.args.caller.now).own _ (get_or h.2 c.bucket_of-bucket.result datum.Null) loaded in
+    omega (arith, size, ap (λ (st : List Datum). length st) c.in-Err.ensures.stack)
+
+pub returns-in-Ok-clause-stack : goal.returns-in-Ok-clause-stack
+returns-in-Ok-clause-stack g c =
+    let h = c.requires.table in
+    let missing = (c.if-add_present.ensures.added h.0 h.1 h.2 h.3 h.4 h.5).1 refl in
+    let t = (h.5).is_table in
+    let e = c.bucket_of-bucket.ensures.same in
+    let small = c.bucket_of-bucket.ensures.small in
+    let same = c.add_present.ensures.own in
+    let slot = slot_same (g.C.Caller.standing c.args.caller.now).own _ h.0 c.args.table h.1 h.2 same ((h.5).slot, t.object) in
+    let within : c.bucket_of-bucket.result < length h.2 = omega (arith, t.size, small) in
+    let loaded = c.load.ensures.pushed h.0 h.1 h.2 missing.1 slot within ∙ ap (λ o. pushed o (get_or h.2 c.bucket_of-bucket.result datum.Null)) same in
+    let there = slot_after (g.C.Caller.standing c.args.caller.now).own _ (get_or h.2 c.bucket_of-bucket.result datum.Null) h.0 c.args.table h.1 h.2 loaded ((h.5).slot, t.object) in
+    let still = c.load.ensures.keeps h.0 missing.1 in
+    let size = size_after (g.C.Caller.standing c.args.caller.now).own _ (get_or h.2 c.bucket_of-bucket.result datum.Null) loaded in
+    ap (λ (o : Thread). o.stack) c.pop.ensures.popped ∙ ap (λ (st : List Datum). take (length st - 1) st) (ap (λ (o : Thread). o.stack) c.in-Ok.ensures.own ∙ ap (λ (o : Thread). o.stack) loaded) ∙ take_push (g.C.Caller.standing c.args.caller.now).own.stack (get_or h.2 c.bucket_of-bucket.result datum.Null)
+
+pub returns-in-Ok-clause-added : goal.returns-in-Ok-clause-added
+returns-in-Ok-clause-added g c known name heads buckets k may =
+    let missing = (c.if-add_present.ensures.added known name heads buckets k may).1 refl in
+    let t = (may).is_table in
+    let e = c.bucket_of-bucket.ensures.same in
+    let small = c.bucket_of-bucket.ensures.small in
+    let same = c.add_present.ensures.own in
+    let slot = slot_same (g.C.Caller.standing c.args.caller.now).own _ known c.args.table name heads same ((may).slot, t.object) in
+    let within : c.bucket_of-bucket.result < length heads = omega (arith, t.size, small) in
+    let loaded = c.load.ensures.pushed known name heads missing.1 slot within ∙ ap (λ o. pushed o (get_or heads c.bucket_of-bucket.result datum.Null)) same in
+    let there = slot_after (g.C.Caller.standing c.args.caller.now).own _ (get_or heads c.bucket_of-bucket.result datum.Null) known c.args.table name heads loaded ((may).slot, t.object) in
+    let still = c.load.ensures.keeps known missing.1 in
+    let size = size_after (g.C.Caller.standing c.args.caller.now).own _ (get_or heads c.bucket_of-bucket.result datum.Null) loaded in
+    let added = c.in-Ok.ensures.added known name heads buckets still there.0 t (top_after (g.C.Caller.standing c.args.caller.now).own _ (get_or heads c.bucket_of-bucket.result datum.Null) c.args.top loaded c.requires.top) (sym e) small (subst (λ i. LacksWord c.args.word.now (buckets i)) (sym e) missing.0) in
+    record { after = added.after; heads = added.heads; links = added.links; known_now = c.pop.ensures.keeps _ added.known_now; is_table = added.is_table; adds = added.adds; others = added.others }
+
+pub returns-in-Err-clause-stack : goal.returns-in-Err-clause-stack
+returns-in-Err-clause-stack g c =
+    let h = c.requires.table in
+    let missing = (c.if-add_present.ensures.added h.0 h.1 h.2 h.3 h.4 h.5).1 refl in
+    let t = (h.5).is_table in
+    let e = c.bucket_of-bucket.ensures.same in
+    let small = c.bucket_of-bucket.ensures.small in
+    let same = c.add_present.ensures.own in
+    let slot = slot_same (g.C.Caller.standing c.args.caller.now).own _ h.0 c.args.table h.1 h.2 same ((h.5).slot, t.object) in
+    let within : c.bucket_of-bucket.result < length h.2 = omega (arith, t.size, small) in
+    let loaded = c.load.ensures.pushed h.0 h.1 h.2 missing.1 slot within ∙ ap (λ o. pushed o (get_or h.2 c.bucket_of-bucket.result datum.Null)) same in
+    let there = slot_after (g.C.Caller.standing c.args.caller.now).own _ (get_or h.2 c.bucket_of-bucket.result datum.Null) h.0 c.args.table h.1 h.2 loaded ((h.5).slot, t.object) in
+    let still = c.load.ensures.keeps h.0 missing.1 in
+    let size = size_after (g.C.Caller.standing c.args.caller.now).own _ (get_or h.2 c.bucket_of-bucket.result datum.Null) loaded in
+    ap (λ (o : Thread). o.stack) c.pop-in-Err.ensures.popped ∙ ap (λ (st : List Datum). take (length st - 1) st) (c.in-Err.ensures.stack ∙ ap (λ (o : Thread). o.stack) loaded) ∙ take_push (g.C.Caller.standing c.args.caller.now).own.stack (get_or h.2 c.bucket_of-bucket.result datum.Null)
+
+pub returns-in-Err-clause-kept : goal.returns-in-Err-clause-kept
+returns-in-Err-clause-kept g c known name heads buckets k may =
+    let missing = (c.if-add_present.ensures.added known name heads buckets k may).1 refl in
+    let t = (may).is_table in
+    let e = c.bucket_of-bucket.ensures.same in
+    let small = c.bucket_of-bucket.ensures.small in
+    let same = c.add_present.ensures.own in
+    let slot = slot_same (g.C.Caller.standing c.args.caller.now).own _ known c.args.table name heads same ((may).slot, t.object) in
+    let within : c.bucket_of-bucket.result < length heads = omega (arith, t.size, small) in
+    let loaded = c.load.ensures.pushed known name heads missing.1 slot within ∙ ap (λ o. pushed o (get_or heads c.bucket_of-bucket.result datum.Null)) same in
+    let there = slot_after (g.C.Caller.standing c.args.caller.now).own _ (get_or heads c.bucket_of-bucket.result datum.Null) known c.args.table name heads loaded ((may).slot, t.object) in
+    let still = c.load.ensures.keeps known missing.1 in
+    let size = size_after (g.C.Caller.standing c.args.caller.now).own _ (get_or heads c.bucket_of-bucket.result datum.Null) loaded in
+    let r = c.in-Err.ensures.kept known still in (r.0, c.pop-in-Err.ensures.keeps r.0 r.1, r.2)
