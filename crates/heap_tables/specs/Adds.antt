@@ -43,6 +43,7 @@ pub record MayAdd (s : Standing) (known : KnownObjects) (table : ℕ) (word : Li
   pub slot : slot_in s table ≡ datum.Object name
   pub is_table : IsTable known name heads buckets
   pub short : length (buckets (bucket_of word)) < 2 ^ 32
+  pub number : n ≤ MAX_INT
   pub sum : (count : ℕ) → HasCount word (buckets (bucket_of word)) count → count + n ≤ MAX_INT
 
 abbrev pub HasTable : Standing → (KnownObjects → Type 0) → ℕ → List ℕ → ℕ → Type 0

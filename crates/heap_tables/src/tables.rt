@@ -77,6 +77,7 @@ fn add_present<C: Caller>(caller: &mut C, table: u32, word: &[u8], n: u64, top: 
 
 /// Fills in the fields of a new entry.
 fn fill_entry<C: Caller>(caller: &mut C, entry: u32, next: u32, key: u32, n: u64, top: u32)
+    requires number { n ≤ MAX_INT }
     requires entry { HasBlank (C.standing caller.old) (C.knows caller.old) entry }
     requires next { next < length (stack_in (C.standing caller.old)) }
     requires key { key < length (stack_in (C.standing caller.old)) }
@@ -93,6 +94,7 @@ fn fill_entry<C: Caller>(caller: &mut C, entry: u32, next: u32, key: u32, n: u64
 
 /// Makes an entry for the key in the top slot, and puts it at the front of a bucket, which the slot below has.
 fn link_new<C: Caller>(caller: &mut C, table: u32, bucket: u32, n: u64, front: u32) -> Result<(), OutOfHeap>
+    requires number { n ≤ MAX_INT }
     requires table { HasField (C.standing caller.old) (C.knows caller.old) table bucket }
     requires page { PAGE_WORDS ≤ (C.standing caller.old).limits.page }
     requires names { (C.standing caller.old).own.made < MAX_SERIAL }
@@ -114,6 +116,7 @@ fn link_new<C: Caller>(caller: &mut C, table: u32, bucket: u32, n: u64, front: u
 
 /// Puts a new entry of a new word at the front of its bucket, which the top slot has.
 fn insert_new<C: Caller>(caller: &mut C, table: u32, bucket: u32, word: &[u8], n: u64, front: u32) -> Result<(), OutOfHeap>
+    requires number { n ≤ MAX_INT }
     requires table { HasField (C.standing caller.old) (C.knows caller.old) table bucket }
     requires word { length word.now ≤ WORD_LIMIT }
     requires page { PAGE_WORDS ≤ (C.standing caller.old).limits.page }

@@ -1,3 +1,4 @@
+use Rattle.heap_tables.proofs.RunOn.{ran_more}
 use Rattle.std.proofs.Common.{◌≡◌, ℕ, ◌+◌, ◌<◌, ◌∙◌, ap, sym, subst, arith, length, get_or, rules}
 use Rattle.yak_model.specs.declared.datum.Datum.TheVariants as datum
 use Rattle.heap_tables.specs.Runs.{popped}
@@ -47,3 +48,6 @@ pub returns-clause-answer : goal.returns-clause-answer
 returns-clause-answer g c known next link k slot =
     let e = c.load.ensures.pushed known link.entry (entry_fields next link.key link.count) k (slot.0, slot.1.0) (omega arith) in
     c.is_key-same.ensures.answer known link.key link.word (c.load.ensures.keeps known k) (top_after (g.C.Caller.standing c.args.caller.now).own _ (datum.Object link.key) c.args.top e c.requires.top, slot.1.1)
+
+pub returns-clause-ran : goal.returns-clause-ran
+returns-clause-ran g c = let C = g.C.Caller in ran_more C.base C.tells C.tells_known C.standing _ _ _ (ran_more C.base C.tells C.tells_known C.standing _ _ _ c.load.ensures.ran c.is_key-same.ensures.ran) c.pop.ensures.ran

@@ -1,3 +1,4 @@
+use Rattle.heap_tables.proofs.RunOn.{ran_more}
 use Rattle.std.proofs.Common.{◌≡◌, ℕ, ◌+◌, ◌<◌, ◌∙◌, ap, sym, subst, refl, arith, length, get_or, rules, true≢false}
 use Rattle.yak_model.specs.Graph.{Thread}
 use Rattle.yak_model.specs.declared.datum.Datum.TheVariants as datum
@@ -46,3 +47,6 @@ returns-clause-examined g c known name values next link k table bound entry =
       c.pop.ensures.keeps _ (c.copy_field.ensures.stored known link.entry name (entry_fields next link.key link.count) values (c.entry_is.ensures.keeps known k)
       (slot_same _ _ known c.args.top link.entry (entry_fields next link.key link.count) o (entry.0, entry.1.0)) (omega arith)
       (slot_same _ _ known c.args.table name values o table) bound)))
+
+pub returns-clause-ran : goal.returns-clause-ran
+returns-clause-ran g c = let C = g.C.Caller in ran_more C.base C.tells C.tells_known C.standing _ _ _ (ran_more C.base C.tells C.tells_known C.standing _ _ _ c.if-entry_is.ensures.ran c.copy_field.ensures.ran) c.pop.ensures.ran

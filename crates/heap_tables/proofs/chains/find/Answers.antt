@@ -1,3 +1,4 @@
+use Rattle.heap_tables.proofs.RunOn.{ran_more}
 use Rattle.std.proofs.Common.{◌≡◌, ℕ, ◌+◌, ◌<◌, ◌∙◌, ap, sym, subst, refl, arith, length, get_or, set, length-set, rules, List}
 use Rattle.yak_model.specs.declared.datum.Datum.TheVariants as datum
 use Rattle.heap_tables.proofs.Effects.{slot_after, top_after, size_after}
@@ -69,3 +70,6 @@ returns-clause-known g c known name values links k at apart bound =
       (top_after (g.C.Caller.standing c.args.caller.now).own _ (get_or values c.args.bucket datum.Null) c.args.top e c.requires.top) (omega (arith, c.requires.top, size)) in
     put_back known name values c.args.bucket left.place _ (C.knows c.store.new.caller) left.front_there at.0.1
     (c.store.ensures.stored _ name (set values c.args.bucket left.place) left.known_now (left.slot, left.object) (subst (λ n. c.args.bucket < n) (sym (length-set values c.args.bucket left.place)) at.1))
+
+pub returns-clause-ran : goal.returns-clause-ran
+returns-clause-ran g c = let C = g.C.Caller in ran_more C.base C.tells C.tells_known C.standing _ _ _ (ran_more C.base C.tells C.tells_known C.standing _ _ _ c.load.ensures.ran c.walk-found.ensures.ran) c.store.ensures.ran

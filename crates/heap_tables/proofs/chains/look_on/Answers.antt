@@ -1,3 +1,4 @@
+use Rattle.heap_tables.proofs.RunOn.{ran_more}
 use Rattle.std.proofs.Common.{◌≡◌, ℕ, ◌+◌, ◌<◌, ◌∙◌, ap, sym, subst, refl, arith, length, get_or, rules, true≢false, [], ◌∷◌, List}
 use Rattle.yak_model.specs.Graph.{Thread}
 use Rattle.yak_model.specs.declared.datum.Datum.{Datum}
@@ -85,3 +86,12 @@ returns-else-examine-clause-looked g c known name values links k at =
       (slot_after (g.C.Caller.standing c.args.caller.now).own _ (get_or values c.args.bucket datum.Null) known c.args.table name values after at.0) at.1
       (top_after (g.C.Caller.standing c.args.caller.now).own _ (get_or values c.args.bucket datum.Null) c.args.top after c.requires.top ∙ head, entry))
     after
+
+pub returns-then-slot_is_null-clause-ran : goal.returns-then-slot_is_null-clause-ran
+returns-then-slot_is_null-clause-ran g c = let C = g.C.Caller in ran_more C.base C.tells C.tells_known C.standing _ _ _ (ran_more C.base C.tells C.tells_known C.standing _ _ _ c.load.ensures.ran c.if-slot_is_null.ensures.ran) c.pop.ensures.ran
+
+pub returns-then-examine-clause-ran : goal.returns-then-examine-clause-ran
+returns-then-examine-clause-ran g c = let C = g.C.Caller in ran_more C.base C.tells C.tells_known C.standing _ _ _ (ran_more C.base C.tells C.tells_known C.standing _ _ _ c.load.ensures.ran c.if-slot_is_null.ensures.ran) c.if-examine.ensures.ran
+
+pub returns-else-examine-clause-ran : goal.returns-else-examine-clause-ran
+returns-else-examine-clause-ran g c = let C = g.C.Caller in ran_more C.base C.tells C.tells_known C.standing _ _ _ (ran_more C.base C.tells C.tells_known C.standing _ _ _ c.load.ensures.ran c.if-slot_is_null.ensures.ran) c.if-examine.ensures.ran

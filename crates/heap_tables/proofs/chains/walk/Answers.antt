@@ -64,3 +64,9 @@ loop-i-preserved g c =
         let r = further_place (C.standing c.args.caller.now) known c.args.table name values c.args.bucket c.args.word.now links at apart (C.knows c.loop-i.caller) p.0 p.1 p.3 (C.standing c.loop-i.caller) _ (C.knows c.look_on.new.caller) looked in
         (p.0 ++ r.1.0 ∷ [], r.1.1, length-append p.0 (r.1.0 ∷ []) ∙ ap (λ n. n + 1) p.2, r.1.3);
     }
+
+pub returns-in-End-clause-ran : goal.returns-in-End-clause-ran
+returns-in-End-clause-ran g c = let C = g.C.Caller in ran_more C.base C.tells C.tells_known C.standing _ _ _ c.loop-i.invariant.ran c.look_on.ensures.ran
+
+pub returns-in-Found-clause-ran : goal.returns-in-Found-clause-ran
+returns-in-Found-clause-ran g c = let C = g.C.Caller in ran_more C.base C.tells C.tells_known C.standing _ _ _ c.loop-i.invariant.ran c.look_on.ensures.ran

@@ -19,6 +19,7 @@ may_add s known table word n name counts may = record {
   slot = may.slot;
   is_table = (may.is_table).table;
   short = may.short;
+  number = let h = may.sum in omega (arith, h);
   sum = λ count h. let e : count_of counts word ≡ count = count_found known name counts may.is_table word n (bucket_small word) count h in omega (arith, e, may.sum);
 }
 
