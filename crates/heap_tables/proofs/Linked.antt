@@ -8,13 +8,13 @@ use Rattle.yak_model.specs.Graph.{Content, Fields, Thread}
 use Rattle.yak_model.specs.Private.{KnownObjects, IsKnown}
 use Rattle.yak_model.proofs.Names.{get-same, get-other, same_or_other}
 use Rattle.yak_model.specs.Standing.{Standing}
-use Rattle.heap_tables.specs.Runs.{next_of, popped, with_made}
+use Rattle.heap_tables.specs.Runs.{next_of, popped, pushed, with_made}
 use Rattle.heap_tables.proofs.Effects.{slot_below, take_push}
 use Rattle.yak_model.specs.Tables.{bucket_of}
 use Rattle.yak_model.specs.Tables.{IsKey}
 use Rattle.yak_model.specs.Tables.{Link, IsChain, IsEntry, IsTable, LacksWord, AreDifferent, AreInBucket, entry_fields}
 use Rattle.heap_tables.specs.Walks.{IsApart}
-use Rattle.heap_tables.specs.Adds.{AddsCount, IsAddedTo, IsNoEntry, Grows, KeepsOthers, with_bucket, with_fields}
+use Rattle.heap_tables.specs.Adds.{AddsCount, IsAddedTo, IsNoEntry, Grows, KeepsOthers, having_made, with_bucket, with_fields}
 use Rattle.heap_tables.proofs.Places.{Agree, insert_agrees, chain_agrees}
 use Rattle.heap_tables.proofs.Raised.{in_bucket, table_apart}
 
@@ -23,6 +23,10 @@ made_below s own i e h = ap (λ (o : Thread). get_or o.stack i datum.Null) e ∙
 
 pub popped_made : (s : Standing) → popped (with_made s) ≡ record s.own { made = s.own.made + 1 }
 popped_made s = ap (λ (st : List Datum). record s.own { stack = st; made = s.own.made + 1 }) (take_push s.own.stack (datum.Object (next_of s)))
+
+-- a push, some objects made, and then a pop
+pub popped_having : (o : Thread) (x : Datum) (n : ℕ) → popped (having_made (pushed o x) n) ≡ having_made o n
+popped_having o x n = ap (λ (st : List Datum). record o { stack = st; made = o.made + n }) (take_push o.stack x)
 
 pub other_name : (known : KnownObjects) (x y : Name) (c : Content) → get known y ≡ None → get known x ≡ Some c → x ≢ y
 other_name known x y c none some e = let q = sym some ∙ ap (get known) e ∙ none in true≢false (ap is_some q)

@@ -127,6 +127,7 @@ fn insert_new<C: Caller>(caller: &mut C, table: u32, bucket: u32, word: &[u8], n
     ensures ran_out { OnErr result (AddRanOut C.base C.tells C.tells_known C.standing caller.old caller.new word.now) }
     ensures own { OnOk result ((C.standing caller.new).own ≡ record (C.standing caller.old).own { made = (C.standing caller.old).own.made + 2 }) }
     ensures added { OnOk result ((known : KnownObjects) (name : Name) (heads : List Datum) (buckets : ℕ → List Link) → C.knows caller.old known → slot_in (C.standing caller.old) table ≡ datum.Object name → IsTable known name heads buckets → slot_in (C.standing caller.old) front ≡ slice_index_or heads bucket datum.Null → bucket_of word.now ≡ bucket → bucket < BUCKETS → LacksWord word.now (buckets bucket) → IsAddedTo known word.now n name buckets (C.knows caller.new)) }
+    ensures stack { OnErr result (stack_in (C.standing caller.new) ≡ stack_in (C.standing caller.old)) }
     ensures kept { OnErr result ((known : KnownObjects) → C.knows caller.old known → (after : KnownObjects) × C.knows caller.new after × Grows known after) }
 {
     make_key(caller, word, front + 1)?;

@@ -1,3 +1,9 @@
+use Rattle.heap_tables.proofs.RunOn.{ran_more, ran_then, ran_words, ran_out, out_then, out_words}
+use Rattle.std.proofs.Common.{inl, inr, ⊎_elim}
+use Rattle.yak_model.specs.Room.{entry_words, key_words}
+use Rattle.heap_tables.specs.Adds.{having_made}
+use Rattle.heap_tables.proofs.Effects.{popped_pushed}
+use Rattle.heap_tables.proofs.Linked.{popped_having}
 use Rattle.std.proofs.Common.{◌≡◌, ℕ, ◌+◌, ◌-◌, ◌<◌, ◌∙◌, ap, sym, subst, refl, arith, length, take, get_or, set, rules, List}
 use Rattle.yak_model.specs.Graph.{Thread}
 use Rattle.yak_model.specs.declared.datum.Datum.{Datum}
@@ -211,3 +217,40 @@ returns-in-Err-clause-kept g c known name heads buckets k may =
     let still = c.load.ensures.keeps known missing.1 in
     let size = size_after (g.C.Caller.standing c.args.caller.now).own _ (get_or heads c.bucket_of-bucket.result datum.Null) loaded in
     let r = c.in-Err.ensures.kept known still in (r.0, c.pop-in-Err.ensures.keeps r.0 r.1, r.2)
+
+pub returns-in-Ok-clause-ran : goal.returns-in-Ok-clause-ran
+returns-in-Ok-clause-ran g c =
+    let C = g.C.Caller in
+    let h = c.requires.table in
+    let missing = (c.if-add_present.ensures.added h.0 h.1 h.2 h.3 h.4 h.5).1 refl in
+    let t = (h.5).is_table in
+    let e = c.bucket_of-bucket.ensures.same in
+    let small = c.bucket_of-bucket.ensures.small in
+    let same = c.add_present.ensures.own in
+    let slot = slot_same (C.standing c.args.caller.now).own _ h.0 c.args.table h.1 h.2 same ((h.5).slot, t.object) in
+    let within : c.bucket_of-bucket.result < length h.2 = omega (arith, t.size, small) in
+    let value = get_or h.2 c.bucket_of-bucket.result datum.Null in
+    let loaded = c.load.ensures.pushed h.0 h.1 h.2 missing.1 slot within ∙ ap (λ o. pushed o value) same in
+    let words = key_words c.args.word.now + entry_words in
+    let looked = ran_more C.base C.tells C.tells_known C.standing _ _ _ c.if-add_present.ensures.ran c.load.ensures.ran in
+    let ran = ran_then C.base C.tells C.tells_known C.standing _ _ _ (0 + words) 0 (ran_then C.base C.tells C.tells_known C.standing _ _ _ 0 words looked c.in-Ok.ensures.ran) c.pop.ensures.ran in
+    inr (ran_words C.base C.tells C.tells_known C.standing _ _ (0 + words + 0) words (omega arith) ran, c.pop.ensures.popped ∙ ap popped (c.in-Ok.ensures.own ∙ ap (λ o. having_made o 2) loaded) ∙ popped_having (C.standing c.args.caller.now).own value 2)
+
+pub returns-in-Err-clause-ran_out : goal.returns-in-Err-clause-ran_out
+returns-in-Err-clause-ran_out g c =
+    let C = g.C.Caller in
+    let h = c.requires.table in
+    let missing = (c.if-add_present.ensures.added h.0 h.1 h.2 h.3 h.4 h.5).1 refl in
+    let t = (h.5).is_table in
+    let e = c.bucket_of-bucket.ensures.same in
+    let small = c.bucket_of-bucket.ensures.small in
+    let same = c.add_present.ensures.own in
+    let slot = slot_same (C.standing c.args.caller.now).own _ h.0 c.args.table h.1 h.2 same ((h.5).slot, t.object) in
+    let within : c.bucket_of-bucket.result < length h.2 = omega (arith, t.size, small) in
+    let value = get_or h.2 c.bucket_of-bucket.result datum.Null in
+    let loaded = c.load.ensures.pushed h.0 h.1 h.2 missing.1 slot within ∙ ap (λ o. pushed o value) same in
+    let looked = ran_more C.base C.tells C.tells_known C.standing _ _ _ c.if-add_present.ensures.ran c.load.ensures.ran in
+    ⊎_elim
+    (λ x. inl (out_words C.base C.tells C.tells_known C.standing _ _ 0 0 _ refl (out_then C.base C.tells C.tells_known C.standing _ _ _ 0 _ (ran_out C.base C.tells C.tells_known C.standing _ _ _ 0 0 _ looked x.0) c.pop-in-Err.ensures.ran), c.pop-in-Err.ensures.popped ∙ ap popped (x.1 ∙ loaded) ∙ popped_pushed (C.standing c.args.caller.now).own value))
+    (λ x. inr (out_words C.base C.tells C.tells_known C.standing _ _ (0 + key_words c.args.word.now) _ _ (omega arith) (out_then C.base C.tells C.tells_known C.standing _ _ _ (0 + key_words c.args.word.now) _ (ran_out C.base C.tells C.tells_known C.standing _ _ _ 0 (key_words c.args.word.now) _ looked x.0) c.pop-in-Err.ensures.ran), c.pop-in-Err.ensures.popped ∙ ap popped (x.1 ∙ ap (λ o. having_made o 1) loaded) ∙ popped_having (C.standing c.args.caller.now).own value 1))
+    c.in-Err.ensures.ran_out

@@ -1,3 +1,4 @@
+use Rattle.heap_tables.proofs.RunOn.{ran_more}
 use Rattle.std.proofs.Common.{◌≡◌, ℕ, ◌+◌, ◌<◌, ◌∙◌, ap, sym, subst, refl, arith, length, get_or, set, rules, List, true≢false}
 use Rattle.yak_model.specs.Graph.{Thread}
 use Rattle.yak_model.specs.declared.datum.Datum.{Datum}
@@ -240,3 +241,9 @@ returns-else-find-clause-added g c known name heads buckets k may =
     let found = c.if-find.ensures.found known name heads (buckets b) k at apart (may).short in
     let still = c.if-find.ensures.known known name heads (buckets b) k at apart (may).short in
     (λ e. absurd (true≢false (sym e)), λ _. ((found.1 refl).0, c.pop-else-find.ensures.keeps known still))
+
+pub returns-then-find-clause-ran : goal.returns-then-find-clause-ran
+returns-then-find-clause-ran g c = let C = g.C.Caller in ran_more C.base C.tells C.tells_known C.standing _ _ _ (ran_more C.base C.tells C.tells_known C.standing _ _ _ (ran_more C.base C.tells C.tells_known C.standing _ _ _ c.if-find.ensures.ran c.raise.ensures.ran) c.pop.ensures.ran) c.pop-then-find.ensures.ran
+
+pub returns-else-find-clause-ran : goal.returns-else-find-clause-ran
+returns-else-find-clause-ran g c = let C = g.C.Caller in ran_more C.base C.tells C.tells_known C.standing _ _ _ c.if-find.ensures.ran c.pop-else-find.ensures.ran

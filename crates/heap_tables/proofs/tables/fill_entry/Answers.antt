@@ -1,3 +1,4 @@
+use Rattle.heap_tables.proofs.RunOn.{ran_more}
 use Rattle.std.proofs.Common.{◌≡◌, ℕ, ◌+◌, ◌<◌, ◌∙◌, ap, sym, subst, refl, arith, length, length-set, get_or, set, rules, List}
 use Rattle.yak_model.specs.Graph.{Thread}
 use Rattle.yak_model.specs.declared.datum.Datum.TheVariants as datum
@@ -49,3 +50,6 @@ returns-clause-filled g c known name values k slot three =
     let third = c.put_int.ensures.stored (with_field (with_field known name values 0 a) name (set values 0 a) 1 b) name (set (set values 0 a) 1 b) second two (omega (arith, three, size, length-set (set values 0 a) 1 b)) in
     subst (λ v. g.C.Caller.knows c.put_int.new.caller (with_fields known name a v c.args.n)) (value_same _ _ c.args.key c.store.ensures.own)
     (filled known name values a b c.args.n (g.C.Caller.knows c.put_int.new.caller) three third)
+
+pub returns-clause-ran : goal.returns-clause-ran
+returns-clause-ran g c = let C = g.C.Caller in ran_more C.base C.tells C.tells_known C.standing _ _ _ (ran_more C.base C.tells C.tells_known C.standing _ _ _ c.store.ensures.ran c.store-2.ensures.ran) c.put_int.ensures.ran

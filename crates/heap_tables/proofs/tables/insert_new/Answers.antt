@@ -1,3 +1,8 @@
+use Rattle.heap_tables.proofs.RunOn.{ran_then, ran_words, ran_out, out_then, out_words}
+use Rattle.std.proofs.Common.{inr}
+use Rattle.yak_model.specs.Room.{entry_words, key_words}
+use Rattle.heap_tables.specs.Runs.{popped}
+use Rattle.heap_tables.proofs.Linked.{popped_made}
 use Rattle.std.proofs.Common.{◌≡◌, ℕ, ◌+◌, ◌<◌, ◌∙◌, ap, sym, subst, refl, arith, length, get_or, set, rules, List, Result, Ok, Err}
 use Rattle.std.specs.Result.{OnErr}
 use Rattle.std.specs.FinMap.{insert}
@@ -70,3 +75,16 @@ returns-in-Err-clause-kept g c known k =
     let key = next_of (g.C.Caller.standing c.args.caller.now) in
     let one = insert known key (Fields p.values) in
     (one, c.pop-in-Err.ensures.keeps one (c.in-Err.ensures.keeps one p.known_now), insert_grows known key (Fields p.values) begun.1)
+
+pub returns-in-Ok-clause-ran : goal.returns-in-Ok-clause-ran
+returns-in-Ok-clause-ran g c =
+    let C = g.C.Caller in
+    let words = key_words c.args.word.now in
+    ran_words C.base C.tells C.tells_known C.standing _ _ (words + entry_words + 0) _ (omega arith) (ran_then C.base C.tells C.tells_known C.standing _ _ _ (words + entry_words) 0 (ran_then C.base C.tells C.tells_known C.standing _ _ _ words entry_words c.in_ok-make_key.ensures.ran c.in-Ok.ensures.ran) c.pop.ensures.ran)
+
+pub returns-in-Err-clause-ran_out : goal.returns-in-Err-clause-ran_out
+returns-in-Err-clause-ran_out g c =
+    let C = g.C.Caller in
+    let words = key_words c.args.word.now in
+    let out = out_then C.base C.tells C.tells_known C.standing _ _ _ (words + 0) 3 (ran_out C.base C.tells C.tells_known C.standing _ _ _ words 0 3 c.in_ok-make_key.ensures.ran c.in-Err.ensures.ran_out) c.pop-in-Err.ensures.ran in
+    inr (out_words C.base C.tells C.tells_known C.standing _ _ (words + 0) words 3 (omega arith) out, c.pop-in-Err.ensures.popped ∙ ap popped (c.in-Err.ensures.same ∙ c.in_ok-make_key.ensures.pushed) ∙ popped_made (C.standing c.args.caller.now))

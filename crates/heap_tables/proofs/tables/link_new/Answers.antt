@@ -1,3 +1,4 @@
+use Rattle.heap_tables.proofs.RunOn.{ran_more, ran_then, ran_words}
 use Rattle.std.proofs.Common.{◌≡◌, ℕ, ◌+◌, ◌<◌, ◌∙◌, ap, sym, subst, refl, arith, length, length-set, replicate, get_or, set, rules, List}
 use Rattle.yak_model.specs.Graph.{Thread}
 use Rattle.yak_model.specs.declared.datum.Datum.TheVariants as datum
@@ -95,3 +96,6 @@ returns-clause-linked g c known name heads k slot bound =
       (made_below (g.C.Caller.standing c.args.caller.now) _ c.args.table own (in_bounds (g.C.Caller.standing c.args.caller.now).own.stack c.args.table name (slot).0) ∙ (slot).0, get-other known (next_of (g.C.Caller.standing c.args.caller.now)) _ name (other_name known name (next_of (g.C.Caller.standing c.args.caller.now)) _ made.1 (slot).1) ∙ (slot).1) in
     (subst (λ v. g.C.Caller.knows c.pop.new.caller (with_field two name heads c.args.bucket v)) ((made_at (g.C.Caller.standing c.args.caller.now) _ known (c.args.front + 2) nulls own c.requires.top).0)
       (c.pop.ensures.keeps _ (c.store.ensures.stored two name heads there at bound)), made.1)
+
+pub returns-clause-ran : goal.returns-clause-ran
+returns-clause-ran g c = let C = g.C.Caller in ran_words C.base C.tells C.tells_known C.standing _ _ 6 _ (omega arith) (ran_then C.base C.tells C.tells_known C.standing _ _ _ 6 0 c.in_ok-push_new.ensures.ran (ran_more C.base C.tells C.tells_known C.standing _ _ _ (ran_more C.base C.tells C.tells_known C.standing _ _ _ c.fill_entry.ensures.ran c.store.ensures.ran) c.pop.ensures.ran))

@@ -1,3 +1,4 @@
+
 use Rattle.std.proofs.Common.{◌≡◌, ℕ, ◌+◌, ◌<◌, ◌∙◌, ap, sym, subst, refl, arith, length, get_or, set, rules, List}
 use Rattle.yak_model.specs.Graph.{Thread}
 use Rattle.yak_model.specs.declared.datum.Datum.TheVariants as datum
@@ -35,3 +36,9 @@ returns-clause-raised g c known next link k slot =
     let e = c.field_int-count.ensures.value known link.entry fields link.count k (slot.0, slot.1.0) (omega arith) refl in
     subst (λ m. g.C.Caller.knows c.put_int.new.caller (with_count known next link (m + c.args.n))) e
     (c.put_int.ensures.stored known link.entry fields (c.field_int-count.ensures.keeps known k) (slot_same _ _ known c.args.entry link.entry fields c.field_int-count.ensures.own (slot.0, slot.1.0)) (omega arith))
+
+pub put_int-requires-clause-number : goal.put_int-requires-clause-number
+put_int-requires-clause-number g c =
+    let h = c.requires.entry in
+    let e = c.field_int-count.ensures.value h.0 (h.2).entry (entry_fields h.1 (h.2).key (h.2).count) (h.2).count h.3 (h.4.0, h.4.1.0) (omega arith) refl in
+    omega (arith, e, h.5)
