@@ -1,18 +1,21 @@
 -- The counts of a table after one was raised.
-use Rattle.std.proofs.Common.{zero, suc, ◌≡◌, ◌≢◌, ◌⊎◌, inl, inr, ℕ, ◌+◌, ◌*◌, ◌%◌, ◌<◌, ◌≤◌, List, [], ◌∷◌, ◌++◌, refl, ◌∙◌, ap, sym, subst, Some, None, Option, Bool, true, false, cond, true≢false, eqb, arith}
+use Rattle.std.proofs.Common.{zero, suc, ◌≡◌, ◌≢◌, ◌⊎◌, inl, inr, ℕ, ◌+◌, ◌*◌, ◌%◌, ◌<◌, ◌≤◌, List, [], ◌∷◌, ◌++◌, refl, ◌∙◌, ap, sym, subst, Some, None, Option, Bool, true, false, cond, true≢false, eqb, arith, IsSome}
 use Rattle.std.specs.List.{fold}
 use Rattle.std.specs.declared.cmp.Ordering.{Ordering}
 use Rattle.std.specs.declared.cmp.Ordering.TheVariants.{Less, Equal, Greater}
 use Rattle.std.specs.Ordering.{nat_cmp, eq_by_cmp, is_eq}
 use Rattle.std.specs.Cmp.{tied_itself}
 use Rattle.std.specs.Cmp.Lexicographic.{slice_cmp, nat_list_cmp_total}
-use Rattle.std.specs.FinMap.{get, insert, get-insert, slice_cmp-IsAntisymmetric, nat_cmp-IsAntisymmetric}
+use Rattle.std.specs.FinMap.{empty, get, get-empty, insert, get-insert, slice_cmp-IsAntisymmetric, nat_cmp-IsAntisymmetric}
 use Rattle.object_layout.specs.declared.names.Name.{Name}
 use Rattle.yak_model.specs.Private.{KnownObjects}
 use Rattle.yak_model.specs.Tables.{bucket_of}
 use Rattle.yak_model.specs.Tables.{WordCounts, HasCount, IsCountTable, IsTable, LacksWord, Link, AreDifferent}
-use Rattle.heap_tables.specs.Adds.{AddsCount, IsAddedTo, with_bucket}
-use Rattle.heap_tables.specs.Counted.{count_of, or_zero, raised}
+use Rattle.heap_tables.specs.Adds.{AddsCount, Grows, IsAddedTo, MakesForNew, with_bucket}
+use Rattle.yak_model.specs.declared.datum.Datum.{Datum}
+use Rattle.yak_model.specs.Standing.{Standing}
+use Rattle.heap_tables.specs.Counted.{MakesUncounted, count_of, or_zero, raised}
+use Rattle.heap_tables.proofs.Linked.{table_grows}
 use Rattle.heap_tables.proofs.Places.{word_cases}
 use Rattle.heap_tables.proofs.Raised.{distinct_parts, eqb_cases, with_sum}
 
@@ -36,7 +39,10 @@ same_some a b e = cc
 not_none : (a : ℕ) → Some a ≡ None → ⊥
 not_none a e = cc
 
-lacks_count : (w : List ℕ) (links : List Link) (n : ℕ) → LacksWord w links → HasCount w links n → ⊥
+is_some_none : IsSome {T = ℕ} None → ⊥
+is_some_none h = true≢false (sym h)
+
+pub lacks_count : (w : List ℕ) (links : List Link) (n : ℕ) → LacksWord w links → HasCount w links n → ⊥
 lacks_count w [] n lacks h = h
 lacks_count w (l ∷ links) n lacks h = elim h [ inl here ↦ lacks.0 here.0 | inr later ↦ lacks_count w links n lacks.1 later.1 ]
 
@@ -145,3 +151,39 @@ bucket_small word = small word 0 (omega arith)
     small : (word : List ℕ) (h : ℕ) → h < 128 → fold (λ k b. (31 * k + b) % 128) h word < 128
     small [] h bound = bound
     small (b ∷ rest) h bound = small rest ((31 * h + b) % 128) (omega arith)
+
+-- a table without entries counts no words
+pub empty_counts : (known : KnownObjects) (name : Name) (heads : List Datum) → IsTable known name heads (λ _. []) → IsCountTable known name empty
+empty_counts known name heads table = record {
+  heads = heads;
+  buckets = λ _. [];
+  table = table;
+  counted = λ word n e. absurd (not_none n (sym e ∙ get-empty (slice_cmp nat_cmp) word));
+  absent = λ word e. tt;
+}
+
+-- the same counts where each object stays
+pub grown_counts : (m n : KnownObjects) → Grows m n → (name : Name) (counts : WordCounts) → IsCountTable m name counts → IsCountTable n name counts
+grown_counts m n grows name counts table = record {
+  heads = table.heads;
+  buckets = table.buckets;
+  table = table_grows m n grows name table.heads table.buckets table.table;
+  counted = table.counted;
+  absent = table.absent;
+}
+
+-- a word that stands in no chain isn't counted
+pub lacks_none : (known : KnownObjects) (name : Name) (counts : WordCounts) (table : IsCountTable known name counts) (word : List ℕ) → LacksWord word (table.buckets (bucket_of word)) → get counts word ≡ None
+lacks_none known name counts table word lacks = by_option (get counts word) refl
+  where
+    by_option : (o : Option ℕ) → get counts word ≡ o → get counts word ≡ None
+    by_option None e = e
+    by_option (Some k) e = absurd (lacks_count word (table.buckets (bucket_of word)) k lacks (table.counted word k e))
+
+-- what is made for a word of a chain, and for another
+pub makes_uncounted : (s after : Standing) (known : KnownObjects) (name : Name) (counts : WordCounts) (table : IsCountTable known name counts) (word : List ℕ) → MakesForNew s after word (table.buckets (bucket_of word)) → MakesUncounted s after counts word
+makes_uncounted s after known name counts table word makes = (λ some. by_option (get counts word) refl some, λ none. makes.1 (table.absent word none))
+  where
+    by_option : (o : Option ℕ) → get counts word ≡ o → IsSome o → after.own.made ≡ s.own.made
+    by_option None e some = let h = is_some_none some in absurd h
+    by_option (Some k) e some = makes.0 k (table.counted word k e)

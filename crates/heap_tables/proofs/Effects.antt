@@ -268,3 +268,9 @@ pub is_shown_null : (v : Datum) (said : Reply) → IsShown v said → (said ≡ 
 is_shown_null datum.Null said h = (λ e. cc, λ e. cc)
 is_shown_null (datum.Int i) said h = (λ e. cc, λ e. cc)
 is_shown_null (datum.Object name) said h = let s = h.1 in (λ e. cc, λ e. cc)
+
+-- no value is shown by a refusal
+pub not_bad : (v : Datum) (said : Reply) → IsShown v said → said ≡ reply.Refused refusal.BadSlot → ⊥
+not_bad datum.Null said h e = cc
+not_bad (datum.Int i) said h e = cc
+not_bad (datum.Object name) said h e = let s = h.1 in cc

@@ -84,6 +84,16 @@ module _ {S B : Type 0} (base : S → B) (tells : S → ℕ → Thread → Type 
   pub out_words : (a b : S) (v w k : ℕ) → v ≡ w → RanOut base tells tells_known standing a b v k → RanOut base tells tells_known standing a b w k
   out_words a b v w k e r = subst (λ n. RanOut base tells tells_known standing a b n k) e r
 
+  -- no objects at first, or at last
+  pub then_ran : (a b c : S) (w : ℕ) → Ran base tells tells_known standing a b 0 → Ran base tells tells_known standing b c w → Ran base tells tells_known standing a c w
+  then_ran a b c w r q = ran_words a c (0 + w) w (let e : 0 + w ≡ w = omega arith in e) (ran_then a b c 0 w r q)
+
+  pub ran_end : (a b c : S) (w : ℕ) → Ran base tells tells_known standing a b w → Ran base tells tells_known standing b c 0 → Ran base tells tells_known standing a c w
+  ran_end a b c w r q = ran_words a c (w + 0) w (let e : w + 0 ≡ w = omega arith in e) (ran_then a b c w 0 r q)
+
+  pub then_out : (a b c : S) (w k : ℕ) → Ran base tells tells_known standing a b 0 → RanOut base tells tells_known standing b c w k → RanOut base tells tells_known standing a c w k
+  then_out a b c w k r q = out_words a c (0 + w) w k (let e : 0 + w ≡ w = omega arith in e) (ran_out a b c 0 w k r q)
+
   -- no calls
   pub ran_none : (a : S) → Ran base tells tells_known standing a a 0
   ran_none a = record {

@@ -42,7 +42,7 @@ KeepsOthers known name links after =
 pub record MayAdd (s : Standing) (known : KnownObjects) (table : ℕ) (word : List ℕ) (n : ℕ) (name : Name) (heads : List Datum) (buckets : ℕ → List Link) : Type 0 where
   pub slot : slot_in s table ≡ datum.Object name
   pub is_table : IsTable known name heads buckets
-  pub short : length (buckets (bucket_of word)) < 2 ^ 32
+  pub short : length (buckets (bucket_of word)) < 2 ^ 63
   pub number : n ≤ MAX_INT
   pub sum : (count : ℕ) → HasCount word (buckets (bucket_of word)) count → count + n ≤ MAX_INT
 
@@ -71,7 +71,7 @@ with_count known next link n = finite.insert known link.entry (Fields (entry_fie
 -- The count is raised where the word is there, and else nothing changes.
 abbrev pub AddsPresent : KnownObjects → List ℕ → ℕ → Name → (ℕ → List Link) → Bool → (KnownObjects → Type 0) → Type 0
 AddsPresent known word n name buckets said knows =
-    (said ≡ true → IsAddedTo known word n name buckets knows)
+    (said ≡ true → IsAddedTo known word n name buckets knows × ((m : ℕ) × HasCount word (buckets (bucket_of word)) m))
     × (said ≡ false → LacksWord word (buckets (bucket_of word)) × knows known)
 
 -- A slot refers to a known object of three fields.
@@ -102,6 +102,11 @@ abbrev pub AddRan : {S B : Type 0} → (S → B) → (S → ℕ → Thread → T
 AddRan base tells tells_known standing a b word =
     (Ran base tells tells_known standing a b 0 × ((standing b).own ≡ (standing a).own))
     ⊎ (Ran base tells tells_known standing a b (key_words word + entry_words) × ((standing b).own ≡ having_made (standing a).own 2))
+
+-- Nothing was made for a word of the chain, and a key and an entry for another.
+abbrev pub MakesForNew : Standing → Standing → List ℕ → List Link → Type 0
+MakesForNew s after word links =
+    ((m : ℕ) → HasCount word links m → after.own.made ≡ s.own.made) × (LacksWord word links → after.own.made ≡ s.own.made + 2)
 
 -- There was no room for a word's key, or for its entry after the key.
 abbrev pub AddRanOut : {S B : Type 0} → (S → B) → (S → ℕ → Thread → Type 0) → (S → ℕ → KnownObjects → Type 0) → (S → Standing) → S → S → List ℕ → Type 0

@@ -1,5 +1,5 @@
 -- The counts of a table after the count of a word was raised.
-use Rattle.std.specs.Prelude.{◌≡◌, ℕ, ◌+◌, ◌^◌, ◌<◌, ◌≤◌, List, length, Option, None, Some}
+use Rattle.std.specs.Prelude.{◌≡◌, ℕ, ◌+◌, ◌^◌, ◌<◌, ◌≤◌, List, length, IsSome, Option, None, Some}
 use Rattle.std.specs.FinMap as finite
 use Rattle.object_layout.specs.declared.TheConstants.{MAX_INT}
 use Rattle.object_layout.specs.declared.names.Name.{Name}
@@ -9,7 +9,7 @@ use Rattle.yak_model.specs.Standing.{Standing}
 use Rattle.heap_tables.specs.Runs.{slot_in}
 use Rattle.yak_model.specs.Tables.{bucket_of}
 use Rattle.yak_model.specs.Tables.{WordCounts, IsCountTable}
-use Rattle.heap_tables.specs.Adds.{KeepsOthers}
+use Rattle.heap_tables.specs.Adds.{Grows, KeepsOthers}
 
 abbrev pub or_zero : Option ℕ → ℕ
 or_zero None = 0
@@ -32,7 +32,18 @@ pub record MayCount (s : Standing) (known : KnownObjects) (table : ℕ) (word : 
 abbrev pub HasCountTable : Standing → (KnownObjects → Type 0) → ℕ → List ℕ → ℕ → Type 0
 HasCountTable s knows table word n = (known : KnownObjects) × (name : Name) × (counts : WordCounts) × knows known × MayCount s known table word n name counts
 
+-- Nothing was made for a word that is counted, and a key and an entry for another.
+abbrev pub MakesUncounted : Standing → Standing → WordCounts → List ℕ → Type 0
+MakesUncounted s after counts word =
+    (IsSome (finite.get counts word) → after.own.made ≡ s.own.made) × (finite.get counts word ≡ None → after.own.made ≡ s.own.made + 2)
+
 -- A known map has the table with the word's count raised by n, and other objects as they were.
-abbrev pub IsCounted : (s : Standing) (known : KnownObjects) (table : ℕ) (word : List ℕ) (n : ℕ) (name : Name) (counts : WordCounts) → MayCount s known table word n name counts → (KnownObjects → Type 0) → Type 0
-IsCounted s known table word n name counts may knows =
-    (after : KnownObjects) × knows after × IsCountTable after name (raised counts word n) × KeepsOthers known name ((may.is_table).buckets (bucket_of word)) after
+abbrev pub IsCounted : (s after : Standing) (known : KnownObjects) (table : ℕ) (word : List ℕ) (n : ℕ) (name : Name) (counts : WordCounts) → MayCount s known table word n name counts → (KnownObjects → Type 0) → Type 0
+IsCounted s after known table word n name counts may knows =
+    MakesUncounted s after counts word
+    × ((later : KnownObjects) × knows later × IsCountTable later name (raised counts word n) × KeepsOthers known name ((may.is_table).buckets (bucket_of word)) later)
+
+-- The word is not counted, and a known map has the table with the same counts, and all other objects as they were.
+abbrev pub IsUncounted : KnownObjects → List ℕ → Name → WordCounts → (KnownObjects → Type 0) → Type 0
+IsUncounted known word name counts knows =
+    (finite.get counts word ≡ None) × ((later : KnownObjects) × knows later × IsCountTable later name counts × Grows known later)

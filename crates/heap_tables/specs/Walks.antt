@@ -56,7 +56,7 @@ with_place known name values b place = with_field known name values b place
 
 abbrev pub HasWalk : Standing → (KnownObjects → Type 0) → ℕ → ℕ → Type 0
 HasWalk s knows table b =
-    (known : KnownObjects) × (name : Name) × (values : List Datum) × (links : List Link) × knows known × IsAtChain s known table b name values links × IsApart name links × (length links < 2 ^ 32)
+    (known : KnownObjects) × (name : Name) × (values : List Datum) × (links : List Link) × knows known × IsAtChain s known table b name values links × IsApart name links × (length links < 2 ^ 63)
 
 -- the part of a chain that was passed, the place, and what follows
 pub record IsPlace (known : KnownObjects) (name : Name) (values : List Datum) (b : ℕ) (word : List ℕ) (links : List Link) (knows : KnownObjects → Type 0) (passed rest : List Link) : Type 0 where

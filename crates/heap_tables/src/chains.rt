@@ -84,9 +84,9 @@ fn walk<C: Caller>(caller: &mut C, table: u32, bucket: u32, word: &[u8], top: u3
     requires room { length (stack_in (C.standing caller.old)) + 2 < STACK_SLOTS }
     requires top { length (stack_in (C.standing caller.old)) ≡ top }
     ensures ran { Ran C.base C.tells C.tells_known C.standing caller.old caller.new 0 }
-    ensures walked { (known : KnownObjects) (name : Name) (values : List Datum) (links : List Link) → C.knows caller.old known → IsAtChain (C.standing caller.old) known table bucket name values links → IsApart name links → length links < 2 ^ 32 → Walked (C.standing caller.old) known name values bucket word.now links result (C.standing caller.new).own (C.knows caller.new) }
+    ensures walked { (known : KnownObjects) (name : Name) (values : List Datum) (links : List Link) → C.knows caller.old known → IsAtChain (C.standing caller.old) known table bucket name values links → IsApart name links → length links < 2 ^ 63 → Walked (C.standing caller.old) known name values bucket word.now links result (C.standing caller.new).own (C.knows caller.new) }
 {
-    for i in 0..u32::MAX {
+    for i in 0..u64::MAX {
         match look_on(caller, table, bucket, word, top) {
             Look::End => return false,
             Look::Found => return true,
@@ -103,8 +103,8 @@ pub(crate) fn find<C: Caller>(caller: &mut C, table: u32, bucket: u32, word: &[u
     requires room { length (stack_in (C.standing caller.old)) + 3 < STACK_SLOTS }
     requires top { length (stack_in (C.standing caller.old)) ≡ top }
     ensures ran { Ran C.base C.tells C.tells_known C.standing caller.old caller.new 0 }
-    ensures found { (known : KnownObjects) (name : Name) (values : List Datum) (links : List Link) → C.knows caller.old known → IsAtChain (C.standing caller.old) known table bucket name values links → IsApart name links → length links < 2 ^ 32 → Found (C.standing caller.old).own (slice_index_or values bucket datum.Null) word.now links result (C.standing caller.new).own }
-    ensures known { (known : KnownObjects) (name : Name) (values : List Datum) (links : List Link) → C.knows caller.old known → IsAtChain (C.standing caller.old) known table bucket name values links → IsApart name links → length links < 2 ^ 32 → C.knows caller.new known }
+    ensures found { (known : KnownObjects) (name : Name) (values : List Datum) (links : List Link) → C.knows caller.old known → IsAtChain (C.standing caller.old) known table bucket name values links → IsApart name links → length links < 2 ^ 63 → Found (C.standing caller.old).own (slice_index_or values bucket datum.Null) word.now links result (C.standing caller.new).own }
+    ensures known { (known : KnownObjects) (name : Name) (values : List Datum) (links : List Link) → C.knows caller.old known → IsAtChain (C.standing caller.old) known table bucket name values links → IsApart name links → length links < 2 ^ 63 → C.knows caller.new known }
 {
     load(caller, table, bucket);
     let found = walk(caller, table, bucket, word, top + 1);

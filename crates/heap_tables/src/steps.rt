@@ -11,8 +11,8 @@ ghost use Rattle.object_layout.specs.declared.replies.Refusal.TheVariants as ref
 ghost use Rattle.yak_model.specs.declared.datum.Datum.{Datum};
 ghost use Rattle.yak_model.specs.declared.datum.Datum.TheVariants as datum;
 
-use object_layout::{Call, OutOfHeap, Reply};
-use yak_model::Caller;
+use object_layout::{Call, OutOfHeap, Refusal, Reply};
+use yak_model::{Caller, STACK_SLOTS};
 
 /// Pushes a field of a known object.
 pub fn load<C: Caller>(caller: &mut C, s: u32, f: u32)
@@ -199,4 +199,28 @@ pub fn field_int<C: Caller>(caller: &mut C, s: u32, f: u32, top: u32) -> u64
 {
     let shown = peek(caller, s, f, top);
     int_of(shown)
+}
+
+/// Whether a reply says that there is no such slot.
+fn is_bad_slot(shown: Reply) -> bool
+    ensures { IsTrue result ↔ (shown ≡ said.Refused refusal.BadSlot) }
+{
+    shown == Reply::Refused(Refusal::BadSlot)
+}
+
+/// The number of slots of the caller's stack.
+pub fn stack_size<C: Caller>(caller: &mut C) -> u32
+    requires some { KnowsSome (C.knows caller.old) }
+    requires room { length (stack_in (C.standing caller.old)) ≤ STACK_SLOTS }
+    ensures ran { Ran C.base C.tells C.tells_known C.standing caller.old caller.new 0 }
+    ensures keeps { KeepsKnown (C.knows caller.old) (C.knows caller.new) }
+    ensures own { (C.standing caller.new).own ≡ (C.standing caller.old).own }
+    ensures size { result ≡ length (stack_in (C.standing caller.old)) }
+{
+    for top in 0..STACK_SLOTS as u32 {
+        if is_bad_slot(get(caller, top)) {
+            return top;
+        }
+    }
+    STACK_SLOTS as u32
 }

@@ -10,17 +10,17 @@ ghost use Rattle.yak_model.specs.Private.{KnownObjects};
 ghost use Rattle.yak_model.specs.declared.datum.Datum.{Datum};
 ghost use Rattle.object_layout.specs.declared.names.Name.{Name};
 ghost use Rattle.heap_tables.specs.Runs.{HasField, IsInSlot, slot_in, KeepsKnown, KnowsSome, Ran, RanOut, stack_in, next_of, with_made, with_new};
-ghost use Rattle.yak_model.specs.Tables.{Link, IsTable, LacksWord, WordCounts};
-ghost use Rattle.heap_tables.specs.Counted.{HasCountTable, MayCount, IsCounted};
+ghost use Rattle.yak_model.specs.Tables.{Link, IsCountTable, IsTable, LacksWord, WordCounts};
+ghost use Rattle.heap_tables.specs.Counted.{HasCountTable, MayCount, IsCounted, IsUncounted};
 ghost use Rattle.yak_model.specs.Tables.{bucket_of};
 ghost use Rattle.heap_tables.specs.Walks.{IsEntryInSlot};
-ghost use Rattle.heap_tables.specs.Adds.{AddRan, AddRanOut, AddsPresent, HasTable, MayAdd, MayRaise, with_count, HasBlank, with_fields, with_linked, IsAddedTo, Grows};
+ghost use Rattle.heap_tables.specs.Adds.{AddRan, AddRanOut, AddsPresent, HasTable, MakesForNew, MayAdd, MayRaise, with_count, HasBlank, with_fields, with_linked, IsAddedTo, Grows};
 
 use object_layout::OutOfHeap;
 use yak_model::{BUCKETS, Caller, ENTRY_FIELDS};
 use crate::chains::find;
 use crate::keys::{bucket_of, make_key};
-use crate::steps::{field_int, load, pop, push_new, put_int, store};
+use crate::steps::{field_int, load, pop, push_new, put_int, stack_size, store};
 
 /// Raises the count of an entry.
 fn raise<C: Caller>(caller: &mut C, entry: u32, n: u64, top: u32)
@@ -44,20 +44,19 @@ pub fn make<C: Caller>(caller: &mut C) -> Result<(), OutOfHeap>
     requires names { (C.standing caller.old).own.made ≤ MOST_MADE }
     ensures ran { OnOk result (Ran C.base C.tells C.tells_known C.standing caller.old caller.new table_words) }
     ensures pushed { OnOk result ((C.standing caller.new).own ≡ with_made (C.standing caller.old)) }
-    ensures made { OnOk result ((known : KnownObjects) → C.knows caller.old known → C.knows caller.new (with_new (C.standing caller.old) known BUCKETS) × IsTable (with_new (C.standing caller.old) known BUCKETS) (next_of (C.standing caller.old)) (replicate BUCKETS datum.Null) (λ _. []) × (finite.get known (next_of (C.standing caller.old)) ≡ None)) }
+    ensures made { OnOk result ((known : KnownObjects) → C.knows caller.old known → C.knows caller.new (with_new (C.standing caller.old) known BUCKETS) × IsCountTable (with_new (C.standing caller.old) known BUCKETS) (next_of (C.standing caller.old)) finite.empty × (finite.get known (next_of (C.standing caller.old)) ≡ None)) }
     ensures same { OnErr result ((C.standing caller.new).own ≡ (C.standing caller.old).own) }
     ensures keeps { OnErr result (KeepsKnown (C.knows caller.old) (C.knows caller.new)) }
     ensures ran_out { OnErr result (RanOut C.base C.tells C.tells_known C.standing caller.old caller.new 0 BUCKETS) }
 {
-    push_new(caller, BUCKETS as u32)?;
-    Ok(())
+    push_new(caller, BUCKETS as u32)
 }
 
 /// Adds to the count of a word that is in the table, and tells whether it is.
 fn add_present<C: Caller>(caller: &mut C, table: u32, word: &[u8], n: u64, top: u32) -> bool
     requires table { HasTable (C.standing caller.old) (C.knows caller.old) table word.now n }
     requires word { length word.now ≤ WORD_LIMIT }
-    requires room { length (stack_in (C.standing caller.old)) + FREE_SLOTS ≤ STACK_SLOTS }
+    requires room { length (stack_in (C.standing caller.old)) + 3 < STACK_SLOTS }
     requires top { length (stack_in (C.standing caller.old)) ≡ top }
     ensures ran { Ran C.base C.tells C.tells_known C.standing caller.old caller.new 0 }
     ensures own { (C.standing caller.new).own ≡ (C.standing caller.old).own }
@@ -155,7 +154,8 @@ fn add_links<C: Caller>(caller: &mut C, table: u32, word: &[u8], n: u64, top: u3
     ensures ran_out { OnErr result (AddRanOut C.base C.tells C.tells_known C.standing caller.old caller.new word.now) }
     ensures stack { stack_in (C.standing caller.new) ≡ stack_in (C.standing caller.old) }
     ensures added { OnOk result ((known : KnownObjects) (name : Name) (heads : List Datum) (buckets : ℕ → List Link) → C.knows caller.old known → MayAdd (C.standing caller.old) known table word.now n name heads buckets → IsAddedTo known word.now n name buckets (C.knows caller.new)) }
-    ensures kept { OnErr result ((known : KnownObjects) (name : Name) (heads : List Datum) (buckets : ℕ → List Link) → C.knows caller.old known → MayAdd (C.standing caller.old) known table word.now n name heads buckets → (after : KnownObjects) × C.knows caller.new after × Grows known after) }
+    ensures kept { OnErr result ((known : KnownObjects) (name : Name) (heads : List Datum) (buckets : ℕ → List Link) → C.knows caller.old known → MayAdd (C.standing caller.old) known table word.now n name heads buckets → (after : KnownObjects) × C.knows caller.new after × Grows known after × LacksWord word.now (buckets (bucket_of word.now))) }
+    ensures made { OnOk result ((known : KnownObjects) (name : Name) (heads : List Datum) (buckets : ℕ → List Link) → C.knows caller.old known → MayAdd (C.standing caller.old) known table word.now n name heads buckets → MakesForNew (C.standing caller.old) (C.standing caller.new) word.now (buckets (bucket_of word.now))) }
 {
     if add_present(caller, table, word, n, top) {
         return Ok(());
@@ -175,19 +175,18 @@ fn add_links<C: Caller>(caller: &mut C, table: u32, word: &[u8], n: u64, top: u3
 }
 
 /// Adds to the count of a word.
-pub fn add<C: Caller>(caller: &mut C, table: u32, word: &[u8], n: u64, top: u32) -> Result<(), OutOfHeap>
+pub fn add<C: Caller>(caller: &mut C, table: u32, word: &[u8], n: u64) -> Result<(), OutOfHeap>
     requires table { HasCountTable (C.standing caller.old) (C.knows caller.old) table word.now n }
     requires word { length word.now ≤ WORD_LIMIT }
     requires page { PAGE_WORDS ≤ (C.standing caller.old).limits.page }
     requires names { (C.standing caller.old).own.made ≤ MOST_MADE }
     requires room { length (stack_in (C.standing caller.old)) + FREE_SLOTS ≤ STACK_SLOTS }
-    requires top { length (stack_in (C.standing caller.old)) ≡ top }
     ensures ran { OnOk result (AddRan C.base C.tells C.tells_known C.standing caller.old caller.new word.now) }
     ensures ran_out { OnErr result (AddRanOut C.base C.tells C.tells_known C.standing caller.old caller.new word.now) }
     ensures stack { stack_in (C.standing caller.new) ≡ stack_in (C.standing caller.old) }
-    ensures counted { OnOk result ((known : KnownObjects) (name : Name) (counts : WordCounts) (may : MayCount (C.standing caller.old) known table word.now n name counts) → C.knows caller.old known → IsCounted (C.standing caller.old) known table word.now n name counts may (C.knows caller.new)) }
-    ensures kept { OnErr result ((known : KnownObjects) (name : Name) (counts : WordCounts) → MayCount (C.standing caller.old) known table word.now n name counts → C.knows caller.old known → (after : KnownObjects) × C.knows caller.new after × Grows known after) }
+    ensures counted { OnOk result ((known : KnownObjects) (name : Name) (counts : WordCounts) (may : MayCount (C.standing caller.old) known table word.now n name counts) → C.knows caller.old known → IsCounted (C.standing caller.old) (C.standing caller.new) known table word.now n name counts may (C.knows caller.new)) }
+    ensures kept { OnErr result ((known : KnownObjects) (name : Name) (counts : WordCounts) → MayCount (C.standing caller.old) known table word.now n name counts → C.knows caller.old known → IsUncounted known word.now name counts (C.knows caller.new)) }
 {
-    add_links(caller, table, word, n, top)?;
-    Ok(())
+    let top = stack_size(caller);
+    add_links(caller, table, word, n, top)
 }

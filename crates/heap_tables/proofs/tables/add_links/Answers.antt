@@ -10,7 +10,8 @@ use Rattle.yak_model.specs.declared.datum.Datum.{Datum}
 use Rattle.yak_model.specs.declared.datum.Datum.TheVariants as datum
 use Rattle.heap_tables.specs.Runs.{pushed, popped}
 use Rattle.heap_tables.proofs.Effects.{slot_same, slot_after, top_after, size_after, take_push}
-use Rattle.yak_model.specs.Tables.{LacksWord}
+use Rattle.yak_model.specs.Tables.{LacksWord, bucket_of}
+use Rattle.heap_tables.proofs.Counted.{lacks_count}
 use Rattle.heap_tables.specs.Adds.{IsAddedTo}
 use Rattle.heap_tables.proofs.tables.add_links.Goals as goal
 
@@ -216,7 +217,7 @@ returns-in-Err-clause-kept g c known name heads buckets k may =
     let there = slot_after (g.C.Caller.standing c.args.caller.now).own _ (get_or heads c.bucket_of-bucket.result datum.Null) known c.args.table name heads loaded ((may).slot, t.object) in
     let still = c.load.ensures.keeps known missing.1 in
     let size = size_after (g.C.Caller.standing c.args.caller.now).own _ (get_or heads c.bucket_of-bucket.result datum.Null) loaded in
-    let r = c.in-Err.ensures.kept known still in (r.0, c.pop-in-Err.ensures.keeps r.0 r.1, r.2)
+    let r = c.in-Err.ensures.kept known still in (r.0, c.pop-in-Err.ensures.keeps r.0 r.1, r.2, missing.0)
 
 pub returns-in-Ok-clause-ran : goal.returns-in-Ok-clause-ran
 returns-in-Ok-clause-ran g c =
@@ -254,3 +255,24 @@ returns-in-Err-clause-ran_out g c =
     (λ x. inl (out_words C.base C.tells C.tells_known C.standing _ _ 0 0 _ refl (out_then C.base C.tells C.tells_known C.standing _ _ _ 0 _ (ran_out C.base C.tells C.tells_known C.standing _ _ _ 0 0 _ looked x.0) c.pop-in-Err.ensures.ran), c.pop-in-Err.ensures.popped ∙ ap popped (x.1 ∙ loaded) ∙ popped_pushed (C.standing c.args.caller.now).own value))
     (λ x. inr (out_words C.base C.tells C.tells_known C.standing _ _ (0 + key_words c.args.word.now) _ _ (omega arith) (out_then C.base C.tells C.tells_known C.standing _ _ _ (0 + key_words c.args.word.now) _ (ran_out C.base C.tells C.tells_known C.standing _ _ _ 0 (key_words c.args.word.now) _ looked x.0) c.pop-in-Err.ensures.ran), c.pop-in-Err.ensures.popped ∙ ap popped (x.1 ∙ ap (λ o. having_made o 1) loaded) ∙ popped_having (C.standing c.args.caller.now).own value 1))
     c.in-Err.ensures.ran_out
+
+pub returns-then-add_present-clause-added : goal.returns-then-add_present-clause-added
+returns-then-add_present-clause-added g c known name heads buckets k may = ((c.if-add_present.ensures.added known name heads buckets k may).0 refl).0
+
+pub returns-then-add_present-clause-made : goal.returns-then-add_present-clause-made
+returns-then-add_present-clause-made g c known name heads buckets k may =
+    let there = ((c.if-add_present.ensures.added known name heads buckets k may).0 refl).1 in
+    (λ m h. ap (λ (o : Thread). o.made) c.if-add_present.ensures.own, λ lacks. absurd (lacks_count c.args.word.now (buckets (bucket_of c.args.word.now)) there.0 lacks there.1))
+
+pub returns-in-Ok-clause-made : goal.returns-in-Ok-clause-made
+returns-in-Ok-clause-made g c known name heads buckets k may =
+    let h = c.requires.table in
+    let missing = (c.if-add_present.ensures.added known name heads buckets k may).1 refl in
+    let t = may.is_table in
+    let same = c.add_present.ensures.own in
+    let slot = slot_same (g.C.Caller.standing c.args.caller.now).own _ known c.args.table name heads same (may.slot, t.object) in
+    let within : c.bucket_of-bucket.result < length heads = omega (arith, t.size, c.bucket_of-bucket.ensures.small) in
+    let value = get_or heads c.bucket_of-bucket.result datum.Null in
+    let loaded = c.load.ensures.pushed known name heads missing.1 slot within ∙ ap (λ o. pushed o value) same in
+    let own = c.pop.ensures.popped ∙ ap popped (c.in-Ok.ensures.own ∙ ap (λ o. having_made o 2) loaded) ∙ popped_having (g.C.Caller.standing c.args.caller.now).own value 2 in
+    (λ m has. absurd (lacks_count c.args.word.now (buckets (bucket_of c.args.word.now)) m missing.0 has), λ _. ap (λ (o : Thread). o.made) own)

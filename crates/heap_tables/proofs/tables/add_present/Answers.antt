@@ -213,7 +213,8 @@ returns-then-find-clause-added g c known name heads buckets k may =
     let deep : length (pushed (g.C.Caller.standing c.args.caller.now).own (get_or heads c.bucket_of-bucket.result datum.Null)).stack ≡ c.args.top + 1 = length_push _ _ ∙ ap (λ m. m + 1) c.requires.top in
     let size = size_after (pushed (g.C.Caller.standing c.args.caller.now).own (get_or heads c.bucket_of-bucket.result datum.Null)) _ (datum.Object (f.1).entry) f.6 in
     let lifted = c.raise.ensures.raised known there.0 f.1 still (top_after (pushed (g.C.Caller.standing c.args.caller.now).own (get_or heads c.bucket_of-bucket.result datum.Null)) _ (datum.Object (f.1).entry) (c.args.top + 1) f.6 deep, there.1) in
-    (λ _. raised_table known name heads buckets t c.args.word.now c.args.n small f.0 f.2 f.1 f.3 f.4 there.0 there.1 (g.C.Caller.knows c.pop-then-find.new.caller) (c.pop-then-find.ensures.keeps _ (c.pop.ensures.keeps _ lifted)), λ e. absurd (true≢false e))
+    (λ _. (raised_table known name heads buckets t c.args.word.now c.args.n small f.0 f.2 f.1 f.3 f.4 there.0 there.1 (g.C.Caller.knows c.pop-then-find.new.caller) (c.pop-then-find.ensures.keeps _ (c.pop.ensures.keeps _ lifted)),
+      ((f.1).count, subst (λ ls. HasCount c.args.word.now ls (f.1).count) (sym f.3) (has_count_at c.args.word.now f.0 f.2 f.1 f.5 f.4))), λ e. absurd (true≢false e))
 
 pub returns-else-find-clause-own : goal.returns-else-find-clause-own
 returns-else-find-clause-own g c =
