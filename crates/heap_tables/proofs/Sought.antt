@@ -10,6 +10,8 @@ use Rattle.yak_model.proofs.Names.{get-same}
 use Rattle.yak_model.specs.Standing.{Standing}
 use Rattle.yak_model.specs.Tables.{Link, IsChain, IsEntry}
 use Rattle.heap_tables.specs.Walks.{IsApart, IsAtChain, with_place}
+use Rattle.object_layout.specs.declared.TheConstants.{WORD_LIMIT}
+use Rattle.heap_tables.specs.Reads.{AreShort, IsCopied, Took}
 use Rattle.heap_tables.specs.Seeks.{IsSkipped, Passed, first_of}
 use Rattle.heap_tables.specs.Runs.{pushed}
 use Rattle.heap_tables.proofs.Effects.{size_after, slot_after, slot_below, top_after}
@@ -119,3 +121,30 @@ sought s known table name values b links at top size rest knows p mid own e =
       slot_own = λ q. (slot_after mid own (first_of rest) known table name values q slot).0;
       front_own = λ q. ap (λ (o : Thread). get_or o.stack top datum.Null) q ∙ slot_below mid.stack (first_of rest) top (omega (arith, deep, size)) ∙ there;
     }
+
+-- the entry at a place of a chain
+pub entry_there : (known : KnownObjects) (head : Datum) (links : List Link) (n : ℕ) → IsChain known head links → first_of (drop n links) ≢ datum.Null
+    → (link : Link) × (rest : List Link) × (next : Datum) × (drop n links ≡ link ∷ rest) × IsEntry known next link
+entry_there known head [] zero chain some = absurd (some refl)
+entry_there known head [] (suc n) chain some = absurd (some refl)
+entry_there known head (l ∷ links) zero chain some = (l, links, chain.1.0, refl, chain.1.1)
+entry_there known head (l ∷ links) (suc n) chain some = entry_there known chain.1.0 links n chain.1.2 some
+
+-- the first entry of what is left
+pub front_is : (ls rest : List Link) (link : Link) → ls ≡ link ∷ rest → first_of ls ≡ datum.Object link.entry
+front_is [] rest link e = cc
+front_is (l ∷ ls) rest link e = ap first_of e
+
+pub short_first : (n : ℕ) (links rest : List Link) (link : Link) → AreShort links → drop n links ≡ link ∷ rest → length link.word ≤ WORD_LIMIT
+short_first zero [] rest link short e = cc
+short_first zero (l ∷ links) rest link short e = let q : l ≡ link = cc in subst (λ (m : Link). length m.word ≤ WORD_LIMIT) q short.0
+short_first (suc n) [] rest link short e = cc
+short_first (suc n) (l ∷ links) rest link short e = short_first n links rest link short.1 e
+
+pub took_none : (ls : List Link) (buffer : List ℕ) → first_of ls ≡ datum.Null → Took ls None buffer
+took_none [] buffer e = refl
+took_none (l ∷ ls) buffer e = cc
+
+pub took_some : (ls rest : List Link) (link : Link) (size count : ℕ) (buffer : List ℕ) → ls ≡ link ∷ rest → IsCopied link.word size buffer → count ≡ link.count → Took ls (Some (size, count)) buffer
+took_some ls rest link size count buffer e copied same =
+    subst (λ l. Took l (Some (size, count)) buffer) (sym e) (size, ap (λ n. Some (size, n)) same, copied)
