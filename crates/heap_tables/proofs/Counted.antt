@@ -33,10 +33,10 @@ count_same counts w n = get-insert nat_list_cmp_total counts w n w ∙ ap (λ b.
 count_other : (counts : WordCounts) (w v : List ℕ) (n : ℕ) → v ≢ w → get (insert counts w n) v ≡ get counts v
 count_other counts w v n ne = get-insert nat_list_cmp_total counts w n v ∙ ap (λ b. cond b (Some n) (get counts v)) (word_tie v w ne)
 
-same_some : (a b : ℕ) → Some a ≡ Some b → a ≡ b
+pub same_some : (a b : ℕ) → Some a ≡ Some b → a ≡ b
 same_some a b e = cc
 
-not_none : (a : ℕ) → Some a ≡ None → ⊥
+pub not_none : (a : ℕ) → Some a ≡ None → ⊥
 not_none a e = cc
 
 is_some_none : IsSome {T = ℕ} None → ⊥
@@ -46,7 +46,7 @@ pub lacks_count : (w : List ℕ) (links : List Link) (n : ℕ) → LacksWord w l
 lacks_count w [] n lacks h = h
 lacks_count w (l ∷ links) n lacks h = elim h [ inl here ↦ lacks.0 here.0 | inr later ↦ lacks_count w links n lacks.1 later.1 ]
 
-one_count : (w : List ℕ) (links : List Link) (m n : ℕ) → HasCount w links m → HasCount w links n → m ≡ n
+pub one_count : (w : List ℕ) (links : List Link) (m n : ℕ) → HasCount w links m → HasCount w links n → m ≡ n
 one_count w [] m n a b = absurd a
 one_count w (l ∷ links) m n a b = elim a [
   | inl here ↦ elim b [ inl too ↦ sym here.1 ∙ too.1 | inr other ↦ absurd (other.0 here.0) ]

@@ -36,7 +36,7 @@ homes_raised : (b : ℕ) (passed rest : List Link) (link : Link) (n : ℕ) → A
 homes_raised b [] rest link n h = h
 homes_raised b (p ∷ passed) rest link n h = (h.0, homes_raised b passed rest link n h.1)
 
-lacks_at : (w : List ℕ) (passed rest : List Link) (link : Link) → LacksWord w (passed ++ link ∷ rest) → link.word ≢ w
+pub lacks_at : (w : List ℕ) (passed rest : List Link) (link : Link) → LacksWord w (passed ++ link ∷ rest) → link.word ≢ w
 lacks_at w [] rest link h = h.0
 lacks_at w (p ∷ passed) rest link h = lacks_at w passed rest link h.1
 
@@ -48,7 +48,7 @@ other_bucket : (b c : ℕ) (w : List ℕ) → bucket_of w ≡ b → b ≢ c → 
 other_bucket b c w h o [] homes = tt
 other_bucket b c w h o (l ∷ links) homes = (λ e. o (sym h ∙ sym (ap bucket_of e) ∙ homes.0), other_bucket b c w h o links homes.1)
 
-home_at : (b : ℕ) (passed rest : List Link) (link : Link) → AreInBucket b (passed ++ link ∷ rest) → bucket_of link.word ≡ b
+pub home_at : (b : ℕ) (passed rest : List Link) (link : Link) → AreInBucket b (passed ++ link ∷ rest) → bucket_of link.word ≡ b
 home_at b [] rest link h = h.0
 home_at b (p ∷ passed) rest link h = home_at b passed rest link h.1
 
