@@ -13,3 +13,7 @@ err_map (Err e) P Q f h = f h
 pub ok_both : {A B : Type 0} (r : Result A B) (P Q : Type 0) → OnOk r P → OnOk r Q → OnOk r (P × Q)
 ok_both (Ok x) P Q h k = (h, k)
 ok_both (Err e) P Q h k = tt
+
+pub either : {A B : Type 0} (r : Result A B) (P : Type 0) → OnOk r P → OnErr r P → P
+either (Ok x) P h k = h
+either (Err e) P h k = k

@@ -59,6 +59,7 @@ pub record IsAddedTo (known : KnownObjects) (word : List ℕ) (n : ℕ) (name : 
   pub is_table : IsTable after name heads (with_bucket buckets (bucket_of word) links)
   pub adds : AddsCount word n (buckets (bucket_of word)) links
   pub others : KeepsOthers known name (buckets (bucket_of word)) after
+  pub fresh : (other : Name) → IsKnown known other → IsNoEntry other (buckets (bucket_of word)) → IsNoEntry other links
 
 -- An entry of a known map whose count may rise by n.
 abbrev pub MayRaise : Standing → (KnownObjects → Type 0) → ℕ → ℕ → Type 0

@@ -1,0 +1,67 @@
+//! The merge of two tables.
+ghost use Rattle.std.specs.Prelude.{◌≡◌, ℕ, ◌+◌, ◌*◌, ◌^◌, ◌<◌, ◌≤◌, List, length, None, OnOk, OnErr, IfOk};
+ghost use Rattle.std.specs.FinMap as finite;
+ghost use Rattle.object_layout.specs.declared.TheConstants.{MAX_INT, MAX_SERIAL, PAGE_WORDS, WORD_LIMIT};
+ghost use Rattle.object_layout.specs.declared.names.Name.{Name};
+ghost use Rattle.yak_model.specs.declared.TheConstants.{BUCKETS, ENTRY_FIELDS, STACK_SLOTS};
+ghost use Rattle.yak_model.specs.declared.datum.Datum.{Datum};
+ghost use Rattle.yak_model.specs.Private.{KnownObjects};
+ghost use Rattle.yak_model.specs.Room.{entry_words};
+ghost use Rattle.yak_model.specs.Tables.{Link, WordCounts};
+ghost use Rattle.heap_tables.specs.declared.TheConstants.{FREE_SLOTS, MOST_MADE};
+ghost use Rattle.heap_tables.specs.Adds.{having_made};
+ghost use Rattle.heap_tables.specs.Merges.{HasEntryFor, HasShare, IsShare, with_shared};
+ghost use Rattle.heap_tables.specs.Runs.{IsInSlot, KeepsKnown, Ran, RanOut, next_of, stack_in};
+ghost use Rattle.heap_tables.specs.Walks.{IsEntryInSlot};
+
+use crate::seek::seek;
+use crate::steps::{load, pop};
+use crate::tables::link_new;
+use object_layout::OutOfHeap;
+use yak_model::Caller;
+
+/// Makes an entry for the key of another entry, and puts it at the front of a bucket.
+fn share_key<C: Caller>(caller: &mut C, entry: u32, into: u32, bucket: u32, n: u64, top: u32) -> Result<(), OutOfHeap>
+    requires number { n ≤ MAX_INT }
+    requires entry { HasEntryFor (C.standing caller.old) (C.knows caller.old) entry into bucket }
+    requires page { PAGE_WORDS ≤ (C.standing caller.old).limits.page }
+    requires names { (C.standing caller.old).own.made < MAX_SERIAL }
+    requires room { length (stack_in (C.standing caller.old)) + 3 < STACK_SLOTS }
+    requires top { length (stack_in (C.standing caller.old)) ≡ top }
+    ensures ran { OnOk result (Ran C.base C.tells C.tells_known C.standing caller.old caller.new entry_words) }
+    ensures own { OnOk result ((C.standing caller.new).own ≡ having_made (C.standing caller.old).own 1) }
+    ensures shared { OnOk result ((known : KnownObjects) (name : Name) (heads : List Datum) (next : Datum) (link : Link) → C.knows caller.old known → IsInSlot (C.standing caller.old) known into name heads → bucket < length heads → IsEntryInSlot (C.standing caller.old) known entry next link → C.knows caller.new (with_shared (C.standing caller.old) known name heads bucket link.key n) × (finite.get known (next_of (C.standing caller.old)) ≡ None)) }
+    ensures same { OnErr result ((C.standing caller.new).own ≡ (C.standing caller.old).own) }
+    ensures keeps { OnErr result (KeepsKnown (C.knows caller.old) (C.knows caller.new)) }
+    ensures ran_out { OnErr result (RanOut C.base C.tells C.tells_known C.standing caller.old caller.new 0 ENTRY_FIELDS) }
+{
+    load(caller, into, bucket);
+    load(caller, entry, 1);
+    let linked = link_new(caller, into, bucket, n, top);
+    pop(caller);
+    pop(caller);
+    linked
+}
+
+/// Makes an entry for the key of the entry at a place of a bucket's chain, and puts it at the front of the same bucket of
+/// another table.
+fn share<C: Caller>(caller: &mut C, from: u32, into: u32, bucket: u32, place: u32, n: u64, top: u32) -> Result<(), OutOfHeap>
+    requires number { n ≤ MAX_INT }
+    requires tables { HasShare (C.standing caller.old) (C.knows caller.old) from into bucket place }
+    requires page { PAGE_WORDS ≤ (C.standing caller.old).limits.page }
+    requires names { (C.standing caller.old).own.made < MAX_SERIAL }
+    requires room { length (stack_in (C.standing caller.old)) + 5 < STACK_SLOTS }
+    requires top { length (stack_in (C.standing caller.old)) ≡ top }
+    ensures ran { OnOk result (Ran C.base C.tells C.tells_known C.standing caller.old caller.new entry_words) }
+    ensures own { OnOk result ((C.standing caller.new).own ≡ having_made (C.standing caller.old).own 1) }
+    ensures shared { OnOk result ((known : KnownObjects) (from_name into_name : Name) (values heads : List Datum) (links : List Link) (link : Link) (rest : List Link) → C.knows caller.old known → IsShare (C.standing caller.old) known from into bucket place from_name into_name values heads links link rest → C.knows caller.new (with_shared (C.standing caller.old) known into_name heads bucket link.key n) × (finite.get known (next_of (C.standing caller.old)) ≡ None)) }
+    ensures same { OnErr result ((C.standing caller.new).own ≡ (C.standing caller.old).own) }
+    ensures kept { OnErr result ((known : KnownObjects) (from_name into_name : Name) (values heads : List Datum) (links : List Link) (link : Link) (rest : List Link) → C.knows caller.old known → IsShare (C.standing caller.old) known from into bucket place from_name into_name values heads links link rest → C.knows caller.new known) }
+    ensures ran_out { OnErr result (RanOut C.base C.tells C.tells_known C.standing caller.old caller.new 0 ENTRY_FIELDS) }
+{
+    seek(caller, from, bucket, place, top);
+    let shared = share_key(caller, top + 1, into, bucket, n, top + 2);
+    pop(caller);
+    pop(caller);
+    shared
+}
