@@ -44,7 +44,7 @@ pub distinct_parts : (passed rest : List Link) (link : Link) → AreDifferent (p
 distinct_parts [] rest link h = (tt, h.0)
 distinct_parts (p ∷ passed) rest link h = let r = distinct_parts passed rest link h.1 in ((λ e. lacks_at p.word passed rest link h.0 (sym e), r.0), r.1)
 
-other_bucket : (b c : ℕ) (w : List ℕ) → bucket_of w ≡ b → b ≢ c → (links : List Link) → AreInBucket c links → LacksWord w links
+pub other_bucket : (b c : ℕ) (w : List ℕ) → bucket_of w ≡ b → b ≢ c → (links : List Link) → AreInBucket c links → LacksWord w links
 other_bucket b c w h o [] homes = tt
 other_bucket b c w h o (l ∷ links) homes = (λ e. o (sym h ∙ sym (ap bucket_of e) ∙ homes.0), other_bucket b c w h o links homes.1)
 

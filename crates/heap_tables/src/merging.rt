@@ -10,13 +10,13 @@ ghost use Rattle.yak_model.specs.Room.{entry_words};
 ghost use Rattle.yak_model.specs.Tables.{Link, WordCounts};
 ghost use Rattle.heap_tables.specs.declared.TheConstants.{FREE_SLOTS, MOST_MADE};
 ghost use Rattle.heap_tables.specs.Adds.{having_made};
-ghost use Rattle.heap_tables.specs.Merges.{HasEntryFor, HasShare, IsShare, with_shared};
+ghost use Rattle.heap_tables.specs.Merges.{AreSlots, Goes, HasEntryFor, HasMerging, HasNextEntry, HasShare, IsEntryAt, IsMerge, IsMerged, IsShare, Merge, Stops, done_at, with_shared};
 ghost use Rattle.heap_tables.specs.Runs.{IsInSlot, KeepsKnown, Ran, RanOut, next_of, stack_in};
 ghost use Rattle.heap_tables.specs.Walks.{IsEntryInSlot};
 
 use crate::seek::seek;
 use crate::steps::{load, pop};
-use crate::tables::link_new;
+use crate::tables::{add_present, link_new};
 use object_layout::OutOfHeap;
 use yak_model::Caller;
 
@@ -64,4 +64,22 @@ fn share<C: Caller>(caller: &mut C, from: u32, into: u32, bucket: u32, place: u3
     pop(caller);
     pop(caller);
     shared
+}
+
+/// Adds the count of an entry of one table, which has this word and count, to another table.
+fn add_entry<C: Caller>(caller: &mut C, from: u32, into: u32, bucket: u32, place: u32, word: &[u8], n: u64, top: u32) -> Result<(), OutOfHeap>
+    requires tables { HasNextEntry (C.standing caller.old) (C.knows caller.old) from into bucket place word.now n }
+    requires bucket { bucket < BUCKETS }
+    requires word { length word.now ≤ WORD_LIMIT }
+    requires page { PAGE_WORDS ≤ (C.standing caller.old).limits.page }
+    requires names { (C.standing caller.old).own.made < MAX_SERIAL }
+    requires room { length (stack_in (C.standing caller.old)) + 5 < STACK_SLOTS }
+    requires top { length (stack_in (C.standing caller.old)) ≡ top }
+    ensures added { OnOk result ((m : Merge) (is : IsMerge m) (link : Link) (rest : List Link) → AreSlots (C.standing caller.old) from into m → IsMerged m is (done_at m.buckets bucket place) (C.knows caller.old) → IsEntryAt m bucket place word.now n link rest → Goes C.base C.tells C.tells_known C.standing m is (done_at m.buckets bucket place) (done_at m.buckets bucket (place + 1)) caller.old caller.new (C.knows caller.new)) }
+    ensures stopped { OnErr result ((m : Merge) (is : IsMerge m) (link : Link) (rest : List Link) → AreSlots (C.standing caller.old) from into m → IsMerged m is (done_at m.buckets bucket place) (C.knows caller.old) → IsEntryAt m bucket place word.now n link rest → Stops C.base C.tells C.tells_known C.standing m is (done_at m.buckets bucket place) caller.old caller.new (C.knows caller.new)) }
+{
+    if add_present(caller, into, word, n, top) {
+        return Ok(());
+    }
+    share(caller, from, into, bucket, place, n, top)
 }
