@@ -21,3 +21,7 @@ either (Err e) P h k = k
 pub err_both : {A B : Type 0} (r : Result A B) (P Q : Type 0) → OnErr r P → OnErr r Q → OnErr r (P × Q)
 err_both (Ok x) P Q h k = tt
 err_both (Err e) P Q h k = (h, k)
+
+pub on_err : {A B : Type 0} (r : Result A B) (P : Type 0) → P → OnErr r P
+on_err (Ok x) P h = tt
+on_err (Err e) P h = h

@@ -15,7 +15,7 @@ use Rattle.heap_tables.specs.Adds.{AddsCount, IsAddedTo, IsNoEntry, MayAdd, havi
 use Rattle.heap_tables.specs.Counted.{count_of, or_zero, raised}
 use Rattle.heap_tables.specs.Merges.{AreSlots, AreSums, Goes, IsEntryAt, IsMerge, IsMerged, IsNowhere, IsShare, KeepsUntouched, Merge, SharesNone, Stops, done_at, news, one_if_none, raised_by, walk, with_shared}
 use Rattle.heap_tables.specs.Runs.{Ran, RanOut, next_of}
-use Rattle.heap_tables.specs.Walks.{IsApart}
+use Rattle.heap_tables.specs.Walks.{IsApart, IsAtChain}
 use Rattle.heap_tables.proofs.Counted.{added_counts, bucket_small, count_found, count_other}
 use Rattle.heap_tables.proofs.Entries.{key_no_entry}
 use Rattle.heap_tables.proofs.Linked.{shared_table}
@@ -49,6 +49,21 @@ done_next buckets b p link rest e =
 
 pub done_all : (buckets : ℕ → List Link) (b p : ℕ) → drop p (buckets b) ≡ [] → done_at buckets b p ≡ walk buckets (suc b)
 done_all buckets b p e = ap (λ ls. walk buckets b ++ ls) (take_all p (buckets b) e)
+
+pub done_full : (buckets : ℕ → List Link) (b p : ℕ) → drop p (buckets b) ≡ [] → done_at buckets b p ≡ walk buckets (b + 1)
+done_full buckets b p e = let q : suc b ≡ b + 1 = omega arith in done_all buckets b p e ∙ ap (walk buckets) q
+
+pub done_length : (buckets : ℕ → List Link) (b p : ℕ) → length (done_at buckets b p) ≤ length (walk buckets b) + p
+done_length buckets b p = let long = length-append (walk buckets b) (take p (buckets b)) in let part = taken p (buckets b) in omega (arith, long, part)
+  where
+    taken : (n : ℕ) (xs : List Link) → length (take n xs) ≤ n
+    taken zero xs = omega arith
+    taken (suc n) [] = omega arith
+    taken (suc n) (x ∷ xs) = let h = taken n xs in omega (arith, h)
+
+-- a slot after objects were made
+pub made_slot : (s now : Standing) (n i : ℕ) → now.own ≡ having_made s.own n → get_or now.own.stack i datum.Null ≡ get_or s.own.stack i datum.Null
+made_slot s now n i e = ap (λ (o : Thread). get_or o.stack i datum.Null) e
 
 pub done_start : (buckets : ℕ → List Link) (b : ℕ) → done_at buckets b 0 ≡ walk buckets b
 done_start buckets b = append-nil (walk buckets b)
@@ -381,6 +396,12 @@ module _ (m : Merge) (is : IsMerge m) (b p : ℕ) (bound : b < 128) (knows : Kno
         slot = (slots.1, t.object);
         within = omega (arith, into_size, bound);
       }
+
+  pub from_chain : (now : Standing) (from : ℕ) → get_or now.own.stack from datum.Null ≡ datum.Object m.from_name → IsAtChain now d.after from b m.from_name m.heads (m.buckets b) × IsApart m.from_name (m.buckets b)
+  from_chain now from slot =
+      let f = from_now in
+      let size = f.size in
+      (((slot, f.object), omega (arith, size, bound), f.chains b bound), table_apart d.after m.from_name m.heads m.buckets f (m.buckets b) (get_or m.heads b datum.Null) (f.chains b bound))
 
   pub get_now : (word : List ℕ) (link : Link) → word ≡ link.word → get d.counts word ≡ get (raised_by m.counts (done_at m.buckets b p)) link.word
   get_now word link e = ap (λ cs. get cs word) d.counts_are ∙ ap (get (raised_by m.counts (done_at m.buckets b p))) e

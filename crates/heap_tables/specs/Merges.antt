@@ -1,7 +1,7 @@
 -- What a merge of two tables leaves.
-use Rattle.std.specs.Prelude.{◌≡◌, ◌≢◌, ℕ, ◌+◌, ◌*◌, ◌^◌, ◌<◌, ◌≤◌, zero, suc, Bool, false, List, [], ◌∷◌, ◌++◌, drop, length, slice_index_or, slice_set, take, Option, None, Some}
+use Rattle.std.specs.Prelude.{◌≡◌, ◌≢◌, ℕ, ◌+◌, ◌*◌, ◌^◌, ◌<◌, ◌≤◌, zero, suc, Bool, true, false, List, [], ◌∷◌, ◌++◌, drop, length, slice_index_or, slice_set, take, Option, None, Some, IsSome}
 use Rattle.std.specs.FinMap as finite
-use Rattle.object_layout.specs.declared.TheConstants.{MAX_INT}
+use Rattle.object_layout.specs.declared.TheConstants.{MAX_INT, WORD_LIMIT}
 use Rattle.object_layout.specs.declared.names.Name.{Name}
 use Rattle.yak_model.specs.declared.TheConstants.{BUCKETS, ENTRY_FIELDS}
 use Rattle.yak_model.specs.declared.datum.Datum.{Datum}
@@ -12,7 +12,7 @@ use Rattle.yak_model.specs.Room.{entry_words}
 use Rattle.yak_model.specs.Standing.{Standing}
 use Rattle.yak_model.specs.Tables.{IsCountTable, IsTable, Link, WordCounts}
 use Rattle.heap_tables.specs.Adds.{IsNoEntry, having_made, with_fields}
-use Rattle.heap_tables.specs.Counted.{count_of, raised}
+use Rattle.heap_tables.specs.Counted.{count_of, or_zero, raised}
 use Rattle.heap_tables.specs.Reads.{AreShort}
 use Rattle.heap_tables.specs.Runs.{IsInSlot, Ran, RanOut, next_of, slot_in}
 use Rattle.heap_tables.specs.Walks.{IsApart, IsAtChain, IsEntryInSlot}
@@ -154,3 +154,74 @@ IsEntryAt m b p word n link rest = (drop p (m.buckets b) ≡ link ∷ rest) × (
 abbrev pub HasNextEntry : Standing → (KnownObjects → Type 0) → ℕ → ℕ → ℕ → ℕ → List ℕ → ℕ → Type 0
 HasNextEntry s knows from into b p word n =
     (m : Merge) × (is : IsMerge m) × (link : Link) × (rest : List Link) × AreSlots s from into m × IsMerged m is (done_at m.buckets b p) knows × IsEntryAt m b p word n link rest
+
+-- Slots refer to two tables of a known map that are merged as far as a bucket.
+abbrev pub HasMerged : Standing → (KnownObjects → Type 0) → ℕ → ℕ → ℕ → Type 0
+HasMerged s knows from into b =
+    (m : Merge) × (is : IsMerge m) × AreSlots s from into m × IsMerged m is (walk m.buckets b) knows
+
+-- The entry at a place of a bucket was merged, or there is none.
+abbrev pub MergesEntry : {S B : Type 0} → (S → B) → (S → ℕ → Thread → Type 0) → (S → ℕ → KnownObjects → Type 0) → (S → Standing) → (m : Merge) → IsMerge m → ℕ → ℕ → Bool → S → S → (KnownObjects → Type 0) → Type 0
+MergesEntry base tells tells_known standing m is b p true x y knows = Goes base tells tells_known standing m is (done_at m.buckets b p) (done_at m.buckets b (p + 1)) x y knows
+MergesEntry base tells tells_known standing m is b p false x y knows =
+    (drop p (m.buckets b) ≡ []) × Goes base tells tells_known standing m is (done_at m.buckets b p) (done_at m.buckets b p) x y knows
+
+-- ---- whole tables
+
+-- Slots refer to two different tables of one known map that share no entry. The words of the one are no longer than words may
+-- be, and its counts can be added to those of the other.
+pub record MayMerge (s : Standing) (known : KnownObjects) (from into : ℕ) (from_name into_name : Name) (from_counts into_counts : WordCounts) : Type 0 where
+  pub from_slot : slot_in s from ≡ datum.Object from_name
+  pub into_slot : slot_in s into ≡ datum.Object into_name
+  pub from_table : IsCountTable known from_name from_counts
+  pub into_table : IsCountTable known into_name into_counts
+  pub different : from_name ≢ into_name
+  pub apart : (b c : ℕ) → b < BUCKETS → c < BUCKETS → SharesNone (from_table.buckets b) (into_table.buckets c)
+  pub from_few : (b : ℕ) → b < BUCKETS → length (from_table.buckets b) < 2 ^ 32
+  pub into_few : (b : ℕ) → b < BUCKETS → length (into_table.buckets b) < 2 ^ 32
+  pub short : (word : List ℕ) → IsSome (finite.get from_counts word) → length word ≤ WORD_LIMIT
+  pub sums : (word : List ℕ) → count_of into_counts word + count_of from_counts word ≤ MAX_INT
+
+abbrev pub HasTables : Standing → (KnownObjects → Type 0) → ℕ → ℕ → Type 0
+HasTables s knows from into =
+    (known : KnownObjects) × (from_name : Name) × (into_name : Name) × (from_counts : WordCounts) × (into_counts : WordCounts) × knows known × MayMerge s known from into from_name into_name from_counts into_counts
+
+-- the count of a word in one table, with that in another added
+abbrev pub sum_of : Option ℕ → Option ℕ → Option ℕ
+sum_of first None = first
+sum_of first (Some n) = Some (or_zero first + n)
+
+-- A known map has the sums in the one table and the same counts in the other, and all else that isn't the one table's own as
+-- it was. One entry was made for each new word.
+pub record IsMergedWhole {S B : Type 0} (base : S → B) (tells : S → ℕ → Thread → Type 0) (tells_known : S → ℕ → KnownObjects → Type 0) (standing : S → Standing) (known : KnownObjects) (from_name into_name : Name) (from_counts into_counts : WordCounts) (from_buckets into_buckets : ℕ → List Link) (a b : S) (knows : KnownObjects → Type 0) : Type 0 where
+  pub later : KnownObjects
+  pub known_now : knows later
+  pub from_table : IsCountTable later from_name from_counts
+  pub sums : WordCounts
+  pub into_table : IsCountTable later into_name sums
+  pub sums_are : (word : List ℕ) → finite.get sums word ≡ sum_of (finite.get into_counts word) (finite.get from_counts word)
+  pub others : (other : Name) → IsKnown known other → other ≢ into_name → IsNowhere other into_buckets → finite.get later other ≡ finite.get known other
+  pub made : ℕ
+  pub new_words : made ≡ news into_counts (walk from_buckets BUCKETS)
+  pub ran : Ran base tells tells_known standing a b (made * entry_words)
+  pub own : (standing b).own ≡ having_made (standing a).own made
+
+-- A known map has the counts of the first entries of the walk added, up to one whose word is new. One entry was made for each
+-- new word before it, and there was no room for its own.
+pub record IsMergedPart {S B : Type 0} (base : S → B) (tells : S → ℕ → Thread → Type 0) (tells_known : S → ℕ → KnownObjects → Type 0) (standing : S → Standing) (known : KnownObjects) (from_name into_name : Name) (from_counts into_counts : WordCounts) (from_buckets into_buckets : ℕ → List Link) (a b : S) (knows : KnownObjects → Type 0) : Type 0 where
+  pub done : List Link
+  pub link : Link
+  pub rest : List Link
+  pub parts : walk from_buckets BUCKETS ≡ done ++ link ∷ rest
+  pub absent : finite.get into_counts link.word ≡ None
+  pub later : KnownObjects
+  pub known_now : knows later
+  pub from_table : IsCountTable later from_name from_counts
+  pub counts : WordCounts
+  pub into_table : IsCountTable later into_name counts
+  pub counts_are : counts ≡ raised_by into_counts done
+  pub others : (other : Name) → IsKnown known other → other ≢ into_name → IsNowhere other into_buckets → finite.get later other ≡ finite.get known other
+  pub made : ℕ
+  pub new_words : made ≡ news into_counts done
+  pub ran_out : RanOut base tells tells_known standing a b (made * entry_words) ENTRY_FIELDS
+  pub own : (standing b).own ≡ having_made (standing a).own made
