@@ -27,7 +27,7 @@ word_tie v w ne = by_order (slice_cmp nat_cmp v w) refl
     by_order Equal e = absurd (ne (slice_cmp-IsAntisymmetric nat_cmp-IsAntisymmetric v w e))
     by_order Greater e = ap is_eq e
 
-count_same : (counts : WordCounts) (w : List ℕ) (n : ℕ) → get (insert counts w n) w ≡ Some n
+pub count_same : (counts : WordCounts) (w : List ℕ) (n : ℕ) → get (insert counts w n) w ≡ Some n
 count_same counts w n = get-insert nat_list_cmp_total counts w n w ∙ ap (λ b. cond b (Some n) (get counts w)) (ap is_eq (tied_itself nat_list_cmp_total w))
 
 pub count_other : (counts : WordCounts) (w v : List ℕ) (n : ℕ) → v ≢ w → get (insert counts w n) v ≡ get counts v

@@ -1,5 +1,5 @@
 -- A merge of two tables, entry by entry.
-use Rattle.std.proofs.Common.{zero, suc, ◌≡◌, ◌≢◌, ◌⊎◌, inl, inr, ℕ, ◌+◌, ◌*◌, ◌%◌, ◌<◌, ◌≤◌, ◌^◌, List, [], ◌∷◌, ◌++◌, drop, take, get_or, refl, ◌∙◌, ap, sym, subst, Some, None, Option, IsSome, is_some, cond, eqb, arith, length, append_assoc, length-append, true≢false}
+use Rattle.std.proofs.Common.{zero, suc, ◌≡◌, ◌≢◌, ◌⊎◌, inl, inr, ℕ, ◌+◌, ◌*◌, ◌%◌, ◌<◌, ◌≤◌, ◌^◌, List, [], ◌∷◌, ◌++◌, drop, take, get_or, refl, ◌∙◌, ap, sym, subst, Some, None, Option, IsSome, is_some, Bool, true, false, cond, eqb, arith, length, append_assoc, length-append, true≢false}
 use Rattle.std.proofs.lemmas.Bool.{cases_lt}
 use Rattle.std.proofs.lemmas.List.{append-nil}
 use Rattle.std.specs.FinMap.{get, insert}
@@ -13,7 +13,7 @@ use Rattle.yak_model.specs.Standing.{Standing}
 use Rattle.yak_model.specs.Tables.{AreDifferent, AreInBucket, HasCount, IsChain, IsCountTable, IsEntry, IsKey, IsTable, LacksWord, Link, WordCounts, bucket_of, entry_fields}
 use Rattle.heap_tables.specs.Adds.{AddsCount, IsAddedTo, IsNoEntry, MayAdd, having_made, with_bucket}
 use Rattle.heap_tables.specs.Counted.{count_of, or_zero, raised}
-use Rattle.heap_tables.specs.Merges.{AreSlots, AreSums, Goes, IsEntryAt, IsMerge, IsMerged, IsNowhere, IsShare, KeepsUntouched, Merge, SharesNone, Stops, done_at, news, one_if_none, raised_by, walk, with_shared}
+use Rattle.heap_tables.specs.Merges.{AreSlots, AreSums, Goes, IsEntryAt, IsMerge, IsMerged, IsNowhere, IsShare, KeepsUntouched, Merge, MergesEntry, SharesNone, Stops, done_at, news, one_if_none, raised_by, walk, with_shared}
 use Rattle.heap_tables.specs.Runs.{Ran, RanOut, next_of}
 use Rattle.heap_tables.specs.Walks.{IsApart, IsAtChain}
 use Rattle.heap_tables.proofs.Counted.{added_counts, bucket_small, count_found, count_other}
@@ -118,7 +118,7 @@ take_lacks zero xs rest link different e = tt
 take_lacks (suc p) [] rest link different e = tt
 take_lacks (suc p) (x ∷ xs) rest link different e = ((λ q. lacks_drop x.word p xs rest link different.0 e (sym q)), take_lacks p xs rest link different.1 e)
 
-walk_lacks : (buckets : ℕ → List Link) (w : List ℕ) (n : ℕ) → ((b : ℕ) → b < 128 → AreInBucket b (buckets b)) → n ≤ bucket_of w → n ≤ 128 → LacksWord w (walk buckets n)
+pub walk_lacks : (buckets : ℕ → List Link) (w : List ℕ) (n : ℕ) → ((b : ℕ) → b < 128 → AreInBucket b (buckets b)) → n ≤ bucket_of w → n ≤ 128 → LacksWord w (walk buckets n)
 walk_lacks buckets w zero homes h small = tt
 walk_lacks buckets w (suc n) homes h small =
     lacks_append w (walk buckets n) (buckets n) (walk_lacks buckets w n homes (omega (arith, h)) (omega (arith, small)))
@@ -418,3 +418,12 @@ module _ (m : Merge) (is : IsMerge m) (b p : ℕ) (bound : b < 128) (knows : Kno
       let apart = table_apart d.after m.into_name (d.into_table).heads (d.into_table).buckets t (m.buckets b) (get_or m.heads b datum.Null) (f.chains b bound) in
       shared_table d.after m.into_name (d.into_table).heads (d.into_table).buckets t word n b home bound (subst (λ c. LacksWord word ((d.into_table).buckets c)) home lacks)
       link.key (next_of s) fresh key (λ e. apart_link m.into_name p (m.buckets b) rest link apart at.0 (sym e)) after k
+
+module _ {S B : Type 0} (base : S → B) (tells : S → ℕ → Thread → Type 0) (tells_known : S → ℕ → KnownObjects → Type 0) (standing : S → Standing) (m : Merge) (is : IsMerge m) (b p : ℕ) (x y : S) (knows : KnownObjects → Type 0) where
+  pub merges_end : (more : Bool) → more ≡ false → MergesEntry base tells tells_known standing m is b p more x y knows → (drop p (m.buckets b) ≡ []) × Goes base tells tells_known standing m is (done_at m.buckets b p) (done_at m.buckets b p) x y knows
+  merges_end false e h = h
+  merges_end true e h = absurd (true≢false e)
+
+  pub merges_on : (more : Bool) → more ≡ true → MergesEntry base tells tells_known standing m is b p more x y knows → Goes base tells tells_known standing m is (done_at m.buckets b p) (done_at m.buckets b (p + 1)) x y knows
+  merges_on true e h = h
+  merges_on false e h = absurd (true≢false (sym e))

@@ -92,3 +92,33 @@ merge_bucket-requires-clause-top g c =
     let own = G.own in
     let now_slots : AreSlots (C.standing c.loop-bucket.caller) c.args.from c.args.into m = (made_slot s (C.standing c.loop-bucket.caller) G.made c.args.from own ∙ slots.0, made_slot s (C.standing c.loop-bucket.caller) G.made c.args.into own ∙ slots.1) in
     omega (arith, c.requires.top, ap (λ (o : Thread). length o.stack) own)
+
+pub returns-in_err-merge_bucket-clause-stopped : goal.returns-in_err-merge_bucket-clause-stopped
+returns-in_err-merge_bucket-clause-stopped g c =
+    let C = g.C.Caller in
+    let s = C.standing c.args.caller.now in
+    on_err c.from_residual.result _ (λ m is slots d.
+      let G = c.loop-bucket.invariant.goes m is slots d in
+      let own = G.own in
+      let now_slots : AreSlots (C.standing c.loop-bucket.caller) c.args.from c.args.into m = (made_slot s (C.standing c.loop-bucket.caller) G.made c.args.from own ∙ slots.0, made_slot s (C.standing c.loop-bucket.caller) G.made c.args.into own ∙ slots.1) in
+      goes_stops C.base C.tells C.tells_known C.standing m is [] (walk m.buckets c.loop-bucket.bucket) c.args.caller.now c.loop-bucket.caller c.merge_bucket.new.caller (C.knows c.loop-bucket.caller) (C.knows c.merge_bucket.new.caller) G (c.in_err-merge_bucket.ensures.stopped m is now_slots G.merged))
+
+pub loop-bucket-preserved : goal.loop-bucket-preserved
+loop-bucket-preserved g c =
+    let C = g.C.Caller in
+    let s = C.standing c.args.caller.now in
+    record {
+      buffer = c.merge_bucket.ensures.buffer ∙ c.loop-bucket.invariant.buffer;
+      goes = λ m is slots d.
+        let G = c.loop-bucket.invariant.goes m is slots d in
+        let own = G.own in
+        let now_slots : AreSlots (C.standing c.loop-bucket.caller) c.args.from c.args.into m = (made_slot s (C.standing c.loop-bucket.caller) G.made c.args.from own ∙ slots.0, made_slot s (C.standing c.loop-bucket.caller) G.made c.args.into own ∙ slots.1) in
+        goes_then C.base C.tells C.tells_known C.standing m is [] (walk m.buckets c.loop-bucket.bucket) (walk m.buckets (c.loop-bucket.bucket + 1)) c.args.caller.now c.loop-bucket.caller c.merge_bucket.new.caller (C.knows c.loop-bucket.caller) (C.knows c.merge_bucket.new.caller) G (c.in_ok-merge_bucket.ensures.merged m is now_slots G.merged);
+    }
+
+pub returns-clause-merged : goal.returns-clause-merged
+returns-clause-merged g c m is slots d =
+    let C = g.C.Caller in
+    let s = C.standing c.args.caller.now in
+    let end : c.loop-bucket.bucket ≡ 128 = omega (arith, c.loop-bucket-test.false, c.loop-bucket.auto.bucket-end) in
+    subst (λ n. Goes C.base C.tells C.tells_known C.standing m is [] (walk m.buckets n) c.args.caller.now c.loop-bucket.caller (C.knows c.loop-bucket.caller)) end (c.loop-bucket.invariant.goes m is slots d)
