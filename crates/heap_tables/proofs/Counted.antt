@@ -92,7 +92,7 @@ module _ (known : KnownObjects) (name : Name) (counts : WordCounts) (table : IsC
         let before : LacksWord word a.0 = subst (λ w. LacksWord w a.0) a.4 distinct.0 in
         let old = count_found (a.1).count (subst (λ ls. HasCount word ls (a.1).count) (sym a.3) (at_or_before word a.0 a.2 a.1 before a.4)) in
         subst (λ ls. HasCount word ls (count_of counts word + n)) (sym a.5)
-          (subst (λ m. HasCount word (a.0 ++ with_sum a.1 n ∷ a.2) (m + n)) (sym old) (at_or_before word a.0 a.2 (with_sum a.1 n) before a.4))
+        (subst (λ m. HasCount word (a.0 ++ with_sum a.1 n ∷ a.2) (m + n)) (sym old) (at_or_before word a.0 a.2 (with_sum a.1 n) before a.4))
     | inr b ↦
         let old = count_lacking b.0 in
         let sum : (b.1.0).count ≡ count_of counts word + n = omega (arith, old, b.1.2) in
@@ -123,13 +123,13 @@ module _ (known : KnownObjects) (name : Name) (counts : WordCounts) (table : IsC
     | inl same ↦
         let sum : count_of counts word + n ≡ m = same_some _ m (sym (ap (get (raised counts word n)) same ∙ count_same counts word (count_of counts word + n)) ∙ e) in
         at_bucket (λ ls. HasCount v ls m) added.links (bucket_of v)
-          (λ _. subst (λ k. HasCount v added.links k) sum (subst (λ w. HasCount w added.links (count_of counts word + n)) (sym same) (new_count added.links added.adds)))
-          (λ o. absurd (o (ap bucket_of same)))
+        (λ _. subst (λ k. HasCount v added.links k) sum (subst (λ w. HasCount w added.links (count_of counts word + n)) (sym same) (new_count added.links added.adds)))
+        (λ o. absurd (o (ap bucket_of same)))
     | inr ne ↦
         let old = table.counted v m (sym (count_other counts word v (count_of counts word + n) ne) ∙ e) in
         at_bucket (λ ls. HasCount v ls m) added.links (bucket_of v)
-          (λ s. other_count added.links added.adds v ne m (subst (λ c. HasCount v (table.buckets c) m) s old))
-          (λ o. old)
+        (λ s. other_count added.links added.adds v ne m (subst (λ c. HasCount v (table.buckets c) m) s old))
+        (λ o. old)
   ]
 
   pub added_absent : (knows : KnownObjects → Type 0) (added : IsAddedTo known word n name table.buckets knows) (v : List ℕ) → get (raised counts word n) v ≡ None → LacksWord v (with_bucket table.buckets (bucket_of word) added.links (bucket_of v))
@@ -138,8 +138,8 @@ module _ (known : KnownObjects) (name : Name) (counts : WordCounts) (table : IsC
     | inr ne ↦
         let old = table.absent v (sym (count_other counts word v (count_of counts word + n) ne) ∙ e) in
         at_bucket (LacksWord v) added.links (bucket_of v)
-          (λ s. other_lack added.links added.adds v ne (subst (λ c. LacksWord v (table.buckets c)) s old))
-          (λ o. old)
+        (λ s. other_lack added.links added.adds v ne (subst (λ c. LacksWord v (table.buckets c)) s old))
+        (λ o. old)
   ]
 
   abbrev pub added_counts : (knows : KnownObjects → Type 0) (added : IsAddedTo known word n name table.buckets knows) → IsCountTable added.after name (raised counts word n)

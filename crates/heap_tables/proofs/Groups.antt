@@ -20,13 +20,12 @@ digits_equal xs ys bx by s (suc n) e k h =
       | inr past ↦ let same : n ≡ k = omega (arith, h, past) in subst (λ j. get_or xs (s + j) 0 ≡ get_or ys (s + j) 0) same both.1
     ]
 
-
 pub equal_words : (xs ys : List ℕ) → AreBytes xs → AreBytes ys → length xs ≡ length ys → ((i : ℕ) → i < groups (length xs) → group xs i ≡ group ys i) → xs ≡ ys
 unfolding group
 equal_words xs ys bx by size same =
     same_number_lists xs ys size (λ k h.
-      let i : ℕ = k / 7 in
-      let place : 7 * i + k % 7 ≡ k = omega arith in
-      let inside : k % 7 < 7 = omega arith in
-      let bound : i < groups (length xs) = omega (arith, h) in
-      subst (λ j. get_or xs j 0 ≡ get_or ys j 0) place (digits_equal xs ys bx by (7 * i) 7 (same i bound) (k % 7) inside))
+    let i : ℕ = k / 7 in
+    let place : 7 * i + k % 7 ≡ k = omega arith in
+    let inside : k % 7 < 7 = omega arith in
+    let bound : i < groups (length xs) = omega (arith, h) in
+    subst (λ j. get_or xs j 0 ≡ get_or ys j 0) place (digits_equal xs ys bx by (7 * i) 7 (same i bound) (k % 7) inside))

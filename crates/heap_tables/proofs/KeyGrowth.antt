@@ -26,7 +26,7 @@ made_size s own e = ap (λ (o : Thread). length o.stack) e ∙ length_push s.own
 pub key_first : (known : KnownObjects) (name : Name) (word : List ℕ) (knows : KnownObjects → Type 0) (k : ℕ) → k ≡ groups (length word) + 1
     → knows (with_field (insert known name (Fields (replicate k datum.Null))) name (replicate k datum.Null) 0 (datum.Int (length word)))
     → IsKeyBegun known name word 0 knows
-key_first known name word knows k e h = 
+key_first known name word knows k e h =
     let bound : 0 < length (replicate k datum.Null) = omega (arith, length-replicate k datum.Null, e) in record {
       values = set (replicate k datum.Null) 0 (datum.Int (length word));
       size = length-set (replicate k datum.Null) 0 (datum.Int (length word)) ∙ length-replicate k datum.Null ∙ e;
@@ -45,7 +45,7 @@ key_more known name word n before after p lt h =
       size = length-set p.values (n + 1) (datum.Int (group word n)) ∙ p.size;
       first = get_or-set_other p.values (n + 1) 0 (datum.Int (group word n)) datum.Null first_apart ∙ p.first;
       rest = below_more (λ i. get_or (set p.values (n + 1) (datum.Int (group word n))) (i + 1) datum.Null ≡ datum.Int (group word i)) n
-        (λ i less. let apart : i + 1 ≢ n + 1 = omega (arith, less) in get_or-set_other p.values (n + 1) (i + 1) (datum.Int (group word n)) datum.Null apart ∙ p.rest i less)
-        (get_or-set_same p.values (n + 1) (datum.Int (group word n)) datum.Null bound);
+          (λ i less. let apart : i + 1 ≢ n + 1 = omega (arith, less) in get_or-set_other p.values (n + 1) (i + 1) (datum.Int (group word n)) datum.Null apart ∙ p.rest i less)
+          (get_or-set_same p.values (n + 1) (datum.Int (group word n)) datum.Null bound);
       known_now = subst after (insert_again known name _ _) h;
     }

@@ -85,11 +85,15 @@ shared_table known name heads buckets table word n b home bound lacks key entry 
       is_table = subst (λ i. IsTable after name last (with_bucket buckets i (link ∷ buckets b))) (sym home) (record {
         object = get-same two name (Fields last);
         size = length-set heads b (datum.Object entry) ∙ table.size;
-        chains = in_bucket (λ c ls. IsChain after (get_or last c datum.Null) ls) buckets b (link ∷ buckets b)
-          (get_or-set_same heads b (datum.Object entry) datum.Null within,
-            (get_or heads b datum.Null, (agree entry (λ e. name_entry (sym e)) ∙ entry_there, (is_key.0, agree key (λ e. name_key (sym e)) ∙ key_there, is_key.2, is_key.3)),
-              chain_agrees two after name agree (buckets b) (get_or heads b datum.Null) (table_apart two name heads buckets t2 (buckets b) (get_or heads b datum.Null) (t2.chains b bound)) (t2.chains b bound)))
-          (λ c h o. subst (λ v. IsChain after v (buckets c)) (sym (get_or-set_other heads b c (datum.Object entry) datum.Null o))
+        chains = in_bucket (λ c ls. IsChain after (get_or last c datum.Null) ls) buckets b (link ∷ buckets b) (
+          get_or-set_same heads b (datum.Object entry) datum.Null within,
+          (
+            get_or heads b datum.Null,
+            (agree entry (λ e. name_entry (sym e)) ∙ entry_there, (is_key.0, agree key (λ e. name_key (sym e)) ∙ key_there, is_key.2, is_key.3)),
+            chain_agrees two after name agree (buckets b) (get_or heads b datum.Null) (table_apart two name heads buckets t2 (buckets b) (get_or heads b datum.Null) (t2.chains b bound)) (t2.chains b bound),
+          ),
+        )
+            (λ c h o. subst (λ v. IsChain after v (buckets c)) (sym (get_or-set_other heads b c (datum.Object entry) datum.Null o))
             (chain_agrees two after name agree (buckets c) (get_or heads c datum.Null) (table_apart two name heads buckets t2 (buckets c) (get_or heads c datum.Null) (t2.chains c h)) (t2.chains c h)));
         homes = in_bucket AreInBucket buckets b (link ∷ buckets b) (home, table.homes b bound) (λ c h o. table.homes c h);
         distinct = in_bucket (λ c ls. AreDifferent ls) buckets b (link ∷ buckets b) (lacks, table.distinct b bound) (λ c h o. table.distinct c h);
@@ -126,4 +130,4 @@ pub shared_map : (known : KnownObjects) (name : Name) (heads : List Datum) (b n 
 shared_map known name heads b n knows entry_was front_was key_was front entry key e f q k =
     subst (λ x. knows (insert (insert known x (Fields (front ∷ key ∷ datum.Int n ∷ []))) name (Fields (set heads b (datum.Object x))))) e
     (subst (λ v. knows (insert (insert known entry_was (Fields (v ∷ key ∷ datum.Int n ∷ []))) name (Fields (set heads b (datum.Object entry_was))))) f
-      (subst (λ v. knows (insert (insert known entry_was (Fields (front_was ∷ v ∷ datum.Int n ∷ []))) name (Fields (set heads b (datum.Object entry_was))))) q k))
+    (subst (λ v. knows (insert (insert known entry_was (Fields (front_was ∷ v ∷ datum.Int n ∷ []))) name (Fields (set heads b (datum.Object entry_was))))) q k))

@@ -77,12 +77,13 @@ walk_more buckets b (suc n) h = elim (cases_lt b n) [
 
 pub walk_parts : (buckets : ℕ → List Link) (b p n : ℕ) (link : Link) (rest : List Link) → b < n → drop p (buckets b) ≡ link ∷ rest → (more : List Link) × (walk buckets n ≡ done_at buckets b p ++ link ∷ more)
 walk_parts buckets b p n link rest h e =
-    let r = walk_more buckets b n h in
-    (rest ++ r.0,
+    let r = walk_more buckets b n h in (
+      rest ++ r.0,
       r.1 ∙ ap (λ ls. (walk buckets b ++ ls) ++ r.0) (take_with p (buckets b) rest link e)
-      ∙ append_assoc (walk buckets b) (take p (buckets b) ++ link ∷ rest) r.0
-      ∙ ap (λ ls. walk buckets b ++ ls) (append_assoc (take p (buckets b)) (link ∷ rest) r.0)
-      ∙ sym (append_assoc (walk buckets b) (take p (buckets b)) (link ∷ rest ++ r.0)))
+          ∙ append_assoc (walk buckets b) (take p (buckets b) ++ link ∷ rest) r.0
+          ∙ ap (λ ls. walk buckets b ++ ls) (append_assoc (take p (buckets b)) (link ∷ rest) r.0)
+          ∙ sym (append_assoc (walk buckets b) (take p (buckets b)) (link ∷ rest ++ r.0)),
+    )
 
 -- ---- the counts
 
@@ -178,12 +179,13 @@ untouched_step : (known : KnownObjects) (name : Name) (buckets : ℕ → List Li
 untouched_step known name buckets mid now kept word n knows added other k ne away =
     let r = kept other k ne away in
     let k_mid : IsKnown mid other = subst (λ o. IsSome o) (sym r.0) k in
-    let here = r.1 (bucket_of word) (bucket_small word) in
-    (added.others other k_mid ne here ∙ r.0,
+    let here = r.1 (bucket_of word) (bucket_small word) in (
+      added.others other k_mid ne here ∙ r.0,
       λ c h. elim (eqb_cases (bucket_of word) c) [
         | inl s ↦ subst (λ t. IsNoEntry other (cond t added.links (now c))) (sym s.0) (added.fresh other k_mid here)
         | inr o ↦ subst (λ t. IsNoEntry other (cond t added.links (now c))) (sym o.0) (r.1 c h)
-      ])
+      ],
+    )
 
 longer : (word : List ℕ) (n : ℕ) (links after : List Link) → AddsCount word n links after → length after ≤ length links + 1
 longer word n links after adds = elim adds [
@@ -208,10 +210,10 @@ merged_step m is done knows d word n link e f after added =
       into_table = added_counts d.after m.into_name d.counts d.into_table word n (bucket_small word) after added;
       untouched = untouched_step m.known m.into_name (is.into_table).buckets d.after (d.into_table).buckets d.untouched word n after added;
       few = λ c h.
-        let old = d.few c h in
-        let step = few_step (d.into_table).buckets word n added.links added.adds c in
-        let long = length-append done (link ∷ []) in
-        omega (arith, old, step, long);
+          let old = d.few c h in
+          let step = few_step (d.into_table).buckets word n added.links added.adds c in
+          let long = length-append done (link ∷ []) in
+          omega (arith, old, step, long);
     }
 
 pub merged_as : (m : Merge) (is : IsMerge m) (done : List Link) (knows after : KnownObjects → Type 0) (d : IsMerged m is done knows) → after d.after → IsMerged m is done after
@@ -241,20 +243,20 @@ may_merge s into m is b p knows d bound below walked slot word n link rest at =
       slot = slot;
       is_table = (d.into_table).table;
       short =
-        let c = bucket_of word in
-        let small : c < 128 = bucket_small word in
-        let few = d.few c small in
-        let first = is.into_few c small in
-        let long = length-append (walk m.buckets b) (take p (m.buckets b)) in
-        let part = take_length p (m.buckets b) in
-        let count : b * 2 ^ 32 ≤ 127 * 2 ^ 32 = omega (arith, bound) in
-        omega (arith, few, first, long, part, walked, count, below);
+          let c = bucket_of word in
+          let small : c < 128 = bucket_small word in
+          let few = d.few c small in
+          let first = is.into_few c small in
+          let long = length-append (walk m.buckets b) (take p (m.buckets b)) in
+          let part = take_length p (m.buckets b) in
+          let count : b * 2 ^ 32 ≤ 127 * 2 ^ 32 = omega (arith, bound) in
+          omega (arith, few, first, long, part, walked, count, below);
       number = let e = at.2 in omega (arith, e, sum);
       sum = λ count h.
-        let e = count_found d.after m.into_name d.counts d.into_table word n (bucket_small word) count h in
-        let f : count_of d.counts word ≡ count_of m.counts link.word = ap or_zero same in
-        let g = at.2 in
-        omega (arith, e, f, g, sum);
+          let e = count_found d.after m.into_name d.counts d.into_table word n (bucket_small word) count h in
+          let f : count_of d.counts word ≡ count_of m.counts link.word = ap or_zero same in
+          let g = at.2 in
+          omega (arith, e, f, g, sum);
     }
   where
     take_length : (n : ℕ) (xs : List Link) → length (take n xs) ≤ n

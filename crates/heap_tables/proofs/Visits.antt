@@ -85,8 +85,8 @@ is_next buckets at b bound low gone said buffer short v =
     let start = start_in at b in
     let link = v.0 in
     let long = short_first start (buckets b) v.1 link short v.2 in
-    let size = v.3.0 in
-    (omega (arith, size, long),
+    let size = v.3.0 in (
+      omega (arith, size, long),
       subst (λ n. IsNext buckets at (take said.0 buffer) said.1 n) (sym v.5) (record {
         place = start;
         link = link;
@@ -100,7 +100,8 @@ is_next buckets at b bound low gone said buffer short v =
         words = v.3.1;
         counts = v.4;
         after = refl;
-      }))
+      }),
+    )
 
 module _ (known : KnownObjects) (name : Name) (counts : WordCounts) (table : IsCountTable known name counts) (b : ℕ) (bound : b < 128) where
   -- an entry of a bucket has the count of its word

@@ -60,9 +60,9 @@ module _ (buckets : ℕ → List Link) (homes : (b : ℕ) → b < 128 → AreInB
   walk_none (suc n) lacks small = lacks_append w (walk buckets n) (buckets n) (walk_none n lacks (omega (arith, small))) (elim (cases_lt (bucket_of w) n) [
     | inl lt ↦ other_bucket (bucket_of w) n w refl (λ e. omega (arith, lt, e)) (buckets n) (homes n (omega (arith, small)))
     | inr ge ↦ elim (cases_lt n (bucket_of w)) [
-        | inl lt ↦ other_bucket (bucket_of w) n w refl (λ e. omega (arith, lt, e)) (buckets n) (homes n (omega (arith, small)))
-        | inr le ↦ (let e : bucket_of w ≡ n = omega (arith, ge, le) in subst (λ c. LacksWord w (buckets c)) e lacks)
-      ]
+      | inl lt ↦ other_bucket (bucket_of w) n w refl (λ e. omega (arith, lt, e)) (buckets n) (homes n (omega (arith, small)))
+      | inr le ↦ (let e : bucket_of w ≡ n = omega (arith, ge, le) in subst (λ c. LacksWord w (buckets c)) e lacks)
+    ]
   ])
 
 whole_sum : (known : KnownObjects) (name : Name) (from : WordCounts) (table : IsCountTable known name from) (counts : WordCounts) (w : List ℕ) → get (raised_by counts (walk table.buckets 128)) w ≡ sum_of (get counts w) (get from w)

@@ -22,7 +22,14 @@ use object_layout::{OutOfHeap, WORD_LIMIT};
 use yak_model::{BUCKETS, Caller};
 
 /// Makes an entry for the key of another entry, and puts it at the front of a bucket.
-fn share_key<C: Caller>(caller: &mut C, entry: u32, into: u32, bucket: u32, n: u64, top: u32) -> Result<(), OutOfHeap>
+fn share_key<C: Caller>(
+    caller: &mut C,
+    entry: u32,
+    into: u32,
+    bucket: u32,
+    n: u64,
+    top: u32,
+) -> Result<(), OutOfHeap>
     requires number { n ≤ MAX_INT }
     requires entry { HasEntryFor (C.standing caller.old) (C.knows caller.old) entry into bucket }
     requires page { PAGE_WORDS ≤ (C.standing caller.old).limits.page }
@@ -46,7 +53,15 @@ fn share_key<C: Caller>(caller: &mut C, entry: u32, into: u32, bucket: u32, n: u
 
 /// Makes an entry for the key of the entry at a place of a bucket's chain, and puts it at the front of the same bucket of
 /// another table.
-fn share<C: Caller>(caller: &mut C, from: u32, into: u32, bucket: u32, place: u32, n: u64, top: u32) -> Result<(), OutOfHeap>
+fn share<C: Caller>(
+    caller: &mut C,
+    from: u32,
+    into: u32,
+    bucket: u32,
+    place: u32,
+    n: u64,
+    top: u32,
+) -> Result<(), OutOfHeap>
     requires number { n ≤ MAX_INT }
     requires tables { HasShare (C.standing caller.old) (C.knows caller.old) from into bucket place }
     requires page { PAGE_WORDS ≤ (C.standing caller.old).limits.page }
@@ -68,7 +83,16 @@ fn share<C: Caller>(caller: &mut C, from: u32, into: u32, bucket: u32, place: u3
 }
 
 /// Adds the count of an entry of one table, which has this word and count, to another table.
-fn add_entry<C: Caller>(caller: &mut C, from: u32, into: u32, bucket: u32, place: u32, word: &[u8], n: u64, top: u32) -> Result<(), OutOfHeap>
+fn add_entry<C: Caller>(
+    caller: &mut C,
+    from: u32,
+    into: u32,
+    bucket: u32,
+    place: u32,
+    word: &[u8],
+    n: u64,
+    top: u32,
+) -> Result<(), OutOfHeap>
     requires tables { HasNextEntry (C.standing caller.old) (C.knows caller.old) from into bucket place word.now n }
     requires bucket { bucket < BUCKETS }
     requires word { length word.now ≤ WORD_LIMIT }
@@ -86,7 +110,15 @@ fn add_entry<C: Caller>(caller: &mut C, from: u32, into: u32, bucket: u32, place
 }
 
 /// Adds the count of the entry at a place of a bucket to another table, and tells whether there is one.
-fn merge_entry<C: Caller>(caller: &mut C, from: u32, into: u32, bucket: u32, place: u32, buffer: &mut [u8], top: u32) -> Result<bool, OutOfHeap>
+fn merge_entry<C: Caller>(
+    caller: &mut C,
+    from: u32,
+    into: u32,
+    bucket: u32,
+    place: u32,
+    buffer: &mut [u8],
+    top: u32,
+) -> Result<bool, OutOfHeap>
     requires tables { HasMerging (C.standing caller.old) (C.knows caller.old) from into bucket place }
     requires bucket { bucket < BUCKETS }
     requires buffer { WORD_LIMIT ≤ length buffer.old }
@@ -100,7 +132,16 @@ fn merge_entry<C: Caller>(caller: &mut C, from: u32, into: u32, bucket: u32, pla
 {
     match take_entry(caller, from, bucket, place, buffer, top) {
         Some((size, count)) => {
-            add_entry(caller, from, into, bucket, place, &buffer[..size], count, top)?;
+            add_entry(
+                caller,
+                from,
+                into,
+                bucket,
+                place,
+                &buffer[..size],
+                count,
+                top,
+            )?;
             Ok(true)
         }
         None => Ok(false),
@@ -108,7 +149,14 @@ fn merge_entry<C: Caller>(caller: &mut C, from: u32, into: u32, bucket: u32, pla
 }
 
 /// Adds the counts of a bucket to another table.
-fn merge_bucket<C: Caller>(caller: &mut C, from: u32, into: u32, bucket: u32, buffer: &mut [u8], top: u32) -> Result<(), OutOfHeap>
+fn merge_bucket<C: Caller>(
+    caller: &mut C,
+    from: u32,
+    into: u32,
+    bucket: u32,
+    buffer: &mut [u8],
+    top: u32,
+) -> Result<(), OutOfHeap>
     requires tables { HasMerged (C.standing caller.old) (C.knows caller.old) from into bucket }
     requires bucket { bucket < BUCKETS }
     requires buffer { WORD_LIMIT ≤ length buffer.old }
@@ -129,7 +177,13 @@ fn merge_bucket<C: Caller>(caller: &mut C, from: u32, into: u32, bucket: u32, bu
 }
 
 /// Adds the counts of all buckets to another table.
-fn merge_buckets<C: Caller>(caller: &mut C, from: u32, into: u32, buffer: &mut [u8], top: u32) -> Result<(), OutOfHeap>
+fn merge_buckets<C: Caller>(
+    caller: &mut C,
+    from: u32,
+    into: u32,
+    buffer: &mut [u8],
+    top: u32,
+) -> Result<(), OutOfHeap>
     requires tables { HasMerged (C.standing caller.old) (C.knows caller.old) from into 0 }
     requires buffer { WORD_LIMIT ≤ length buffer.old }
     requires page { PAGE_WORDS ≤ (C.standing caller.old).limits.page }

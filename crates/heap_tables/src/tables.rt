@@ -16,11 +16,11 @@ ghost use Rattle.yak_model.specs.Tables.{bucket_of};
 ghost use Rattle.heap_tables.specs.Walks.{IsEntryInSlot};
 ghost use Rattle.heap_tables.specs.Adds.{AddRan, AddRanOut, AddsPresent, HasTable, MakesForNew, MayAdd, MayRaise, with_count, HasBlank, with_fields, with_linked, IsAddedTo, Grows};
 
-use object_layout::OutOfHeap;
-use yak_model::{BUCKETS, Caller, ENTRY_FIELDS};
 use crate::chains::find;
 use crate::keys::{bucket_of, make_key};
 use crate::steps::{field_int, load, pop, push_new, put_int, stack_size, store};
+use object_layout::OutOfHeap;
+use yak_model::{BUCKETS, Caller, ENTRY_FIELDS};
 
 /// Raises the count of an entry.
 fn raise<C: Caller>(caller: &mut C, entry: u32, n: u64, top: u32)
@@ -34,7 +34,6 @@ fn raise<C: Caller>(caller: &mut C, entry: u32, n: u64, top: u32)
     let count = field_int(caller, entry, 2, top);
     put_int(caller, entry, 2, count + n, top);
 }
-
 
 /// Pushes a new table of no words.
 pub fn make<C: Caller>(caller: &mut C) -> Result<(), OutOfHeap>
@@ -53,7 +52,13 @@ pub fn make<C: Caller>(caller: &mut C) -> Result<(), OutOfHeap>
 }
 
 /// Adds to the count of a word that is in the table, and tells whether it is.
-pub(crate) fn add_present<C: Caller>(caller: &mut C, table: u32, word: &[u8], n: u64, top: u32) -> bool
+pub(crate) fn add_present<C: Caller>(
+    caller: &mut C,
+    table: u32,
+    word: &[u8],
+    n: u64,
+    top: u32,
+) -> bool
     requires table { HasTable (C.standing caller.old) (C.knows caller.old) table word.now n }
     requires word { length word.now ≤ WORD_LIMIT }
     requires room { length (stack_in (C.standing caller.old)) + 3 < STACK_SLOTS }
@@ -92,7 +97,13 @@ fn fill_entry<C: Caller>(caller: &mut C, entry: u32, next: u32, key: u32, n: u64
 }
 
 /// Makes an entry for the key in the top slot, and puts it at the front of a bucket, which the slot below has.
-pub(crate) fn link_new<C: Caller>(caller: &mut C, table: u32, bucket: u32, n: u64, front: u32) -> Result<(), OutOfHeap>
+pub(crate) fn link_new<C: Caller>(
+    caller: &mut C,
+    table: u32,
+    bucket: u32,
+    n: u64,
+    front: u32,
+) -> Result<(), OutOfHeap>
     requires number { n ≤ MAX_INT }
     requires table { HasField (C.standing caller.old) (C.knows caller.old) table bucket }
     requires page { PAGE_WORDS ≤ (C.standing caller.old).limits.page }
@@ -114,7 +125,14 @@ pub(crate) fn link_new<C: Caller>(caller: &mut C, table: u32, bucket: u32, n: u6
 }
 
 /// Puts a new entry of a new word at the front of its bucket, which the top slot has.
-fn insert_new<C: Caller>(caller: &mut C, table: u32, bucket: u32, word: &[u8], n: u64, front: u32) -> Result<(), OutOfHeap>
+fn insert_new<C: Caller>(
+    caller: &mut C,
+    table: u32,
+    bucket: u32,
+    word: &[u8],
+    n: u64,
+    front: u32,
+) -> Result<(), OutOfHeap>
     requires number { n ≤ MAX_INT }
     requires table { HasField (C.standing caller.old) (C.knows caller.old) table bucket }
     requires word { length word.now ≤ WORD_LIMIT }
@@ -143,7 +161,13 @@ fn insert_new<C: Caller>(caller: &mut C, table: u32, bucket: u32, word: &[u8], n
 }
 
 /// Adds to the count of a word, as far as chains go.
-fn add_links<C: Caller>(caller: &mut C, table: u32, word: &[u8], n: u64, top: u32) -> Result<(), OutOfHeap>
+fn add_links<C: Caller>(
+    caller: &mut C,
+    table: u32,
+    word: &[u8],
+    n: u64,
+    top: u32,
+) -> Result<(), OutOfHeap>
     requires table { HasTable (C.standing caller.old) (C.knows caller.old) table word.now n }
     requires word { length word.now ≤ WORD_LIMIT }
     requires page { PAGE_WORDS ≤ (C.standing caller.old).limits.page }

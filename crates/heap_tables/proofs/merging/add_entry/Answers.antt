@@ -113,23 +113,23 @@ returns-clause-added g c =
     let s = C.standing c.args.caller.now in
     ok_map c.share.result _ _
     (λ all m is link rest slots d at.
-      let b = c.args.bucket in
-      let p = c.args.place in
-      let word = c.args.word.now in
-      let n = c.args.n in
-      let may = may_merge s c.args.into m is b p (C.knows c.args.caller.now) d c.requires.bucket (omega (arith, c.ranges.place)) (length_walk m.buckets is.from_few b (omega (arith, c.requires.bucket))) slots.1 word n link rest at in
-      let table = d.into_table in
-      let missing = (c.if-add_present.ensures.added d.after m.into_name table.heads table.buckets d.known_now may).1 refl in
-      let own = c.add_present.ensures.own in
-      let now_slots : AreSlots (C.standing c.add_present.new.caller) c.args.from c.args.into m = (value_same s.own _ c.args.from own ∙ slots.0, value_same s.own _ c.args.into own ∙ slots.1) in
-      let shares = is_share m is b p c.requires.bucket (C.knows c.args.caller.now) d (C.standing c.add_present.new.caller) c.args.from c.args.into now_slots link rest at.0 in
-      let sh = all.0 d.after m.from_name m.into_name m.heads table.heads (m.buckets b) link rest missing.1 shares in
-      let mid = C.standing c.add_present.new.caller in
-      let added = shared_now m is b p c.requires.bucket (C.knows c.args.caller.now) d word n link rest at missing.0 mid sh.1 (C.knows c.share.new.caller) sh.0 in
-      let merged = merged_step m is (done_at m.buckets b p) (C.knows c.args.caller.now) d word n link at.1 at.2 (C.knows c.share.new.caller) added in
-      let absent = sym (get_now m is b p c.requires.bucket (C.knows c.args.caller.now) d word link at.1) ∙ lacks_none d.after m.into_name d.counts table word missing.0 in
-      goes_new C.base C.tells C.tells_known C.standing m is b p word n link rest at c.args.caller.now c.share.new.caller (C.knows c.share.new.caller) merged absent
-      (then_ran C.base C.tells C.tells_known C.standing _ _ _ _ c.add_present.ensures.ran all.1.0) (all.1.1 ∙ ap (λ o. having_made o 1) own))
+    let b = c.args.bucket in
+    let p = c.args.place in
+    let word = c.args.word.now in
+    let n = c.args.n in
+    let may = may_merge s c.args.into m is b p (C.knows c.args.caller.now) d c.requires.bucket (omega (arith, c.ranges.place)) (length_walk m.buckets is.from_few b (omega (arith, c.requires.bucket))) slots.1 word n link rest at in
+    let table = d.into_table in
+    let missing = (c.if-add_present.ensures.added d.after m.into_name table.heads table.buckets d.known_now may).1 refl in
+    let own = c.add_present.ensures.own in
+    let now_slots : AreSlots (C.standing c.add_present.new.caller) c.args.from c.args.into m = (value_same s.own _ c.args.from own ∙ slots.0, value_same s.own _ c.args.into own ∙ slots.1) in
+    let shares = is_share m is b p c.requires.bucket (C.knows c.args.caller.now) d (C.standing c.add_present.new.caller) c.args.from c.args.into now_slots link rest at.0 in
+    let sh = all.0 d.after m.from_name m.into_name m.heads table.heads (m.buckets b) link rest missing.1 shares in
+    let mid = C.standing c.add_present.new.caller in
+    let added = shared_now m is b p c.requires.bucket (C.knows c.args.caller.now) d word n link rest at missing.0 mid sh.1 (C.knows c.share.new.caller) sh.0 in
+    let merged = merged_step m is (done_at m.buckets b p) (C.knows c.args.caller.now) d word n link at.1 at.2 (C.knows c.share.new.caller) added in
+    let absent = sym (get_now m is b p c.requires.bucket (C.knows c.args.caller.now) d word link at.1) ∙ lacks_none d.after m.into_name d.counts table word missing.0 in
+    goes_new C.base C.tells C.tells_known C.standing m is b p word n link rest at c.args.caller.now c.share.new.caller (C.knows c.share.new.caller) merged absent
+    (then_ran C.base C.tells C.tells_known C.standing _ _ _ _ c.add_present.ensures.ran all.1.0) (all.1.1 ∙ ap (λ o. having_made o 1) own))
     (ok_both c.share.result _ _ c.share.ensures.shared (ok_both c.share.result _ _ c.share.ensures.ran c.share.ensures.own))
 
 pub returns-clause-stopped : goal.returns-clause-stopped
@@ -138,19 +138,19 @@ returns-clause-stopped g c =
     let s = C.standing c.args.caller.now in
     err_map c.share.result _ _
     (λ all m is link rest slots d at.
-      let b = c.args.bucket in
-      let p = c.args.place in
-      let word = c.args.word.now in
-      let n = c.args.n in
-      let may = may_merge s c.args.into m is b p (C.knows c.args.caller.now) d c.requires.bucket (omega (arith, c.ranges.place)) (length_walk m.buckets is.from_few b (omega (arith, c.requires.bucket))) slots.1 word n link rest at in
-      let table = d.into_table in
-      let missing = (c.if-add_present.ensures.added d.after m.into_name table.heads table.buckets d.known_now may).1 refl in
-      let own = c.add_present.ensures.own in
-      let now_slots : AreSlots (C.standing c.add_present.new.caller) c.args.from c.args.into m = (value_same s.own _ c.args.from own ∙ slots.0, value_same s.own _ c.args.into own ∙ slots.1) in
-      let shares = is_share m is b p c.requires.bucket (C.knows c.args.caller.now) d (C.standing c.add_present.new.caller) c.args.from c.args.into now_slots link rest at.0 in
-      let kept = all.0 d.after m.from_name m.into_name m.heads table.heads (m.buckets b) link rest missing.1 shares in
-      let absent = sym (get_now m is b p c.requires.bucket (C.knows c.args.caller.now) d word link at.1) ∙ lacks_none d.after m.into_name d.counts table word missing.0 in
-      stops_here C.base C.tells C.tells_known C.standing m is b p word n link rest c.requires.bucket at c.args.caller.now c.share.new.caller (C.knows c.share.new.caller)
-      (merged_as m is (done_at m.buckets b p) (C.knows c.args.caller.now) (C.knows c.share.new.caller) d kept) absent
-      (then_out C.base C.tells C.tells_known C.standing _ _ _ _ _ c.add_present.ensures.ran all.1.0) (all.1.1 ∙ own))
+    let b = c.args.bucket in
+    let p = c.args.place in
+    let word = c.args.word.now in
+    let n = c.args.n in
+    let may = may_merge s c.args.into m is b p (C.knows c.args.caller.now) d c.requires.bucket (omega (arith, c.ranges.place)) (length_walk m.buckets is.from_few b (omega (arith, c.requires.bucket))) slots.1 word n link rest at in
+    let table = d.into_table in
+    let missing = (c.if-add_present.ensures.added d.after m.into_name table.heads table.buckets d.known_now may).1 refl in
+    let own = c.add_present.ensures.own in
+    let now_slots : AreSlots (C.standing c.add_present.new.caller) c.args.from c.args.into m = (value_same s.own _ c.args.from own ∙ slots.0, value_same s.own _ c.args.into own ∙ slots.1) in
+    let shares = is_share m is b p c.requires.bucket (C.knows c.args.caller.now) d (C.standing c.add_present.new.caller) c.args.from c.args.into now_slots link rest at.0 in
+    let kept = all.0 d.after m.from_name m.into_name m.heads table.heads (m.buckets b) link rest missing.1 shares in
+    let absent = sym (get_now m is b p c.requires.bucket (C.knows c.args.caller.now) d word link at.1) ∙ lacks_none d.after m.into_name d.counts table word missing.0 in
+    stops_here C.base C.tells C.tells_known C.standing m is b p word n link rest c.requires.bucket at c.args.caller.now c.share.new.caller (C.knows c.share.new.caller)
+    (merged_as m is (done_at m.buckets b p) (C.knows c.args.caller.now) (C.knows c.share.new.caller) d kept) absent
+    (then_out C.base C.tells C.tells_known C.standing _ _ _ _ _ c.add_present.ensures.ran all.1.0) (all.1.1 ∙ own))
     (err_both c.share.result _ _ c.share.ensures.kept (err_both c.share.result _ _ c.share.ensures.ran_out c.share.ensures.same))

@@ -31,29 +31,29 @@ merge_buckets-requires-clause-room g c = omega (arith, c.requires.room, ap (λ (
 pub returns-clause-merged : goal.returns-clause-merged
 returns-clause-merged g c = ok_map c.merge_buckets.result _ _
     (λ merged known from_name into_name from_counts into_counts may k.
-      let C = g.C.Caller in
-      let s = C.standing c.args.caller.now in
-      let own = c.stack_size-top.ensures.own in
-      let m = merge_of s known c.args.from c.args.into from_name into_name from_counts into_counts may in
-      let is = is_merge s known c.args.from c.args.into from_name into_name from_counts into_counts may in
-      let slots : AreSlots (C.standing c.stack_size-top.new.caller) c.args.from c.args.into m = (value_same s.own _ c.args.from own ∙ may.from_slot, value_same s.own _ c.args.into own ∙ may.into_slot) in
-      let none = merged_none m is (C.knows c.stack_size-top.new.caller) (c.stack_size-top.ensures.keeps known k) in
-      let first = goes_nowhere C.base C.tells C.tells_known C.standing m is [] c.args.caller.now c.stack_size-top.new.caller (C.knows c.stack_size-top.new.caller) none c.stack_size-top.ensures.ran own in
-      let goes = goes_then C.base C.tells C.tells_known C.standing m is [] [] (walk (may.from_table).buckets 128) c.args.caller.now c.stack_size-top.new.caller c.merge_buckets.new.caller (C.knows c.stack_size-top.new.caller) (C.knows c.merge_buckets.new.caller) first (merged m is slots none) in
-      merged_whole s known c.args.from c.args.into from_name into_name from_counts into_counts may C.base C.tells C.tells_known C.standing c.args.caller.now c.merge_buckets.new.caller (C.knows c.merge_buckets.new.caller) goes)
+    let C = g.C.Caller in
+    let s = C.standing c.args.caller.now in
+    let own = c.stack_size-top.ensures.own in
+    let m = merge_of s known c.args.from c.args.into from_name into_name from_counts into_counts may in
+    let is = is_merge s known c.args.from c.args.into from_name into_name from_counts into_counts may in
+    let slots : AreSlots (C.standing c.stack_size-top.new.caller) c.args.from c.args.into m = (value_same s.own _ c.args.from own ∙ may.from_slot, value_same s.own _ c.args.into own ∙ may.into_slot) in
+    let none = merged_none m is (C.knows c.stack_size-top.new.caller) (c.stack_size-top.ensures.keeps known k) in
+    let first = goes_nowhere C.base C.tells C.tells_known C.standing m is [] c.args.caller.now c.stack_size-top.new.caller (C.knows c.stack_size-top.new.caller) none c.stack_size-top.ensures.ran own in
+    let goes = goes_then C.base C.tells C.tells_known C.standing m is [] [] (walk (may.from_table).buckets 128) c.args.caller.now c.stack_size-top.new.caller c.merge_buckets.new.caller (C.knows c.stack_size-top.new.caller) (C.knows c.merge_buckets.new.caller) first (merged m is slots none) in
+    merged_whole s known c.args.from c.args.into from_name into_name from_counts into_counts may C.base C.tells C.tells_known C.standing c.args.caller.now c.merge_buckets.new.caller (C.knows c.merge_buckets.new.caller) goes)
     c.merge_buckets.ensures.merged
 
 pub returns-clause-stopped : goal.returns-clause-stopped
 returns-clause-stopped g c = err_map c.merge_buckets.result _ _
     (λ stopped known from_name into_name from_counts into_counts may k.
-      let C = g.C.Caller in
-      let s = C.standing c.args.caller.now in
-      let own = c.stack_size-top.ensures.own in
-      let m = merge_of s known c.args.from c.args.into from_name into_name from_counts into_counts may in
-      let is = is_merge s known c.args.from c.args.into from_name into_name from_counts into_counts may in
-      let slots : AreSlots (C.standing c.stack_size-top.new.caller) c.args.from c.args.into m = (value_same s.own _ c.args.from own ∙ may.from_slot, value_same s.own _ c.args.into own ∙ may.into_slot) in
-      let none = merged_none m is (C.knows c.stack_size-top.new.caller) (c.stack_size-top.ensures.keeps known k) in
-      let first = goes_nowhere C.base C.tells C.tells_known C.standing m is [] c.args.caller.now c.stack_size-top.new.caller (C.knows c.stack_size-top.new.caller) none c.stack_size-top.ensures.ran own in
-      let stops = goes_stops C.base C.tells C.tells_known C.standing m is [] [] c.args.caller.now c.stack_size-top.new.caller c.merge_buckets.new.caller (C.knows c.stack_size-top.new.caller) (C.knows c.merge_buckets.new.caller) first (stopped m is slots none) in
-      merged_part s known c.args.from c.args.into from_name into_name from_counts into_counts may C.base C.tells C.tells_known C.standing c.args.caller.now c.merge_buckets.new.caller (C.knows c.merge_buckets.new.caller) stops)
+    let C = g.C.Caller in
+    let s = C.standing c.args.caller.now in
+    let own = c.stack_size-top.ensures.own in
+    let m = merge_of s known c.args.from c.args.into from_name into_name from_counts into_counts may in
+    let is = is_merge s known c.args.from c.args.into from_name into_name from_counts into_counts may in
+    let slots : AreSlots (C.standing c.stack_size-top.new.caller) c.args.from c.args.into m = (value_same s.own _ c.args.from own ∙ may.from_slot, value_same s.own _ c.args.into own ∙ may.into_slot) in
+    let none = merged_none m is (C.knows c.stack_size-top.new.caller) (c.stack_size-top.ensures.keeps known k) in
+    let first = goes_nowhere C.base C.tells C.tells_known C.standing m is [] c.args.caller.now c.stack_size-top.new.caller (C.knows c.stack_size-top.new.caller) none c.stack_size-top.ensures.ran own in
+    let stops = goes_stops C.base C.tells C.tells_known C.standing m is [] [] c.args.caller.now c.stack_size-top.new.caller c.merge_buckets.new.caller (C.knows c.stack_size-top.new.caller) (C.knows c.merge_buckets.new.caller) first (stopped m is slots none) in
+    merged_part s known c.args.from c.args.into from_name into_name from_counts into_counts may C.base C.tells C.tells_known C.standing c.args.caller.now c.merge_buckets.new.caller (C.knows c.merge_buckets.new.caller) stops)
     c.merge_buckets.ensures.stopped

@@ -97,10 +97,10 @@ returns-in_err-merge_entry-clause-stopped g c =
     let C = g.C.Caller in
     let s = C.standing c.args.caller.now in
     on_err c.from_residual.result _ (λ m is slots d.
-      let G = c.loop-place.invariant.goes m is slots d in
-      let own = G.own in
-      let now_slots : AreSlots (C.standing c.loop-place.caller) c.args.from c.args.into m = (made_slot s (C.standing c.loop-place.caller) G.made c.args.from own ∙ slots.0, made_slot s (C.standing c.loop-place.caller) G.made c.args.into own ∙ slots.1) in
-      goes_stops C.base C.tells C.tells_known C.standing m is (walk m.buckets c.args.bucket) (done_at m.buckets c.args.bucket c.loop-place.place) c.args.caller.now c.loop-place.caller c.merge_entry.new.caller (C.knows c.loop-place.caller) (C.knows c.merge_entry.new.caller) G (c.in_err-merge_entry.ensures.stopped m is now_slots G.merged))
+    let G = c.loop-place.invariant.goes m is slots d in
+    let own = G.own in
+    let now_slots : AreSlots (C.standing c.loop-place.caller) c.args.from c.args.into m = (made_slot s (C.standing c.loop-place.caller) G.made c.args.from own ∙ slots.0, made_slot s (C.standing c.loop-place.caller) G.made c.args.into own ∙ slots.1) in
+    goes_stops C.base C.tells C.tells_known C.standing m is (walk m.buckets c.args.bucket) (done_at m.buckets c.args.bucket c.loop-place.place) c.args.caller.now c.loop-place.caller c.merge_entry.new.caller (C.knows c.loop-place.caller) (C.knows c.merge_entry.new.caller) G (c.in_err-merge_entry.ensures.stopped m is now_slots G.merged))
 
 pub returns-then-not-branch-clause-merged : goal.returns-then-not-branch-clause-merged
 returns-then-not-branch-clause-merged g c m is slots d =
@@ -120,11 +120,11 @@ loop-place-preserved g c =
     record {
       buffer = c.merge_entry.ensures.buffer ∙ c.loop-place.invariant.buffer;
       goes = λ m is slots d.
-        let G = c.loop-place.invariant.goes m is slots d in
-        let own = G.own in
-        let now_slots : AreSlots (C.standing c.loop-place.caller) c.args.from c.args.into m = (made_slot s (C.standing c.loop-place.caller) G.made c.args.from own ∙ slots.0, made_slot s (C.standing c.loop-place.caller) G.made c.args.into own ∙ slots.1) in
-        let next = merges_on C.base C.tells C.tells_known C.standing m is c.args.bucket c.loop-place.place c.loop-place.caller c.merge_entry.new.caller (C.knows c.merge_entry.new.caller) c.in_ok-merge_entry.field-0 c.if-not-branch.false (c.in_ok-merge_entry.ensures.merged m is now_slots G.merged) in
-        goes_then C.base C.tells C.tells_known C.standing m is (walk m.buckets c.args.bucket) (done_at m.buckets c.args.bucket c.loop-place.place) (done_at m.buckets c.args.bucket (c.loop-place.place + 1)) c.args.caller.now c.loop-place.caller c.merge_entry.new.caller (C.knows c.loop-place.caller) (C.knows c.merge_entry.new.caller) G next;
+          let G = c.loop-place.invariant.goes m is slots d in
+          let own = G.own in
+          let now_slots : AreSlots (C.standing c.loop-place.caller) c.args.from c.args.into m = (made_slot s (C.standing c.loop-place.caller) G.made c.args.from own ∙ slots.0, made_slot s (C.standing c.loop-place.caller) G.made c.args.into own ∙ slots.1) in
+          let next = merges_on C.base C.tells C.tells_known C.standing m is c.args.bucket c.loop-place.place c.loop-place.caller c.merge_entry.new.caller (C.knows c.merge_entry.new.caller) c.in_ok-merge_entry.field-0 c.if-not-branch.false (c.in_ok-merge_entry.ensures.merged m is now_slots G.merged) in
+          goes_then C.base C.tells C.tells_known C.standing m is (walk m.buckets c.args.bucket) (done_at m.buckets c.args.bucket c.loop-place.place) (done_at m.buckets c.args.bucket (c.loop-place.place + 1)) c.args.caller.now c.loop-place.caller c.merge_entry.new.caller (C.knows c.loop-place.caller) (C.knows c.merge_entry.new.caller) G next;
     }
 
 pub returns-clause-merged : goal.returns-clause-merged

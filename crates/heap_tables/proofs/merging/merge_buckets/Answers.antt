@@ -98,10 +98,10 @@ returns-in_err-merge_bucket-clause-stopped g c =
     let C = g.C.Caller in
     let s = C.standing c.args.caller.now in
     on_err c.from_residual.result _ (λ m is slots d.
-      let G = c.loop-bucket.invariant.goes m is slots d in
-      let own = G.own in
-      let now_slots : AreSlots (C.standing c.loop-bucket.caller) c.args.from c.args.into m = (made_slot s (C.standing c.loop-bucket.caller) G.made c.args.from own ∙ slots.0, made_slot s (C.standing c.loop-bucket.caller) G.made c.args.into own ∙ slots.1) in
-      goes_stops C.base C.tells C.tells_known C.standing m is [] (walk m.buckets c.loop-bucket.bucket) c.args.caller.now c.loop-bucket.caller c.merge_bucket.new.caller (C.knows c.loop-bucket.caller) (C.knows c.merge_bucket.new.caller) G (c.in_err-merge_bucket.ensures.stopped m is now_slots G.merged))
+    let G = c.loop-bucket.invariant.goes m is slots d in
+    let own = G.own in
+    let now_slots : AreSlots (C.standing c.loop-bucket.caller) c.args.from c.args.into m = (made_slot s (C.standing c.loop-bucket.caller) G.made c.args.from own ∙ slots.0, made_slot s (C.standing c.loop-bucket.caller) G.made c.args.into own ∙ slots.1) in
+    goes_stops C.base C.tells C.tells_known C.standing m is [] (walk m.buckets c.loop-bucket.bucket) c.args.caller.now c.loop-bucket.caller c.merge_bucket.new.caller (C.knows c.loop-bucket.caller) (C.knows c.merge_bucket.new.caller) G (c.in_err-merge_bucket.ensures.stopped m is now_slots G.merged))
 
 pub loop-bucket-preserved : goal.loop-bucket-preserved
 loop-bucket-preserved g c =
@@ -110,10 +110,10 @@ loop-bucket-preserved g c =
     record {
       buffer = c.merge_bucket.ensures.buffer ∙ c.loop-bucket.invariant.buffer;
       goes = λ m is slots d.
-        let G = c.loop-bucket.invariant.goes m is slots d in
-        let own = G.own in
-        let now_slots : AreSlots (C.standing c.loop-bucket.caller) c.args.from c.args.into m = (made_slot s (C.standing c.loop-bucket.caller) G.made c.args.from own ∙ slots.0, made_slot s (C.standing c.loop-bucket.caller) G.made c.args.into own ∙ slots.1) in
-        goes_then C.base C.tells C.tells_known C.standing m is [] (walk m.buckets c.loop-bucket.bucket) (walk m.buckets (c.loop-bucket.bucket + 1)) c.args.caller.now c.loop-bucket.caller c.merge_bucket.new.caller (C.knows c.loop-bucket.caller) (C.knows c.merge_bucket.new.caller) G (c.in_ok-merge_bucket.ensures.merged m is now_slots G.merged);
+          let G = c.loop-bucket.invariant.goes m is slots d in
+          let own = G.own in
+          let now_slots : AreSlots (C.standing c.loop-bucket.caller) c.args.from c.args.into m = (made_slot s (C.standing c.loop-bucket.caller) G.made c.args.from own ∙ slots.0, made_slot s (C.standing c.loop-bucket.caller) G.made c.args.into own ∙ slots.1) in
+          goes_then C.base C.tells C.tells_known C.standing m is [] (walk m.buckets c.loop-bucket.bucket) (walk m.buckets (c.loop-bucket.bucket + 1)) c.args.caller.now c.loop-bucket.caller c.merge_bucket.new.caller (C.knows c.loop-bucket.caller) (C.knows c.merge_bucket.new.caller) G (c.in_ok-merge_bucket.ensures.merged m is now_slots G.merged);
     }
 
 pub returns-clause-merged : goal.returns-clause-merged

@@ -136,9 +136,10 @@ returns-in-None-clause-merged g c m is slots d =
     let p = c.args.place in
     let at = from_chain m is b p c.requires.bucket (C.knows c.args.caller.now) d s c.args.from slots.0 in
     let took = c.in-None.ensures.took d.after m.from_name m.heads (m.buckets b) d.known_now at.0 at.1 in
-    let done = done_at m.buckets b p in
-    (took_nothing (drop p (m.buckets b)) c.take_entry.new.buffer took.0,
-      goes_nowhere C.base C.tells C.tells_known C.standing m is done c.args.caller.now c.take_entry.new.caller (C.knows c.take_entry.new.caller) (merged_as m is done (C.knows c.args.caller.now) (C.knows c.take_entry.new.caller) d took.1) c.take_entry.ensures.ran c.take_entry.ensures.own)
+    let done = done_at m.buckets b p in (
+      took_nothing (drop p (m.buckets b)) c.take_entry.new.buffer took.0,
+      goes_nowhere C.base C.tells C.tells_known C.standing m is done c.args.caller.now c.take_entry.new.caller (C.knows c.take_entry.new.caller) (merged_as m is done (C.knows c.args.caller.now) (C.knows c.take_entry.new.caller) d took.1) c.take_entry.ensures.ran c.take_entry.ensures.own,
+    )
 
 pub returns-in_ok-add_entry-in-Some-clause-merged : goal.returns-in_ok-add_entry-in-Some-clause-merged
 returns-in_ok-add_entry-in-Some-clause-merged g c m is slots d =
@@ -165,18 +166,18 @@ returns-in_err-add_entry-in-Some-clause-stopped g c =
     let C = g.C.Caller in
     let s = C.standing c.args.caller.now in
     on_err c.from_residual.result _ (λ m is slots d.
-      let b = c.args.bucket in
-      let p = c.args.place in
-      let at = from_chain m is b p c.requires.bucket (C.knows c.args.caller.now) d s c.args.from slots.0 in
-      let took = c.in-Some.ensures.took d.after m.from_name m.heads (m.buckets b) d.known_now at.0 at.1 in
-      let r = took_parts (drop p (m.buckets b)) c.in-Some.size c.in-Some.count c.take_entry.new.buffer took.0 in
-      let long = short_first p (m.buckets b) r.1 r.0 (is.short b c.requires.bucket) r.2 in
-      let size = r.3.0 in
-      let own = c.take_entry.ensures.own in
-      let now_slots : AreSlots (C.standing c.take_entry.new.caller) c.args.from c.args.into m = (value_same s.own _ c.args.from own ∙ slots.0, value_same s.own _ c.args.into own ∙ slots.1) in
-      let merged = merged_as m is (done_at m.buckets b p) (C.knows c.args.caller.now) (C.knows c.take_entry.new.caller) d took.1 in
-      let entry : IsEntryAt m b p (take c.in-Some.size c.take_entry.new.buffer) c.in-Some.count r.0 r.1 = (r.2, r.3.1, r.4) in
-      let done = done_at m.buckets b p in
-      let first = goes_nowhere C.base C.tells C.tells_known C.standing m is done c.args.caller.now c.take_entry.new.caller (C.knows c.take_entry.new.caller) merged c.take_entry.ensures.ran c.take_entry.ensures.own in
-      goes_stops C.base C.tells C.tells_known C.standing m is done done c.args.caller.now c.take_entry.new.caller c.add_entry.new.caller (C.knows c.take_entry.new.caller) (C.knows c.add_entry.new.caller) first
-      (c.in_err-add_entry-in-Some.ensures.stopped m is r.0 r.1 now_slots merged entry))
+    let b = c.args.bucket in
+    let p = c.args.place in
+    let at = from_chain m is b p c.requires.bucket (C.knows c.args.caller.now) d s c.args.from slots.0 in
+    let took = c.in-Some.ensures.took d.after m.from_name m.heads (m.buckets b) d.known_now at.0 at.1 in
+    let r = took_parts (drop p (m.buckets b)) c.in-Some.size c.in-Some.count c.take_entry.new.buffer took.0 in
+    let long = short_first p (m.buckets b) r.1 r.0 (is.short b c.requires.bucket) r.2 in
+    let size = r.3.0 in
+    let own = c.take_entry.ensures.own in
+    let now_slots : AreSlots (C.standing c.take_entry.new.caller) c.args.from c.args.into m = (value_same s.own _ c.args.from own ∙ slots.0, value_same s.own _ c.args.into own ∙ slots.1) in
+    let merged = merged_as m is (done_at m.buckets b p) (C.knows c.args.caller.now) (C.knows c.take_entry.new.caller) d took.1 in
+    let entry : IsEntryAt m b p (take c.in-Some.size c.take_entry.new.buffer) c.in-Some.count r.0 r.1 = (r.2, r.3.1, r.4) in
+    let done = done_at m.buckets b p in
+    let first = goes_nowhere C.base C.tells C.tells_known C.standing m is done c.args.caller.now c.take_entry.new.caller (C.knows c.take_entry.new.caller) merged c.take_entry.ensures.ran c.take_entry.ensures.own in
+    goes_stops C.base C.tells C.tells_known C.standing m is done done c.args.caller.now c.take_entry.new.caller c.add_entry.new.caller (C.knows c.take_entry.new.caller) (C.knows c.add_entry.new.caller) first
+    (c.in_err-add_entry-in-Some.ensures.stopped m is r.0 r.1 now_slots merged entry))

@@ -213,20 +213,20 @@ returns-clause-shared g c =
     let s = C.standing c.args.caller.now in
     ok_map c.share_key-shared.result _ _
     (λ shared known from_name into_name values heads links link rest k is.
-      let front = get_or values c.args.bucket datum.Null in
-      let ent = datum.Object link.entry in
-      let q = c.seek.ensures.sought known from_name values links k is.at is.apart in
-      let two : (C.standing c.seek.new.caller).own ≡ pushed (pushed s.own front) ent = q.0 ∙ ap (pushed (pushed s.own front)) (front_is (drop c.args.place links) rest link is.there) in
-      let entry = entry_drop known front links rest link c.args.place is.at.2 is.there in
-      let into2 = slot_after (pushed s.own front) _ ent known c.args.into into_name heads two (slot_after s.own (pushed s.own front) front known c.args.into into_name heads refl is.slot) in
-      let size1 = length_push s.own.stack front in
-      let size2 = size_after (pushed s.own front) _ ent two in
-      let there = top_after (pushed s.own front) _ ent (c.args.top + 1) two (omega (arith, size1, c.requires.top)) in
-      let r = shared known into_name heads entry.0 link q.1 into2 is.within (there, entry.1) in
-      let same = next_same s (C.standing c.seek.new.caller) c.seek.ensures.ran.since.thread (ap (λ (o : Thread). o.made) two) in
-      let knows = C.knows c.pop-2.new.caller in
-      let into_front = get_or heads c.args.bucket datum.Null in
-      let now = c.pop-2.ensures.keeps _ (c.pop.ensures.keeps _ r.0) in
-      let named = shared_map known into_name heads c.args.bucket c.args.n knows _ _ _ into_front (next_of s) (datum.Object link.key) same refl refl now in
-      (named, sym (ap (get known) same) ∙ r.1))
+    let front = get_or values c.args.bucket datum.Null in
+    let ent = datum.Object link.entry in
+    let q = c.seek.ensures.sought known from_name values links k is.at is.apart in
+    let two : (C.standing c.seek.new.caller).own ≡ pushed (pushed s.own front) ent = q.0 ∙ ap (pushed (pushed s.own front)) (front_is (drop c.args.place links) rest link is.there) in
+    let entry = entry_drop known front links rest link c.args.place is.at.2 is.there in
+    let into2 = slot_after (pushed s.own front) _ ent known c.args.into into_name heads two (slot_after s.own (pushed s.own front) front known c.args.into into_name heads refl is.slot) in
+    let size1 = length_push s.own.stack front in
+    let size2 = size_after (pushed s.own front) _ ent two in
+    let there = top_after (pushed s.own front) _ ent (c.args.top + 1) two (omega (arith, size1, c.requires.top)) in
+    let r = shared known into_name heads entry.0 link q.1 into2 is.within (there, entry.1) in
+    let same = next_same s (C.standing c.seek.new.caller) c.seek.ensures.ran.since.thread (ap (λ (o : Thread). o.made) two) in
+    let knows = C.knows c.pop-2.new.caller in
+    let into_front = get_or heads c.args.bucket datum.Null in
+    let now = c.pop-2.ensures.keeps _ (c.pop.ensures.keeps _ r.0) in
+    let named = shared_map known into_name heads c.args.bucket c.args.n knows _ _ _ into_front (next_of s) (datum.Object link.key) same refl refl now in
+    (named, sym (ap (get known) same) ∙ r.1))
     c.share_key-shared.ensures.shared

@@ -275,25 +275,25 @@ returns-clause-shared g c =
     let s = C.standing c.args.caller.now in
     ok_map c.link_new-linked.result _ _
     (λ linked known name heads next link k slot within entry.
-      let front = get_or heads c.args.bucket datum.Null in
-      let key = datum.Object link.key in
-      let fields = entry_fields next link.key link.count in
-      let e1 = c.load.ensures.pushed known name heads k slot within in
-      let k1 = c.load.ensures.keeps known k in
-      let at1 = slot_after s.own _ front known c.args.entry link.entry fields e1 (entry.0, entry.1.0) in
-      let into1 = slot_after s.own _ front known c.args.into name heads e1 slot in
-      let size1 = size_after s.own _ front e1 in
-      let e2 = c.load-2.ensures.pushed known link.entry fields k1 at1 (omega arith) in
-      let k2 = c.load-2.ensures.keeps known k1 in
-      let into2 = slot_after _ _ key known c.args.into name heads e2 into1 in
-      let size2 = size_after (C.standing c.load.new.caller).own _ key e2 in
-      let own2 : (C.standing c.load-2.new.caller).own ≡ pushed (pushed s.own front) key = e2 ∙ ap (λ o. pushed o key) e1 in
-      let r = linked known name heads k2 into2 within in
-      let same = next_same s (C.standing c.load-2.new.caller) (c.load-2.ensures.ran.since.thread ∙ c.load.ensures.ran.since.thread) (ap (λ (o : Thread). o.made) own2) in
-      let v1 = ap (λ (o : Thread). get_or o.stack c.args.top datum.Null) e2 ∙ slot_below (C.standing c.load.new.caller).own.stack key c.args.top (omega (arith, size1, c.requires.top)) ∙ top_after s.own _ front c.args.top e1 c.requires.top in
-      let v2 = top_after (C.standing c.load.new.caller).own _ key (c.args.top + 1) e2 (omega (arith, size1, c.requires.top)) in
-      let knows = C.knows c.pop-2.new.caller in
-      let now = c.pop-2.ensures.keeps _ (c.pop.ensures.keeps _ r.0) in
-      let named = shared_map known name heads c.args.bucket c.args.n knows _ _ _ front (next_of s) key same v1 v2 now in
-      (named, sym (ap (get known) same) ∙ r.1))
+    let front = get_or heads c.args.bucket datum.Null in
+    let key = datum.Object link.key in
+    let fields = entry_fields next link.key link.count in
+    let e1 = c.load.ensures.pushed known name heads k slot within in
+    let k1 = c.load.ensures.keeps known k in
+    let at1 = slot_after s.own _ front known c.args.entry link.entry fields e1 (entry.0, entry.1.0) in
+    let into1 = slot_after s.own _ front known c.args.into name heads e1 slot in
+    let size1 = size_after s.own _ front e1 in
+    let e2 = c.load-2.ensures.pushed known link.entry fields k1 at1 (omega arith) in
+    let k2 = c.load-2.ensures.keeps known k1 in
+    let into2 = slot_after _ _ key known c.args.into name heads e2 into1 in
+    let size2 = size_after (C.standing c.load.new.caller).own _ key e2 in
+    let own2 : (C.standing c.load-2.new.caller).own ≡ pushed (pushed s.own front) key = e2 ∙ ap (λ o. pushed o key) e1 in
+    let r = linked known name heads k2 into2 within in
+    let same = next_same s (C.standing c.load-2.new.caller) (c.load-2.ensures.ran.since.thread ∙ c.load.ensures.ran.since.thread) (ap (λ (o : Thread). o.made) own2) in
+    let v1 = ap (λ (o : Thread). get_or o.stack c.args.top datum.Null) e2 ∙ slot_below (C.standing c.load.new.caller).own.stack key c.args.top (omega (arith, size1, c.requires.top)) ∙ top_after s.own _ front c.args.top e1 c.requires.top in
+    let v2 = top_after (C.standing c.load.new.caller).own _ key (c.args.top + 1) e2 (omega (arith, size1, c.requires.top)) in
+    let knows = C.knows c.pop-2.new.caller in
+    let now = c.pop-2.ensures.keeps _ (c.pop.ensures.keeps _ r.0) in
+    let named = shared_map known name heads c.args.bucket c.args.n knows _ _ _ front (next_of s) key same v1 v2 now in
+    (named, sym (ap (get known) same) ∙ r.1))
     c.link_new-linked.ensures.linked

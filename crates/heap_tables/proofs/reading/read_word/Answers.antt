@@ -18,9 +18,11 @@ loop-i-init g c = let C = g.C.Caller in record {
   keeps = c.field_int-size.ensures.keeps;
   own = c.field_int-size.ensures.own;
   buffer = refl;
-  read = λ known name word k key.
-    (c.field_int-size.ensures.value known name key.1.0 (length word) k (key.0, key.1.1) (omega (arith, key.1.2.size)) key.1.2.first,
-      λ ne. absurd (ne refl), λ j h. absurd (omega (arith, h)));
+  read = λ known name word k key. (
+    c.field_int-size.ensures.value known name key.1.0 (length word) k (key.0, key.1.1) (omega (arith, key.1.2.size)) key.1.2.first,
+    λ ne. absurd (ne refl),
+    λ j h. absurd (omega (arith, h)),
+  );
 }
 
 pub group_of-group-requires-clause-key : goal.group_of-group-requires-clause-key
@@ -45,14 +47,16 @@ loop-i-preserved g c =
       own = c.group_of-group.ensures.own ∙ inv.own;
       buffer = length-set c.loop-i.buffer i c.byte_of.result ∙ inv.buffer;
       read = λ known name word k key.
-        let r = inv.read known name word k key in
-        let size = r.0 in
-        let below : i < length word = omega (arith, c.loop-i-test.true, size) in
-        let e = c.group_of-group.ensures.group known name word (inv.keeps known k) (value_same _ _ c.args.key inv.own ∙ key.0, key.1) below r.1 in
-        let place : 7 * (i / 7) + i % 7 ≡ i = omega arith in
-        let byte = c.byte_of.ensures word (7 * (i / 7)) key.1.3 (e ∙ group_digits word (i / 7)) ∙ ap (λ j. get_or word j 0) place in
-        (r.0, (λ ne. let same : i / 7 ≡ (i + 1) / 7 = next_group i ne in e ∙ ap (group word) same),
-          (λ j h. front_more word c.loop-i.buffer i c.byte_of.result within r.2 byte j h));
+          let r = inv.read known name word k key in
+          let size = r.0 in
+          let below : i < length word = omega (arith, c.loop-i-test.true, size) in
+          let e = c.group_of-group.ensures.group known name word (inv.keeps known k) (value_same _ _ c.args.key inv.own ∙ key.0, key.1) below r.1 in
+          let place : 7 * (i / 7) + i % 7 ≡ i = omega arith in
+          let byte = c.byte_of.ensures word (7 * (i / 7)) key.1.3 (e ∙ group_digits word (i / 7)) ∙ ap (λ j. get_or word j 0) place in (
+            r.0,
+            (λ ne. let same : i / 7 ≡ (i + 1) / 7 = next_group i ne in e ∙ ap (group word) same),
+            (λ j h. front_more word c.loop-i.buffer i c.byte_of.result within r.2 byte j h),
+          );
     }
 
 pub returns-clause-copied : goal.returns-clause-copied

@@ -36,10 +36,14 @@ raise-requires-clause-entry g c =
     let f = found.0 refl in
     let there = entry_at h.0 f.0 f.2 f.1 (get_or h.2 b datum.Null) (subst (IsChain h.0 (get_or h.2 b datum.Null)) f.3 chain) in
     let deep : length (pushed (g.C.Caller.standing c.args.caller.now).own (get_or h.2 c.bucket_of-bucket.result datum.Null)).stack ≡ c.args.top + 1 = length_push _ _ ∙ ap (λ m. m + 1) c.requires.top in
-    let size = size_after (pushed (g.C.Caller.standing c.args.caller.now).own (get_or h.2 c.bucket_of-bucket.result datum.Null)) _ (datum.Object (f.1).entry) f.6 in
-    (h.0, there.0, f.1, still,
+    let size = size_after (pushed (g.C.Caller.standing c.args.caller.now).own (get_or h.2 c.bucket_of-bucket.result datum.Null)) _ (datum.Object (f.1).entry) f.6 in (
+      h.0,
+      there.0,
+      f.1,
+      still,
       (top_after (pushed (g.C.Caller.standing c.args.caller.now).own (get_or h.2 c.bucket_of-bucket.result datum.Null)) _ (datum.Object (f.1).entry) (c.args.top + 1) f.6 deep, there.1),
-      (h.5).sum (f.1).count (subst (λ ls. HasCount c.args.word.now ls (f.1).count) (sym f.3) (has_count_at c.args.word.now f.0 f.2 f.1 f.5 f.4)))
+      (h.5).sum (f.1).count (subst (λ ls. HasCount c.args.word.now ls (f.1).count) (sym f.3) (has_count_at c.args.word.now f.0 f.2 f.1 f.5 f.4)),
+    )
 
 pub raise-requires-clause-room : goal.raise-requires-clause-room
 raise-requires-clause-room g c =
@@ -212,9 +216,13 @@ returns-then-find-clause-added g c known name heads buckets k may =
     let there = entry_at known f.0 f.2 f.1 (get_or heads b datum.Null) (subst (IsChain known (get_or heads b datum.Null)) f.3 chain) in
     let deep : length (pushed (g.C.Caller.standing c.args.caller.now).own (get_or heads c.bucket_of-bucket.result datum.Null)).stack ≡ c.args.top + 1 = length_push _ _ ∙ ap (λ m. m + 1) c.requires.top in
     let size = size_after (pushed (g.C.Caller.standing c.args.caller.now).own (get_or heads c.bucket_of-bucket.result datum.Null)) _ (datum.Object (f.1).entry) f.6 in
-    let lifted = c.raise.ensures.raised known there.0 f.1 still (top_after (pushed (g.C.Caller.standing c.args.caller.now).own (get_or heads c.bucket_of-bucket.result datum.Null)) _ (datum.Object (f.1).entry) (c.args.top + 1) f.6 deep, there.1) in
-    (λ _. (raised_table known name heads buckets t c.args.word.now c.args.n small f.0 f.2 f.1 f.3 f.4 there.0 there.1 (g.C.Caller.knows c.pop-then-find.new.caller) (c.pop-then-find.ensures.keeps _ (c.pop.ensures.keeps _ lifted)),
-      ((f.1).count, subst (λ ls. HasCount c.args.word.now ls (f.1).count) (sym f.3) (has_count_at c.args.word.now f.0 f.2 f.1 f.5 f.4))), λ e. absurd (true≢false e))
+    let lifted = c.raise.ensures.raised known there.0 f.1 still (top_after (pushed (g.C.Caller.standing c.args.caller.now).own (get_or heads c.bucket_of-bucket.result datum.Null)) _ (datum.Object (f.1).entry) (c.args.top + 1) f.6 deep, there.1) in (
+      λ _. (
+        raised_table known name heads buckets t c.args.word.now c.args.n small f.0 f.2 f.1 f.3 f.4 there.0 there.1 (g.C.Caller.knows c.pop-then-find.new.caller) (c.pop-then-find.ensures.keeps _ (c.pop.ensures.keeps _ lifted)),
+        ((f.1).count, subst (λ ls. HasCount c.args.word.now ls (f.1).count) (sym f.3) (has_count_at c.args.word.now f.0 f.2 f.1 f.5 f.4)),
+      ),
+      λ e. absurd (true≢false e),
+    )
 
 pub returns-else-find-clause-own : goal.returns-else-find-clause-own
 returns-else-find-clause-own g c =

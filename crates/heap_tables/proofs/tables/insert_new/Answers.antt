@@ -65,7 +65,7 @@ returns-in-Ok-clause-added g c known name heads buckets k slot table front home 
     let top = (made_at (g.C.Caller.standing c.args.caller.now) _ known (c.args.front + 1) p.values e c.requires.top).0 in
     let knows = g.C.Caller.knows c.link_new.new.caller in
     let now = subst (λ v. knows (insert (with_fields one entry (get_or heads c.args.bucket datum.Null) v c.args.n) name (Fields (set heads c.args.bucket (datum.Object entry))))) top
-      (subst (λ v. knows (insert (with_fields one entry v (slot_in (g.C.Caller.standing c.make_key.new.caller) (c.args.front + 1)) c.args.n) name (Fields (set heads c.args.bucket (datum.Object entry))))) below linked.0) in
+    (subst (λ v. knows (insert (with_fields one entry v (slot_in (g.C.Caller.standing c.make_key.new.caller) (c.args.front + 1)) c.args.n) name (Fields (set heads c.args.bucket (datum.Object entry))))) below linked.0) in
     linked_table known name heads buckets table c.args.word.now c.args.n c.args.bucket home bound lacks key entry (Fields p.values) begun.1 linked.1 is_key (g.C.Caller.knows c.pop.new.caller) (c.pop.ensures.keeps _ now)
 
 pub returns-in-Err-clause-kept : goal.returns-in-Err-clause-kept

@@ -9,7 +9,7 @@ use Rattle.heap_tables.proofs.tables.make.Goals as goal
 pub returns-clause-made : goal.returns-clause-made
 returns-clause-made g c = ok_map c.push_new.result _ _
     (λ made known k.
-      let m = made known k in
-      let s = g.C.Caller.standing c.args.caller.now in
-      (m.0, empty_counts (with_new s known 128) (next_of s) (replicate 128 datum.Null) (empty_table known (next_of s) 128 refl), m.1))
+    let m = made known k in
+    let s = g.C.Caller.standing c.args.caller.now in
+    (m.0, empty_counts (with_new s known 128) (next_of s) (replicate 128 datum.Null) (empty_table known (next_of s) 128 refl), m.1))
     c.push_new.ensures.made
