@@ -1,5 +1,5 @@
 -- What the calls of a caller leave.
-use Rattle.std.proofs.Common.{zero, suc, ◌≡◌, ◌≢◌, ◌⊎◌, ℕ, ◌+◌, ◌-◌, ◌^◌, ◌<◌, ◌≤◌, ◌↔◌, Bool, true, false, not, cond, leb, ltb, List, [], ◌∷◌, ◌++◌, true≢false, length, get_or, set, replicate, take, refl, ◌∙◌, arith, ap, sym, subst, inl, inr, Option, Some, None, IsSome, is_some, MatchOption, length-set, get_or-set_same, length-append, rules}
+use Rattle.std.proofs.Common.{zero, suc, ◌≡◌, ◌⊎◌, ℕ, ◌+◌, ◌-◌, ◌<◌, ◌≤◌, ◌↔◌, Bool, true, false, not, cond, leb, ltb, List, [], ◌∷◌, ◌++◌, length, get_or, set, replicate, take, refl, ◌∙◌, arith, ap, sym, subst, inl, inr, Option, Some, None, is_some, MatchOption, get_or-set_same, length-append}
 use Rattle.std.proofs.Math.Seq.{take-append_seam}
 use Rattle.std.proofs.lemmas.List.{get_or_push, get_or_append_left}
 use Rattle.std.proofs.lemmas.Bool.Decides.{nat_tests}
@@ -16,9 +16,9 @@ use Rattle.object_layout.specs.declared.replies.Reply.{Reply}
 use Rattle.object_layout.specs.declared.replies.Reply.TheVariants as reply
 use Rattle.yak_model.specs.declared.datum.Datum.{Datum}
 use Rattle.yak_model.specs.declared.datum.Datum.TheVariants as datum
-use Rattle.yak_model.specs.Graph.{Content, Does, Fields, Graph, IsThread, Thread, idle, is_reference, fields_at, fields_or_none, make, next_name, push, put_field, first_refusal, refusal_of, shown, slot_of, stack_of, thread_of, with_object, with_thread}
-use Rattle.yak_model.specs.Private.{IsKnown, IsMade, KnownAfter, KnownObjects, OwnCall, StoresKnown}
-use Rattle.yak_model.specs.Standing.{Standing, MovesKnown, Stays, Counted, AddsEntries, counted_on, entries_of, words_made}
+use Rattle.yak_model.specs.Graph.{Content, Does, Fields, Graph, IsThread, Thread, idle, is_reference, fields_at, fields_or_none, next_name, put_field, refusal_of, shown, slot_of, stack_of, thread_of, with_object, with_thread}
+use Rattle.yak_model.specs.Private.{IsMade, KnownObjects, OwnCall, StoresKnown}
+use Rattle.yak_model.specs.Standing.{Standing, MovesKnown}
 use Rattle.heap_tables.specs.Runs.{IsInSlot, stack_in, slot_in, pushed, popped, next_of, IsShown}
 
 leb_false : (a b : ℕ) → b < a → leb a b ≡ false

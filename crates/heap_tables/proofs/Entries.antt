@@ -1,10 +1,10 @@
 -- Entries and keys of one map of objects are told apart by their fields.
-use Rattle.std.proofs.Common.{zero, suc, ◌≡◌, ◌≢◌, ◌⊎◌, inl, inr, ℕ, ◌+◌, ◌<◌, ◌≤◌, List, [], ◌∷◌, ◌++◌, get_or, refl, ◌∙◌, ap, sym, subst, length, Some, None, Option, arith}
+use Rattle.std.proofs.Common.{◌≡◌, ◌≢◌, ℕ, ◌+◌, ◌<◌, List, [], ◌∷◌, get_or, refl, ◌∙◌, ap, sym, subst, length, Some, arith}
 use Rattle.std.specs.FinMap.{get}
 use Rattle.object_layout.specs.declared.names.Name.{Name}
 use Rattle.yak_model.specs.declared.datum.Datum.{Datum}
 use Rattle.yak_model.specs.declared.datum.Datum.TheVariants as datum
-use Rattle.yak_model.specs.Graph.{Content, Fields, fields_or_none}
+use Rattle.yak_model.specs.Graph.{Fields, fields_or_none}
 use Rattle.yak_model.specs.Private.{KnownObjects}
 use Rattle.yak_model.specs.Tables.{group, groups}
 use Rattle.yak_model.specs.Tables.{IsKey}

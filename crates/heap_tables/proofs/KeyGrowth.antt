@@ -1,15 +1,15 @@
 -- How a key grows.
-use Rattle.std.proofs.Common.{zero, suc, ◌≡◌, ◌≢◌, ◌⊎◌, inl, inr, ℕ, ◌+◌, ◌<◌, ◌≤◌, List, [], ◌∷◌, ◌++◌, get_or, set, replicate, refl, ◌∙◌, ap, sym, subst, length, Some, None, Option, arith, length-set, get_or-set_same, get_or-set_other, below_more}
+use Rattle.std.proofs.Common.{◌≡◌, ◌≢◌, ℕ, ◌+◌, ◌<◌, List, get_or, set, replicate, ◌∙◌, ap, subst, length, arith, length-set, get_or-set_same, get_or-set_other, below_more}
 use Rattle.std.proofs.lemmas.List.{length-replicate}
-use Rattle.std.specs.FinMap.{get, insert}
+use Rattle.std.specs.FinMap.{insert}
 use Rattle.object_layout.specs.declared.names.Name.{Name}
 use Rattle.yak_model.specs.declared.datum.Datum.{Datum}
 use Rattle.yak_model.specs.declared.datum.Datum.TheVariants as datum
-use Rattle.yak_model.specs.Graph.{Content, Fields, Thread}
+use Rattle.yak_model.specs.Graph.{Fields, Thread}
 use Rattle.yak_model.specs.Private.{KnownObjects}
 use Rattle.yak_model.proofs.Names.{get-same}
 use Rattle.yak_model.specs.Standing.{Standing}
-use Rattle.heap_tables.specs.Runs.{next_of, with_made, with_new, with_field, IsInSlot}
+use Rattle.heap_tables.specs.Runs.{next_of, with_made, with_field}
 use Rattle.heap_tables.proofs.Effects.{slot_push, length_push, IsAt}
 use Rattle.yak_model.specs.Tables.{group, groups}
 use Rattle.heap_tables.specs.Keys.{IsKeyBegun}

@@ -1,20 +1,19 @@
 -- A table with a new entry.
-use Rattle.std.proofs.Common.{zero, suc, ◌≡◌, ◌≢◌, ◌⊎◌, inl, inr, ℕ, ◌+◌, ◌-◌, ◌<◌, ◌≤◌, List, [], ◌∷◌, ◌++◌, get_or, set, take, refl, ◌∙◌, ap, sym, subst, length, Some, None, Option, IsSome, is_some, arith, length-set, get_or-set_same, get_or-set_other, true≢false}
+use Rattle.std.proofs.Common.{◌≡◌, ◌≢◌, inr, ℕ, ◌+◌, ◌<◌, List, [], ◌∷◌, get_or, set, refl, ◌∙◌, ap, sym, subst, length, Some, None, Option, IsSome, is_some, arith, length-set, get_or-set_same, get_or-set_other, true≢false}
 use Rattle.std.specs.FinMap.{get, insert}
 use Rattle.object_layout.specs.declared.names.Name.{Name}
 use Rattle.yak_model.specs.declared.datum.Datum.{Datum}
 use Rattle.yak_model.specs.declared.datum.Datum.TheVariants as datum
 use Rattle.yak_model.specs.Graph.{Content, Fields, Thread}
 use Rattle.yak_model.specs.Private.{KnownObjects, IsKnown}
-use Rattle.yak_model.proofs.Names.{get-same, get-other, same_or_other}
+use Rattle.yak_model.proofs.Names.{get-same, get-other}
 use Rattle.yak_model.specs.Standing.{Standing}
 use Rattle.heap_tables.specs.Runs.{next_of, popped, pushed, with_made}
 use Rattle.heap_tables.proofs.Effects.{slot_below, take_push}
 use Rattle.yak_model.specs.Tables.{bucket_of}
 use Rattle.yak_model.specs.Tables.{IsKey}
-use Rattle.yak_model.specs.Tables.{Link, IsChain, IsEntry, IsTable, LacksWord, AreDifferent, AreInBucket, entry_fields}
-use Rattle.heap_tables.specs.Walks.{IsApart}
-use Rattle.heap_tables.specs.Adds.{AddsCount, IsAddedTo, IsNoEntry, Grows, KeepsOthers, having_made, with_bucket, with_fields}
+use Rattle.yak_model.specs.Tables.{Link, IsChain, IsTable, LacksWord, AreDifferent, AreInBucket, entry_fields}
+use Rattle.heap_tables.specs.Adds.{IsAddedTo, IsNoEntry, Grows, having_made, with_bucket, with_fields}
 use Rattle.heap_tables.proofs.Places.{Agree, insert_agrees, chain_agrees}
 use Rattle.heap_tables.proofs.Raised.{in_bucket, table_apart}
 

@@ -1,21 +1,18 @@
 -- The place of a walk, in a field of the table.
-use Rattle.std.proofs.Common.{zero, suc, ◌≡◌, ◌≢◌, ◌⊎◌, inl, inr, ℕ, ◌+◌, ◌<◌, ◌≤◌, ◌^◌, Bool, true, false, List, [], ◌∷◌, ◌++◌, get_or, set, refl, ◌∙◌, ap, sym, subst, true≢false, length, Some, None, Option, arith, length-set, get_or-set_same, append_assoc, length-append}
+use Rattle.std.proofs.Common.{zero, suc, ◌≡◌, ◌≢◌, ◌⊎◌, inl, inr, ℕ, ◌<◌, ◌≤◌, Bool, true, false, List, [], ◌∷◌, ◌++◌, get_or, set, refl, ◌∙◌, ap, sym, subst, length, Some, arith, length-set, get_or-set_same, append_assoc, length-append}
 use Rattle.std.proofs.lemmas.Bool.{cases_lt}
 use Rattle.std.specs.FinMap.{get, insert, same_map}
 use Rattle.object_layout.specs.declared.names.Name.{Name}
 use Rattle.yak_model.specs.declared.datum.Datum.{Datum}
 use Rattle.yak_model.specs.declared.datum.Datum.TheVariants as datum
 use Rattle.yak_model.specs.Graph.{Content, Fields, Thread}
-use Rattle.yak_model.specs.Names.{name_cmp}
 use Rattle.yak_model.specs.Private.{KnownObjects}
 use Rattle.yak_model.proofs.Names.{get-same, get-other, same_or_other, name_cmp_total, name_cmp-IsAntisymmetric}
 use Rattle.yak_model.specs.Standing.{Standing}
-use Rattle.heap_tables.specs.Runs.{pushed, popped, IsInSlot, with_field}
+use Rattle.heap_tables.specs.Runs.{pushed, with_field}
 use Rattle.heap_tables.proofs.Effects.{IsAt, slot_after, slot_same, slot_below, size_after}
-use Rattle.yak_model.specs.Tables.{Link, IsChain, IsEntry, LacksWord}
-use Rattle.yak_model.specs.Tables.{IsKey}
+use Rattle.yak_model.specs.Tables.{Link, IsChain, LacksWord}
 use Rattle.heap_tables.specs.Walks.{Looked, IsAtChain, IsApart, IsPlace, Walked, Found, with_place}
-use Rattle.heap_tables.specs.declared.chains.Look.{Look}
 use Rattle.heap_tables.specs.declared.chains.Look.TheVariants as look
 
 -- two maps that answer alike but at one name

@@ -1,19 +1,19 @@
 -- A table after the count in one of its entries was raised.
 use Rattle.std.proofs.lemmas.List.{length-replicate}
-use Rattle.std.proofs.Common.{replicate, zero, suc, ◌≡◌, ◌≢◌, ◌⊎◌, inl, inr, ℕ, ◌+◌, ◌<◌, ◌≤◌, List, [], ◌∷◌, ◌++◌, get_or, refl, ◌∙◌, ap, sym, subst, length, Some, None, Option, arith, cond, true, false, eqb, Bool, IsSome}
+use Rattle.std.proofs.Common.{replicate, zero, suc, ◌≡◌, ◌≢◌, ◌⊎◌, inl, inr, ℕ, ◌+◌, ◌<◌, List, [], ◌∷◌, ◌++◌, get_or, refl, ◌∙◌, ap, sym, subst, length, Some, arith, cond, true, false, eqb}
 use Rattle.std.proofs.lemmas.Bool.Decides.{nat_tests}
 use Rattle.std.proofs.lemmas.Bool.{cases_lt}
 use Rattle.std.specs.FinMap.{get, insert}
 use Rattle.object_layout.specs.declared.names.Name.{Name}
 use Rattle.yak_model.specs.declared.datum.Datum.{Datum}
 use Rattle.yak_model.specs.declared.datum.Datum.TheVariants as datum
-use Rattle.yak_model.specs.Graph.{Content, Fields}
+use Rattle.yak_model.specs.Graph.{Fields}
 use Rattle.yak_model.specs.Private.{KnownObjects}
-use Rattle.yak_model.proofs.Names.{get-same, get-other}
+use Rattle.yak_model.proofs.Names.{get-same}
 use Rattle.yak_model.specs.Tables.{bucket_of}
 use Rattle.yak_model.specs.Tables.{Link, IsChain, IsEntry, IsTable, LacksWord, AreDifferent, AreInBucket, HasCount, entry_fields}
 use Rattle.heap_tables.specs.Walks.{IsApart}
-use Rattle.heap_tables.specs.Adds.{AddsCount, IsAddedTo, IsNoEntry, KeepsOthers, with_bucket, with_count}
+use Rattle.heap_tables.specs.Adds.{IsAddedTo, IsNoEntry, with_bucket, with_count}
 use Rattle.heap_tables.proofs.Entries.{same_fields, same_next, same_entry, key_no_entry, apart_words}
 use Rattle.heap_tables.proofs.Places.{Agree, insert_agrees, chain_agrees}
 

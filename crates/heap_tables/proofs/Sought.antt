@@ -1,10 +1,10 @@
 -- Ways to a place in a chain.
-use Rattle.std.proofs.Common.{zero, suc, ◌≡◌, ◌≢◌, ◌⊎◌, inl, inr, ℕ, ◌+◌, ◌<◌, ◌≤◌, Bool, true, false, List, [], ◌∷◌, ◌++◌, get_or, set, drop, refl, ◌∙◌, ap, sym, subst, true≢false, length, Some, None, arith, length-set, get_or-set_same}
+use Rattle.std.proofs.Common.{zero, suc, ◌≡◌, ◌≢◌, ℕ, ◌+◌, ◌<◌, ◌≤◌, true, false, List, [], ◌∷◌, get_or, set, drop, refl, ◌∙◌, ap, sym, subst, true≢false, length, Some, None, arith, length-set, get_or-set_same}
 use Rattle.std.specs.FinMap.{get, insert}
 use Rattle.object_layout.specs.declared.names.Name.{Name}
 use Rattle.yak_model.specs.declared.datum.Datum.{Datum}
 use Rattle.yak_model.specs.declared.datum.Datum.TheVariants as datum
-use Rattle.yak_model.specs.Graph.{Content, Fields, Thread}
+use Rattle.yak_model.specs.Graph.{Fields, Thread}
 use Rattle.yak_model.specs.Private.{KnownObjects}
 use Rattle.yak_model.proofs.Names.{get-same}
 use Rattle.yak_model.specs.Standing.{Standing}

@@ -1,5 +1,5 @@
 -- The walk through the buckets of a table.
-use Rattle.std.proofs.Common.{zero, suc, ◌≡◌, ◌≢◌, ◌⊎◌, inl, inr, ℕ, ◌+◌, ◌*◌, ◌%◌, ◌<◌, ◌≤◌, List, [], ◌∷◌, ◌++◌, drop, take, refl, ◌∙◌, ap, sym, subst, Some, None, Option, IsSome, is_some, cond, eqb, arith, length, get_or, append_assoc}
+use Rattle.std.proofs.Common.{zero, suc, ◌≡◌, ◌⊎◌, inl, inr, ℕ, ◌+◌, ◌<◌, ◌≤◌, List, [], ◌∷◌, ◌++◌, drop, take, refl, ◌∙◌, ap, sym, subst, Some, None, Option, IsSome, is_some, cond, arith, length, get_or, append_assoc}
 use Rattle.std.proofs.lemmas.Bool.{cases_lt}
 use Rattle.std.specs.FinMap.{get}
 use Rattle.object_layout.specs.declared.TheConstants.{WORD_LIMIT}
@@ -12,7 +12,7 @@ use Rattle.heap_tables.specs.Cursors.{IsFound, IsNext, IsPast, IsVisited, MayWal
 use Rattle.heap_tables.specs.Reads.{AreShort, IsCopied, Took}
 use Rattle.heap_tables.specs.Walks.{IsApart, IsAtChain}
 use Rattle.heap_tables.specs.declared.cursors.Cursor.{Cursor}
-use Rattle.heap_tables.proofs.Counted.{one_count, same_some}
+use Rattle.heap_tables.proofs.Counted.{one_count}
 use Rattle.heap_tables.proofs.Effects.{value_same}
 use Rattle.heap_tables.proofs.Raised.{distinct_parts, eqb_cases, has_count_at, home_at, lacks_at, table_apart}
 use Rattle.heap_tables.proofs.Sought.{short_first}

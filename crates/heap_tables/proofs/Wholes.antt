@@ -1,16 +1,14 @@
 -- What a merge leaves of whole tables.
-use Rattle.std.proofs.Common.{zero, suc, ◌≡◌, ◌≢◌, ◌⊎◌, inl, inr, ℕ, ◌+◌, ◌*◌, ◌%◌, ◌<◌, ◌≤◌, ◌^◌, List, [], ◌∷◌, ◌++◌, get_or, refl, ◌∙◌, ap, sym, subst, Some, None, Option, arith, length, append_assoc}
+use Rattle.std.proofs.Common.{zero, suc, ◌≡◌, inl, inr, ℕ, ◌+◌, ◌<◌, ◌≤◌, List, [], ◌∷◌, ◌++◌, refl, ◌∙◌, ap, sym, subst, Some, None, Option, arith, append_assoc}
 use Rattle.std.proofs.lemmas.Bool.{cases_lt}
 use Rattle.std.specs.FinMap.{get}
-use Rattle.object_layout.specs.declared.TheConstants.{MAX_INT}
 use Rattle.object_layout.specs.declared.names.Name.{Name}
-use Rattle.yak_model.specs.declared.datum.Datum.{Datum}
 use Rattle.yak_model.specs.Graph.{Thread}
 use Rattle.yak_model.specs.Private.{KnownObjects}
 use Rattle.yak_model.specs.Standing.{Standing}
-use Rattle.yak_model.specs.Tables.{AreDifferent, AreInBucket, HasCount, IsCountTable, IsTable, LacksWord, Link, WordCounts, bucket_of}
+use Rattle.yak_model.specs.Tables.{AreDifferent, AreInBucket, HasCount, IsCountTable, LacksWord, Link, WordCounts, bucket_of}
 use Rattle.heap_tables.specs.Counted.{count_of, or_zero, raised}
-use Rattle.heap_tables.specs.Merges.{AreSums, Goes, IsMerge, IsMergedPart, IsMergedWhole, MayMerge, Merge, Stops, news, raised_by, sum_of, walk}
+use Rattle.heap_tables.specs.Merges.{AreSums, Goes, IsMerge, IsMergedPart, IsMergedWhole, MayMerge, Merge, Stops, raised_by, sum_of, walk}
 use Rattle.heap_tables.proofs.Counted.{bucket_small, count_other, count_same, not_none}
 use Rattle.heap_tables.proofs.Places.{word_cases}
 use Rattle.heap_tables.proofs.Raised.{other_bucket}

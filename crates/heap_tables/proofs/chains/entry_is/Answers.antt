@@ -1,5 +1,5 @@
 use Rattle.heap_tables.proofs.RunOn.{ran_more}
-use Rattle.std.proofs.Common.{◌≡◌, ℕ, ◌+◌, ◌<◌, ◌∙◌, ap, sym, subst, arith, length, get_or, rules}
+use Rattle.std.proofs.Common.{◌∙◌, ap, arith}
 use Rattle.yak_model.specs.declared.datum.Datum.TheVariants as datum
 use Rattle.heap_tables.specs.Runs.{popped}
 use Rattle.heap_tables.proofs.Effects.{popped_pushed, top_after, size_after}

@@ -1,7 +1,6 @@
 use Rattle.heap_tables.proofs.RunOn.{ran_more}
-use Rattle.std.proofs.Common.{◌≡◌, ℕ, ◌+◌, ◌<◌, ◌∙◌, ap, sym, subst, refl, arith, length, get_or, rules, true≢false}
+use Rattle.std.proofs.Common.{◌∙◌, ap, sym, refl, arith, length, true≢false}
 use Rattle.yak_model.specs.Graph.{Thread}
-use Rattle.yak_model.specs.declared.datum.Datum.TheVariants as datum
 use Rattle.heap_tables.specs.Runs.{popped}
 use Rattle.heap_tables.proofs.Effects.{slot_same}
 use Rattle.yak_model.specs.Tables.{entry_fields}

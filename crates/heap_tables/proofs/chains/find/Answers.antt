@@ -1,8 +1,8 @@
 use Rattle.heap_tables.proofs.RunOn.{ran_more}
-use Rattle.std.proofs.Common.{◌≡◌, ℕ, ◌+◌, ◌<◌, ◌∙◌, ap, sym, subst, refl, arith, length, get_or, set, length-set, rules, List}
+use Rattle.std.proofs.Common.{◌<◌, sym, subst, arith, get_or, set, length-set}
 use Rattle.yak_model.specs.declared.datum.Datum.TheVariants as datum
 use Rattle.heap_tables.proofs.Effects.{slot_after, top_after, size_after}
-use Rattle.heap_tables.specs.Walks.{with_place, Walked}
+use Rattle.heap_tables.specs.Walks.{Walked}
 use Rattle.heap_tables.proofs.Places.{left_place, put_back, found_after}
 use Rattle.heap_tables.proofs.chains.find.Goals as goal
 

@@ -1,13 +1,9 @@
 use Rattle.heap_tables.proofs.RunOn.{ran_more}
-use Rattle.std.proofs.Common.{◌≡◌, ℕ, ◌+◌, ◌<◌, ◌∙◌, ap, sym, subst, refl, arith, length, get_or, rules, true≢false, [], ◌∷◌, List}
-use Rattle.yak_model.specs.Graph.{Thread}
-use Rattle.yak_model.specs.declared.datum.Datum.{Datum}
+use Rattle.std.proofs.Common.{◌∙◌, ap, sym, refl, arith, get_or, true≢false}
 use Rattle.yak_model.specs.declared.datum.Datum.TheVariants as datum
-use Rattle.yak_model.specs.Private.{KnownObjects}
 use Rattle.heap_tables.specs.Runs.{popped}
-use Rattle.heap_tables.proofs.Effects.{popped_pushed, slot_same, slot_after, top_after, size_after}
+use Rattle.heap_tables.proofs.Effects.{popped_pushed, slot_after, top_after, size_after}
 use Rattle.heap_tables.proofs.Looks.{looked_end, looked_found, looked_further, first_entry}
-use Rattle.yak_model.specs.Tables.{Link, IsChain, IsEntry, entry_fields}
 use Rattle.heap_tables.proofs.chains.look_on.Goals as goal
 
 pub load-requires-clause-field : goal.load-requires-clause-field

@@ -1,10 +1,10 @@
-use Rattle.std.proofs.Common.{◌≡◌, ℕ, ◌+◌, ◌<◌, ◌∙◌, ap, sym, subst, refl, arith, length, length-append, get_or, set, rules, true≢false, [], ◌∷◌, ◌++◌, List}
+use Rattle.std.proofs.Common.{◌+◌, ◌∙◌, ap, sym, refl, arith, length, length-append, set, true≢false, [], ◌∷◌, ◌++◌}
 use Rattle.yak_model.specs.Graph.{Thread}
 use Rattle.yak_model.specs.declared.datum.Datum.TheVariants as datum
 use Rattle.heap_tables.specs.Runs.{pushed}
 use Rattle.heap_tables.proofs.RunOn.{ran_none, ran_more}
-use Rattle.heap_tables.specs.Walks.{with_place, Looked}
-use Rattle.heap_tables.proofs.Places.{at_place, start_place, further_place, found_place, end_place, spent_place}
+use Rattle.heap_tables.specs.Walks.{with_place}
+use Rattle.heap_tables.proofs.Places.{at_place, start_place, further_place, found_place, end_place}
 use Rattle.heap_tables.proofs.chains.walk.Goals as goal
 
 pub loop-i-init : goal.loop-i-init

@@ -1,4 +1,4 @@
-use Rattle.std.proofs.Common.{◌≡◌, ◌⊎◌, inl, inr, ℕ, ◌+◌, ◌<◌, ◌≤◌, ◌∙◌, ap, sym, subst, refl, arith, length}
+use Rattle.std.proofs.Common.{inl, inr, ◌<◌, ◌∙◌, ap, refl, arith, length}
 use Rattle.yak_model.specs.Graph.{Thread}
 use Rattle.heap_tables.proofs.RunOn.{ran_none, ran_more}
 use Rattle.heap_tables.proofs.Visits.{is_next, none_past, walk_apart, walk_at, walk_short}

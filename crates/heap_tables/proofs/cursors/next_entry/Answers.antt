@@ -1,4 +1,4 @@
-use Rattle.std.proofs.Common.{◌≡◌, ℕ, ◌+◌, ◌<◌, ◌∙◌, ap, sym, subst, refl, arith, length, List, Ok, Err}
+use Rattle.std.proofs.Common.{◌≡◌, ℕ, ◌∙◌, ap, sym, subst, arith, length}
 use Rattle.yak_model.specs.Graph.{Thread}
 use Rattle.heap_tables.specs.Cursors.{IsNext}
 use Rattle.std.proofs.lemmas.List.{length-replicate}

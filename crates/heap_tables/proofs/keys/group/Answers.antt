@@ -1,4 +1,4 @@
-use Rattle.std.proofs.Common.{◌+◌, ◌*◌, ◌^◌, ◌<◌, ◌≡◌, arith, refl, rules, ap, subst, ◌∙◌, ℕ}
+use Rattle.std.proofs.Common.{◌*◌, ◌^◌, ◌<◌, ◌≡◌, arith, ap, subst, ◌∙◌}
 use Rattle.heap_tables.proofs.Groups.{power_bound}
 use Rattle.yak_model.specs.Tables.{digits, group}
 use Rattle.heap_tables.proofs.keys.group.Goals as goal

@@ -1,4 +1,4 @@
-use Rattle.std.proofs.Common.{◌≡◌, ℕ, ◌^◌, ◌<◌}
+use Rattle.std.proofs.Common.{◌≡◌, ◌^◌, ◌<◌}
 use Rattle.yak_model.specs.Tables.{digits}
 use Rattle.heap_tables.proofs.keys.group.Given as goal
 

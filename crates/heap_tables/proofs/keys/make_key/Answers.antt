@@ -1,11 +1,11 @@
-use Rattle.std.proofs.Common.{◌≡◌, ℕ, ◌+◌, ◌<◌, ◌∙◌, ap, sym, subst, refl, arith, length, replicate, get_or, set, rules, List}
+use Rattle.std.proofs.Common.{◌≡◌, ◌+◌, ◌∙◌, ap, subst, arith, length, replicate}
 use Rattle.std.proofs.lemmas.List.{length-replicate}
 use Rattle.std.specs.FinMap.{insert}
 use Rattle.yak_model.specs.Graph.{Fields}
 use Rattle.yak_model.specs.declared.datum.Datum.TheVariants as datum
 use Rattle.heap_tables.specs.Runs.{next_of, with_field}
 use Rattle.heap_tables.proofs.RunOn.{ran_then, ran_words}
-use Rattle.yak_model.specs.Tables.{group, groups}
+use Rattle.yak_model.specs.Tables.{groups}
 use Rattle.heap_tables.specs.Keys.{IsKeyBegun}
 use Rattle.heap_tables.proofs.KeyGrowth.{made_at, made_size, key_first, key_more}
 use Rattle.heap_tables.proofs.keys.make_key.Goals as goal

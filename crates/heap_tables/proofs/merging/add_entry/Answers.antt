@@ -1,5 +1,4 @@
-use Rattle.std.proofs.Common.{◌≡◌, ℕ, ◌+◌, ◌<◌, ◌∙◌, ap, sym, subst, refl, arith, length, get_or, List, Result, ◌++◌, ◌∷◌, []}
-use Rattle.std.specs.FinMap.{get}
+use Rattle.std.proofs.Common.{◌∙◌, ap, sym, refl, arith, length}
 use Rattle.yak_model.specs.Graph.{Limits, Thread}
 use Rattle.yak_model.specs.Tables.{bucket_of}
 use Rattle.heap_tables.specs.Adds.{having_made}
@@ -7,7 +6,7 @@ use Rattle.heap_tables.specs.Merges.{AreSlots, done_at}
 use Rattle.heap_tables.proofs.Counted.{lacks_count, lacks_none}
 use Rattle.heap_tables.proofs.Effects.{value_same}
 use Rattle.heap_tables.proofs.OnResult.{err_map, ok_both, ok_map, err_both}
-use Rattle.heap_tables.proofs.RunOn.{ran_more, then_out, then_ran}
+use Rattle.heap_tables.proofs.RunOn.{then_out, then_ran}
 use Rattle.heap_tables.proofs.Untouched.{get_now, goes_new, goes_present, is_share, length_walk, may_merge, merged_as, merged_step, shared_now, stops_here}
 use Rattle.heap_tables.proofs.merging.add_entry.Goals as goal
 

@@ -1,4 +1,4 @@
-use Rattle.std.proofs.Common.{◌≡◌, ℕ, ◌+◌, ◌<◌, ◌∙◌, ap, sym, subst, refl, arith, length, List, [], Result}
+use Rattle.std.proofs.Common.{◌∙◌, ap, arith, length, []}
 use Rattle.yak_model.specs.Graph.{Limits, Thread}
 use Rattle.heap_tables.specs.Merges.{AreSlots, walk}
 use Rattle.heap_tables.proofs.Effects.{value_same}

@@ -1,10 +1,10 @@
-use Rattle.std.proofs.Common.{◌≡◌, ◌⊎◌, ℕ, ◌+◌, ◌*◌, ◌^◌, ◌<◌, ◌≤◌, ◌∙◌, ap, sym, subst, refl, arith, length, drop, List, Result, true, false}
+use Rattle.std.proofs.Common.{◌+◌, ◌≤◌, ◌∙◌, ap, sym, subst, refl, arith, length}
 use Rattle.std.proofs.lemmas.List.{drop_all}
 use Rattle.yak_model.specs.Graph.{Limits, Thread}
-use Rattle.heap_tables.specs.Merges.{AreSlots, Goes, IsMerged, done_at, walk}
+use Rattle.heap_tables.specs.Merges.{AreSlots, Goes, done_at, walk}
 use Rattle.heap_tables.proofs.OnResult.{on_err}
 use Rattle.heap_tables.proofs.RunOn.{ran_none}
-use Rattle.heap_tables.proofs.Untouched.{done_full, done_length, done_start, goes_nowhere, merges_end, merges_on, goes_stops, goes_then, length_walk, made_slot}
+use Rattle.heap_tables.proofs.Untouched.{done_full, done_length, done_start, goes_nowhere, merges_end, merges_on, goes_stops, goes_then, made_slot}
 use Rattle.heap_tables.proofs.merging.merge_bucket.Goals as goal
 
 pub loop-place-init : goal.loop-place-init

@@ -1,10 +1,9 @@
-use Rattle.std.proofs.Common.{◌≡◌, ◌⊎◌, ℕ, ◌+◌, ◌*◌, ◌^◌, ◌<◌, ◌≤◌, ◌∙◌, ap, sym, subst, refl, arith, length, drop, List, Result, true, false, []}
-use Rattle.std.proofs.lemmas.List.{drop_all}
+use Rattle.std.proofs.Common.{◌≡◌, ◌+◌, ◌*◌, ◌^◌, ◌≤◌, ◌∙◌, ap, subst, refl, arith, length, []}
 use Rattle.yak_model.specs.Graph.{Limits, Thread}
-use Rattle.heap_tables.specs.Merges.{AreSlots, Goes, IsMerged, done_at, walk}
+use Rattle.heap_tables.specs.Merges.{AreSlots, Goes, walk}
 use Rattle.heap_tables.proofs.OnResult.{on_err}
 use Rattle.heap_tables.proofs.RunOn.{ran_none}
-use Rattle.heap_tables.proofs.Untouched.{done_full, done_length, done_start, goes_nowhere, goes_stops, goes_then, length_walk, made_slot}
+use Rattle.heap_tables.proofs.Untouched.{goes_nowhere, goes_stops, goes_then, length_walk, made_slot}
 use Rattle.heap_tables.proofs.merging.merge_buckets.Goals as goal
 
 pub loop-bucket-init : goal.loop-bucket-init

@@ -1,4 +1,4 @@
-use Rattle.std.proofs.Common.{◌≡◌, ℕ, ◌+◌, ◌<◌, ◌∙◌, ap, sym, subst, refl, arith, length, drop, take, List, Result}
+use Rattle.std.proofs.Common.{ℕ, ◌∙◌, ap, sym, arith, length, drop, take, List}
 use Rattle.yak_model.specs.Graph.{Limits, Thread}
 use Rattle.heap_tables.specs.Merges.{AreSlots, IsEntryAt, done_at}
 use Rattle.heap_tables.proofs.Bytes.{length_front}

@@ -1,10 +1,9 @@
-use Rattle.std.proofs.Common.{◌≡◌, ℕ, ◌+◌, ◌<◌, ◌∙◌, ap, sym, subst, refl, arith, length, drop, get_or, List, Result}
+use Rattle.std.proofs.Common.{◌≡◌, ◌+◌, ◌∙◌, ap, sym, refl, arith, length, drop, get_or}
 use Rattle.std.specs.FinMap.{get}
 use Rattle.yak_model.specs.Graph.{Limits, Thread}
 use Rattle.yak_model.specs.Room.{entry_words}
 use Rattle.yak_model.specs.declared.datum.Datum.TheVariants as datum
 use Rattle.heap_tables.specs.Adds.{having_made}
-use Rattle.heap_tables.specs.Merges.{with_shared}
 use Rattle.heap_tables.specs.Runs.{KnowsSome, next_of, popped, pushed}
 use Rattle.heap_tables.proofs.Effects.{length-take_pop, length_push, popped_pushed, size_after, slot_after, top_after}
 use Rattle.heap_tables.proofs.Linked.{popped_having, shared_map}

@@ -1,16 +1,14 @@
-use Rattle.std.proofs.Common.{◌≡◌, ℕ, ◌+◌, ◌<◌, ◌∙◌, ap, sym, subst, refl, arith, length, get_or, set, List, Result}
-use Rattle.std.specs.FinMap.{get, insert}
-use Rattle.yak_model.specs.Graph.{Fields, Limits, Thread}
+use Rattle.std.proofs.Common.{◌≡◌, ◌+◌, ◌∙◌, ap, sym, arith, length, get_or}
+use Rattle.std.specs.FinMap.{get}
+use Rattle.yak_model.specs.Graph.{Limits, Thread}
 use Rattle.yak_model.specs.Room.{entry_words}
-use Rattle.yak_model.specs.declared.datum.Datum.{Datum}
 use Rattle.yak_model.specs.declared.datum.Datum.TheVariants as datum
 use Rattle.yak_model.specs.Tables.{entry_fields}
-use Rattle.heap_tables.specs.Adds.{having_made, with_fields}
-use Rattle.heap_tables.specs.Merges.{with_shared}
+use Rattle.heap_tables.specs.Adds.{having_made}
 use Rattle.heap_tables.specs.Runs.{KnowsSome, next_of, popped, pushed}
-use Rattle.heap_tables.proofs.Effects.{length-take_pop, popped_pushed, size_after, slot_after, slot_below, top_after, value_same}
+use Rattle.heap_tables.proofs.Effects.{length-take_pop, popped_pushed, size_after, slot_after, slot_below, top_after}
 use Rattle.heap_tables.proofs.Linked.{popped_having, shared_map}
-use Rattle.heap_tables.proofs.OnResult.{either, ok_both, ok_map, err_map}
+use Rattle.heap_tables.proofs.OnResult.{either, ok_map, err_map}
 use Rattle.heap_tables.proofs.RunOn.{next_same, ran_end, ran_more, out_then, then_out, then_ran}
 use Rattle.heap_tables.proofs.merging.share_key.Goals as goal
 

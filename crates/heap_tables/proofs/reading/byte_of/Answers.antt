@@ -1,4 +1,4 @@
-use Rattle.std.proofs.Common.{◌≡◌, ℕ, ◌+◌, ◌-◌, ◌/◌, ◌%◌, ◌<◌, ◌∙◌, ap, sym, subst, refl, arith}
+use Rattle.std.proofs.Common.{◌≡◌, ◌+◌, ◌-◌, ◌/◌, ◌%◌, ◌∙◌, ap, arith}
 use Rattle.yak_model.specs.Tables.{digits}
 use Rattle.heap_tables.proofs.Bytes.{digits_last, digits_over}
 use Rattle.heap_tables.proofs.reading.byte_of.Goals as goal

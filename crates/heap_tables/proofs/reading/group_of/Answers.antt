@@ -1,4 +1,4 @@
-use Rattle.std.proofs.Common.{◌≡◌, ◌≢◌, ℕ, ◌+◌, ◌/◌, ◌%◌, ◌<◌, ◌≤◌, ap, sym, refl, arith, length}
+use Rattle.std.proofs.Common.{◌/◌, arith}
 use Rattle.heap_tables.proofs.reading.group_of.Goals as goal
 
 pub field_int-requires-clause-field : goal.field_int-requires-clause-field

@@ -1,5 +1,4 @@
-use Rattle.std.proofs.Common.{◌≡◌, ℕ, ◌+◌, ◌<◌, ◌∙◌, ap, sym, subst, refl, arith, length, get_or, rules, true≢false}
-use Rattle.yak_model.specs.Graph.{Thread}
+use Rattle.std.proofs.Common.{◌∙◌, ap, sym, refl, arith, get_or, true≢false}
 use Rattle.yak_model.specs.declared.datum.Datum.TheVariants as datum
 use Rattle.heap_tables.specs.Runs.{popped}
 use Rattle.heap_tables.proofs.Effects.{popped_pushed, slot_after, top_after, size_after}

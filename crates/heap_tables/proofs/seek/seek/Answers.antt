@@ -1,5 +1,4 @@
-use Rattle.std.proofs.Common.{◌≡◌, ℕ, ◌+◌, ◌<◌, ◌∙◌, ap, sym, subst, refl, arith, length, get_or, set, drop, rules, List}
-use Rattle.yak_model.specs.Graph.{Thread}
+use Rattle.std.proofs.Common.{◌∙◌, ap, arith, get_or, set, drop}
 use Rattle.yak_model.specs.declared.datum.Datum.TheVariants as datum
 use Rattle.heap_tables.specs.Runs.{pushed}
 use Rattle.heap_tables.specs.Seeks.{first_of}

@@ -1,7 +1,5 @@
-use Rattle.std.proofs.Common.{◌≡◌, ℕ, ◌+◌, ◌<◌, ◌≤◌, ◌∙◌, ap, sym, subst, refl, arith, length, get_or, set, drop, rules, true≢false, [], ◌∷◌, List}
+use Rattle.std.proofs.Common.{◌≡◌, ◌∙◌, ap, sym, subst, refl, arith, length, set, drop}
 use Rattle.yak_model.specs.Graph.{Thread}
-use Rattle.yak_model.specs.declared.datum.Datum.TheVariants as datum
-use Rattle.yak_model.specs.Tables.{Link}
 use Rattle.heap_tables.specs.Seeks.{IsSkipped}
 use Rattle.heap_tables.specs.Walks.{with_place}
 use Rattle.heap_tables.proofs.Effects.{value_same}

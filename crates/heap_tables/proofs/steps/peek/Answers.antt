@@ -1,8 +1,8 @@
 use Rattle.heap_tables.proofs.RunOn.{ran_more}
-use Rattle.std.proofs.Common.{◌≡◌, ℕ, ◌+◌, ◌<◌, ◌∙◌, ap, sym, subst, arith, length, get_or, rules}
+use Rattle.std.proofs.Common.{◌≡◌, ◌<◌, ◌∙◌, ap, subst, arith, length, get_or}
 use Rattle.yak_model.specs.Graph.{Thread}
 use Rattle.yak_model.specs.declared.datum.Datum.TheVariants as datum
-use Rattle.heap_tables.specs.Runs.{IsShown, slot_in, stack_in, pushed, popped}
+use Rattle.heap_tables.specs.Runs.{IsShown, slot_in, stack_in, popped}
 use Rattle.heap_tables.proofs.Effects.{popped_pushed, slot_push, length_push}
 use Rattle.heap_tables.proofs.steps.peek.Goals as goal
 

@@ -1,13 +1,12 @@
 use Rattle.heap_tables.proofs.RunOn.{ran_more}
-use Rattle.std.proofs.Common.{◌≡◌, ℕ, ◌+◌, ◌<◌, ◌∙◌, ap, sym, subst, refl, arith, length, get_or, set, rules, List, true≢false}
+use Rattle.std.proofs.Common.{◌≡◌, ◌+◌, ◌<◌, ◌∙◌, ap, sym, subst, refl, arith, length, get_or, true≢false}
 use Rattle.yak_model.specs.Graph.{Thread}
-use Rattle.yak_model.specs.declared.datum.Datum.{Datum}
 use Rattle.yak_model.specs.declared.datum.Datum.TheVariants as datum
 use Rattle.heap_tables.specs.Runs.{pushed, popped}
 use Rattle.heap_tables.proofs.Effects.{popped_pushed, top_after, size_after, length_push}
 use Rattle.yak_model.specs.Tables.{bucket_of}
-use Rattle.yak_model.specs.Tables.{Link, IsChain, IsEntry, HasCount}
-use Rattle.heap_tables.specs.Walks.{IsAtChain, Found}
+use Rattle.yak_model.specs.Tables.{IsChain, HasCount}
+use Rattle.heap_tables.specs.Walks.{IsAtChain}
 use Rattle.heap_tables.proofs.Raised.{table_apart, has_count_at, entry_at, raised_table}
 use Rattle.heap_tables.proofs.tables.add_present.Goals as goal
 

@@ -1,7 +1,6 @@
 use Rattle.heap_tables.proofs.RunOn.{ran_more}
-use Rattle.std.proofs.Common.{◌≡◌, ℕ, ◌+◌, ◌<◌, ◌∙◌, ap, sym, subst, refl, arith, length, length-set, get_or, set, rules, List}
+use Rattle.std.proofs.Common.{◌∙◌, ap, subst, arith, length, length-set, set}
 use Rattle.yak_model.specs.Graph.{Thread}
-use Rattle.yak_model.specs.declared.datum.Datum.TheVariants as datum
 use Rattle.heap_tables.specs.Runs.{slot_in, with_field}
 use Rattle.heap_tables.proofs.Effects.{value_same}
 use Rattle.heap_tables.specs.Adds.{with_fields}

@@ -3,7 +3,7 @@ use Rattle.std.proofs.Common.{inr}
 use Rattle.yak_model.specs.Room.{entry_words, key_words}
 use Rattle.heap_tables.specs.Runs.{popped}
 use Rattle.heap_tables.proofs.Linked.{popped_made}
-use Rattle.std.proofs.Common.{◌≡◌, ℕ, ◌+◌, ◌<◌, ◌∙◌, ap, sym, subst, refl, arith, length, get_or, set, rules, List, Result, Ok, Err}
+use Rattle.std.proofs.Common.{◌+◌, ◌∙◌, ap, subst, arith, get_or, set, Result, Ok, Err}
 use Rattle.std.specs.Result.{OnErr}
 use Rattle.std.specs.FinMap.{insert}
 use Rattle.yak_model.specs.Graph.{Fields}
@@ -11,7 +11,7 @@ use Rattle.yak_model.specs.declared.datum.Datum.TheVariants as datum
 use Rattle.yak_model.proofs.Names.{get-same}
 use Rattle.heap_tables.specs.Runs.{slot_in, next_of}
 use Rattle.heap_tables.proofs.Effects.{in_bounds}
-use Rattle.yak_model.specs.Tables.{IsKey, AreKeyFields}
+use Rattle.yak_model.specs.Tables.{IsKey}
 use Rattle.heap_tables.specs.Adds.{with_fields}
 use Rattle.heap_tables.proofs.KeyGrowth.{made_at}
 use Rattle.heap_tables.proofs.Linked.{made_below, insert_grows, linked_table}

@@ -1,6 +1,5 @@
 use Rattle.heap_tables.proofs.RunOn.{ran_more, ran_then, ran_words}
-use Rattle.std.proofs.Common.{◌≡◌, ℕ, ◌+◌, ◌<◌, ◌∙◌, ap, sym, subst, refl, arith, length, length-set, replicate, get_or, set, rules, List}
-use Rattle.yak_model.specs.Graph.{Thread}
+use Rattle.std.proofs.Common.{◌+◌, ◌∙◌, ap, subst, refl, arith, replicate}
 use Rattle.yak_model.specs.declared.datum.Datum.TheVariants as datum
 use Rattle.yak_model.proofs.Names.{get-other}
 use Rattle.heap_tables.specs.Runs.{slot_in, next_of, popped, with_field}
