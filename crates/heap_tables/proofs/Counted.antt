@@ -11,7 +11,7 @@ use Rattle.object_layout.specs.declared.names.Name.{Name}
 use Rattle.yak_model.specs.Private.{KnownObjects}
 use Rattle.yak_model.specs.Tables.{bucket_of}
 use Rattle.yak_model.specs.Tables.{WordCounts, HasCount, IsCountTable, IsTable, LacksWord, Link, AreDifferent}
-use Rattle.heap_tables.specs.Adds.{AddsCount, Grows, IsAddedTo, MakesForNew, with_bucket}
+use Rattle.heap_tables.specs.Adds.{AddsCount, Grows, IsAddedTo, IsNoEntry, MakesForNew, StayNowhere, with_bucket}
 use Rattle.yak_model.specs.declared.datum.Datum.{Datum}
 use Rattle.yak_model.specs.Standing.{Standing}
 use Rattle.heap_tables.specs.Counted.{MakesUncounted, count_of, or_zero, raised}
@@ -19,7 +19,7 @@ use Rattle.heap_tables.proofs.Linked.{table_grows}
 use Rattle.heap_tables.proofs.Places.{word_cases}
 use Rattle.heap_tables.proofs.Raised.{distinct_parts, eqb_cases, with_sum}
 
-word_tie : (v w : List ℕ) → v ≢ w → eq_by_cmp (slice_cmp nat_cmp) v w ≡ false
+pub word_tie : (v w : List ℕ) → v ≢ w → eq_by_cmp (slice_cmp nat_cmp) v w ≡ false
 word_tie v w ne = by_order (slice_cmp nat_cmp v w) refl
   where
     by_order : (o : Ordering) → slice_cmp nat_cmp v w ≡ o → is_eq (slice_cmp nat_cmp v w) ≡ false
@@ -159,7 +159,7 @@ bucket_small word = small word 0 (omega arith)
     small (b ∷ rest) h bound = small rest ((31 * h + b) % 128) (omega arith)
 
 -- a table without entries counts no words
-pub empty_counts : (known : KnownObjects) (name : Name) (heads : List Datum) → IsTable known name heads (λ _. []) → IsCountTable known name empty
+abbrev pub empty_counts : (known : KnownObjects) (name : Name) (heads : List Datum) → IsTable known name heads (λ _. []) → IsCountTable known name empty
 empty_counts known name heads table = record {
   heads = heads;
   buckets = λ _. [];
@@ -169,7 +169,7 @@ empty_counts known name heads table = record {
 }
 
 -- the same counts where each object stays
-pub grown_counts : (m n : KnownObjects) → Grows m n → (name : Name) (counts : WordCounts) → IsCountTable m name counts → IsCountTable n name counts
+abbrev pub grown_counts : (m n : KnownObjects) → Grows m n → (name : Name) (counts : WordCounts) → IsCountTable m name counts → IsCountTable n name counts
 grown_counts m n grows name counts table = record {
   heads = table.heads;
   buckets = table.buckets;
@@ -193,3 +193,9 @@ makes_uncounted s after known name counts table word makes = (λ some. by_option
     by_option : (o : Option ℕ) → get counts word ≡ o → IsSome o → after.own.made ≡ s.own.made
     by_option None e some = let h = is_some_none some in absurd h
     by_option (Some k) e some = makes.0 k (table.counted word k e)
+
+pub stay_nowhere : (known : KnownObjects) (buckets : ℕ → List Link) (word : List ℕ) (n : ℕ) (name : Name) (knows : KnownObjects → Type 0) (added : IsAddedTo known word n name buckets knows) → StayNowhere known buckets (with_bucket buckets (bucket_of word) added.links)
+stay_nowhere known buckets word n name knows added other k away c h = elim (eqb_cases (bucket_of word) c) [
+  | inl s ↦ subst (λ t. IsNoEntry other (cond t added.links (buckets c))) (sym s.0) (added.fresh other k (away (bucket_of word) (bucket_small word)))
+  | inr o ↦ subst (λ t. IsNoEntry other (cond t added.links (buckets c))) (sym o.0) (away c h)
+]

@@ -1,17 +1,20 @@
 -- What a merge leaves of whole tables.
-use Rattle.std.proofs.Common.{zero, suc, ◌≡◌, inl, inr, ℕ, ◌+◌, ◌<◌, ◌≤◌, List, [], ◌∷◌, ◌++◌, refl, ◌∙◌, ap, sym, subst, Some, None, Option, arith, append_assoc}
+use Rattle.std.proofs.Common.{zero, suc, ◌≡◌, ◌≢◌, inl, inr, ℕ, ◌+◌, ◌-◌, ◌<◌, ◌≤◌, List, [], ◌∷◌, ◌++◌, refl, ◌∙◌, ap, sym, subst, Some, None, Option, IsSome, is_some, cond, true, true≢false, arith, length, append_assoc}
 use Rattle.std.proofs.lemmas.Bool.{cases_lt}
-use Rattle.std.specs.FinMap.{get}
+use Rattle.std.specs.Cmp.Lexicographic.{nat_list_cmp_total, slice_cmp}
+use Rattle.std.specs.Ordering.{nat_cmp}
+use Rattle.std.specs.FinMap.{empty_of_len, get, get-empty, get-remove, len, len-remove, remove}
 use Rattle.object_layout.specs.declared.names.Name.{Name}
 use Rattle.yak_model.specs.Graph.{Thread}
 use Rattle.yak_model.specs.Private.{KnownObjects}
 use Rattle.yak_model.specs.Standing.{Standing}
 use Rattle.yak_model.specs.Tables.{AreDifferent, AreInBucket, HasCount, IsCountTable, LacksWord, Link, WordCounts, bucket_of}
+use Rattle.heap_tables.specs.Adds.{IsNoEntry}
 use Rattle.heap_tables.specs.Counted.{count_of, or_zero, raised}
-use Rattle.heap_tables.specs.Merges.{AreSums, Goes, IsMerge, IsMergedPart, IsMergedWhole, MayMerge, Merge, Stops, raised_by, sum_of, walk}
-use Rattle.heap_tables.proofs.Counted.{bucket_small, count_other, count_same, not_none}
+use Rattle.heap_tables.specs.Merges.{AreSums, Goes, IsMerge, IsMergedPart, IsMergedWhole, MayMerge, Merge, Stops, SharesNone, raised_by, sum_of, walk}
+use Rattle.heap_tables.proofs.Counted.{bucket_small, count_other, count_same, not_none, word_tie}
 use Rattle.heap_tables.proofs.Places.{word_cases}
-use Rattle.heap_tables.proofs.Raised.{other_bucket}
+use Rattle.heap_tables.proofs.Raised.{lacks_at, other_bucket}
 use Rattle.heap_tables.proofs.Untouched.{from_stays, lacks_append, raised_lacks, walk_lacks}
 use Rattle.heap_tables.proofs.Visits.{counted_at, short_rest}
 
@@ -123,7 +126,8 @@ module _ (s : Standing) (known : KnownObjects) (from into : ℕ) (from_name into
           sums = d.counts;
           into_table = d.into_table;
           sums_are = λ w. ap (λ cs. get cs w) d.counts_are ∙ whole_sum known from_name from_counts may.from_table into_counts w;
-          others = λ other k ne away. (d.untouched other k ne away).0;
+          from_same = refl;
+          untouched = d.untouched;
           made = goes.made;
           new_words = let e = goes.new_words in omega (arith, e);
           ran = goes.ran;
@@ -150,9 +154,53 @@ module _ (s : Standing) (known : KnownObjects) (from into : ℕ) (from_name into
           counts = d.counts;
           into_table = d.into_table;
           counts_are = d.counts_are;
-          others = λ other k ne away. (d.untouched other k ne away).0;
+          from_same = refl;
+          untouched = d.untouched;
           made = stops.made;
           new_words = let e = stops.new_words in omega (arith, e);
           ran_out = stops.ran_out;
           own = stops.own;
         }
+
+-- ---- what a caller can use
+
+get_removed : (counts : WordCounts) (w v : List ℕ) → v ≢ w → get (remove counts w) v ≡ get counts v
+get_removed counts w v ne = get-remove nat_list_cmp_total counts w v ∙ ap (λ b. cond b None (get counts v)) (word_tie v w ne)
+
+len_removed : (counts : WordCounts) (w : List ℕ) → IsSome (get counts w) → len counts ≡ len (remove counts w) + 1
+len_removed counts w there =
+    let gone = len-remove nat_list_cmp_total counts w ∙ ap (λ b. cond b (len counts - 1) (len counts)) there in
+    elim (cases_lt 0 (len counts)) [
+      | inl some ↦ omega (arith, gone, some)
+      | inr none ↦
+          let e : len counts ≡ 0 = omega (arith, none) in
+          let q : IsSome {T = ℕ} None = subst (λ o. IsSome o) (ap (λ (m : WordCounts). get m w) (empty_of_len counts e) ∙ get-empty (slice_cmp nat_cmp) w) there in
+          absurd (true≢false (sym q))
+    ]
+
+-- a table has no more words in a bucket than it counts
+chain_len : (links : List Link) (counts : WordCounts) → AreDifferent links → ((passed rest : List Link) (link : Link) → links ≡ passed ++ link ∷ rest → IsSome (get counts link.word)) → length links ≤ len counts
+chain_len [] counts different counted = omega arith
+chain_len (l ∷ links) counts different counted =
+    let fewer = remove counts l.word in
+    let rest = chain_len links fewer different.1 (λ passed rest link parts.
+      subst (λ o. IsSome o) (sym (get_removed counts l.word link.word (lacks_at l.word passed rest link (subst (LacksWord l.word) parts different.0)))) (counted (l ∷ passed) rest link (ap (λ ls. l ∷ ls) parts))) in
+    let one = len_removed counts l.word (counted [] links l refl) in
+    omega (arith, rest, one)
+
+pub bucket_few : (known : KnownObjects) (name : Name) (counts : WordCounts) (table : IsCountTable known name counts) (b : ℕ) → b < 128 → length (table.buckets b) ≤ len counts
+bucket_few known name counts table b bound =
+    chain_len (table.buckets b) counts ((table.table).distinct b bound) (λ passed rest link parts. ap is_some (counted_at known name counts table b bound passed rest link parts))
+
+-- where links share no entry with others, the others share none with them
+no_entry_of : (xs : List Link) (l : Link) (ls : List Link) → SharesNone xs (l ∷ ls) → IsNoEntry l.entry xs
+no_entry_of [] l ls h = tt
+no_entry_of (x ∷ xs) l ls h = ((λ e. h.0.0 (sym e)), no_entry_of xs l ls h.1)
+
+shares_rest : (xs : List Link) (l : Link) (ls : List Link) → SharesNone xs (l ∷ ls) → SharesNone xs ls
+shares_rest [] l ls h = tt
+shares_rest (x ∷ xs) l ls h = (h.0.1, shares_rest xs l ls h.1)
+
+pub shares_either_way : (xs ys : List Link) → SharesNone xs ys → SharesNone ys xs
+shares_either_way xs [] h = tt
+shares_either_way xs (y ∷ ys) h = (no_entry_of xs y ys h, shares_either_way xs ys (shares_rest xs y ys h))

@@ -9,7 +9,7 @@ use Rattle.yak_model.specs.Standing.{Standing}
 use Rattle.heap_tables.specs.Runs.{slot_in}
 use Rattle.yak_model.specs.Tables.{bucket_of}
 use Rattle.yak_model.specs.Tables.{WordCounts, IsCountTable}
-use Rattle.heap_tables.specs.Adds.{Grows, KeepsOthers}
+use Rattle.heap_tables.specs.Adds.{Grows, KeepsOthers, StayNowhere}
 
 abbrev pub or_zero : Option ℕ → ℕ
 or_zero None = 0
@@ -41,9 +41,9 @@ MakesUncounted s after counts word =
 abbrev pub IsCounted : (s after : Standing) (known : KnownObjects) (table : ℕ) (word : List ℕ) (n : ℕ) (name : Name) (counts : WordCounts) → MayCount s known table word n name counts → (KnownObjects → Type 0) → Type 0
 IsCounted s after known table word n name counts may knows =
     MakesUncounted s after counts word
-    × ((later : KnownObjects) × knows later × IsCountTable later name (raised counts word n) × KeepsOthers known name ((may.is_table).buckets (bucket_of word)) later)
+    × ((later : KnownObjects) × knows later × (table : IsCountTable later name (raised counts word n)) × KeepsOthers known name ((may.is_table).buckets (bucket_of word)) later × StayNowhere known (may.is_table).buckets table.buckets)
 
 -- The word is not counted, and a known map has the table with the same counts, and all other objects as they were.
-abbrev pub IsUncounted : KnownObjects → List ℕ → Name → WordCounts → (KnownObjects → Type 0) → Type 0
-IsUncounted known word name counts knows =
-    (finite.get counts word ≡ None) × ((later : KnownObjects) × knows later × IsCountTable later name counts × Grows known later)
+abbrev pub IsUncounted : (s : Standing) (known : KnownObjects) (table : ℕ) (word : List ℕ) (n : ℕ) (name : Name) (counts : WordCounts) → MayCount s known table word n name counts → (KnownObjects → Type 0) → Type 0
+IsUncounted s known table word n name counts may knows =
+    (finite.get counts word ≡ None) × ((later : KnownObjects) × knows later × (after : IsCountTable later name counts) × Grows known later × (after.buckets ≡ (may.is_table).buckets))

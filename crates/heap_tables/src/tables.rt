@@ -43,7 +43,7 @@ pub fn make<C: Caller>(caller: &mut C) -> Result<(), OutOfHeap>
     requires names { (C.standing caller.old).own.made ≤ MOST_MADE }
     ensures ran { OnOk result (Ran C.base C.tells C.tells_known C.standing caller.old caller.new table_words) }
     ensures pushed { OnOk result ((C.standing caller.new).own ≡ with_made (C.standing caller.old)) }
-    ensures made { OnOk result ((known : KnownObjects) → C.knows caller.old known → C.knows caller.new (with_new (C.standing caller.old) known BUCKETS) × IsCountTable (with_new (C.standing caller.old) known BUCKETS) (next_of (C.standing caller.old)) finite.empty × (finite.get known (next_of (C.standing caller.old)) ≡ None)) }
+    ensures made { OnOk result ((known : KnownObjects) → C.knows caller.old known → C.knows caller.new (with_new (C.standing caller.old) known BUCKETS) × ((table : IsCountTable (with_new (C.standing caller.old) known BUCKETS) (next_of (C.standing caller.old)) finite.empty) × ((b : ℕ) → table.buckets b ≡ [])) × (finite.get known (next_of (C.standing caller.old)) ≡ None)) }
     ensures same { OnErr result ((C.standing caller.new).own ≡ (C.standing caller.old).own) }
     ensures keeps { OnErr result (KeepsKnown (C.knows caller.old) (C.knows caller.new)) }
     ensures ran_out { OnErr result (RanOut C.base C.tells C.tells_known C.standing caller.old caller.new 0 BUCKETS) }
@@ -89,7 +89,7 @@ fn fill_entry<C: Caller>(caller: &mut C, entry: u32, next: u32, key: u32, n: u64
     requires top { length (stack_in (C.standing caller.old)) ≡ top }
     ensures ran { Ran C.base C.tells C.tells_known C.standing caller.old caller.new 0 }
     ensures own { (C.standing caller.new).own ≡ (C.standing caller.old).own }
-    ensures filled { (known : KnownObjects) (name : Name) (values : List Datum) → C.knows caller.old known → IsInSlot (C.standing caller.old) known entry name values → length values ≡ 3 → C.knows caller.new (with_fields known name (slot_in (C.standing caller.old) next) (slot_in (C.standing caller.old) key) n) }
+    ensures filled { (known : KnownObjects) (name : Name) (values : List Datum) → C.knows caller.old known → IsInSlot (C.standing caller.old) known entry name values → length values ≡ ENTRY_FIELDS → C.knows caller.new (with_fields known name (slot_in (C.standing caller.old) next) (slot_in (C.standing caller.old) key) n) }
 {
     store(caller, entry, 0, next);
     store(caller, entry, 1, key);
@@ -209,7 +209,7 @@ pub fn add<C: Caller>(caller: &mut C, table: u32, word: &[u8], n: u64) -> Result
     ensures ran_out { OnErr result (AddRanOut C.base C.tells C.tells_known C.standing caller.old caller.new word.now) }
     ensures stack { stack_in (C.standing caller.new) ≡ stack_in (C.standing caller.old) }
     ensures counted { OnOk result ((known : KnownObjects) (name : Name) (counts : WordCounts) (may : MayCount (C.standing caller.old) known table word.now n name counts) → C.knows caller.old known → IsCounted (C.standing caller.old) (C.standing caller.new) known table word.now n name counts may (C.knows caller.new)) }
-    ensures kept { OnErr result ((known : KnownObjects) (name : Name) (counts : WordCounts) → MayCount (C.standing caller.old) known table word.now n name counts → C.knows caller.old known → IsUncounted known word.now name counts (C.knows caller.new)) }
+    ensures kept { OnErr result ((known : KnownObjects) (name : Name) (counts : WordCounts) (may : MayCount (C.standing caller.old) known table word.now n name counts) → C.knows caller.old known → IsUncounted (C.standing caller.old) known table word.now n name counts may (C.knows caller.new)) }
 {
     let top = stack_size(caller);
     add_links(caller, table, word, n, top)

@@ -1,4 +1,4 @@
-use Rattle.std.proofs.Common.{◌≡◌, inl, inr, ⊎_elim, ℕ, ◌+◌, ◌∙◌, ap, arith, List}
+use Rattle.std.proofs.Common.{◌≡◌, inl, inr, ⊎_elim, ℕ, ◌+◌, ◌∙◌, ap, arith, List, refl}
 use Rattle.object_layout.specs.declared.names.Name.{Name}
 use Rattle.yak_model.specs.Graph.{Thread}
 use Rattle.yak_model.specs.Private.{KnownObjects}
@@ -6,7 +6,7 @@ use Rattle.yak_model.specs.Standing.{Standing}
 use Rattle.yak_model.specs.Tables.{WordCounts}
 use Rattle.heap_tables.specs.Adds.{MayAdd, having_made}
 use Rattle.heap_tables.specs.Counted.{MayCount, count_of}
-use Rattle.heap_tables.proofs.Counted.{added_counts, bucket_small, count_found, grown_counts, lacks_none, makes_uncounted}
+use Rattle.heap_tables.proofs.Counted.{added_counts, bucket_small, count_found, grown_counts, lacks_none, makes_uncounted, stay_nowhere}
 use Rattle.heap_tables.proofs.Effects.{value_same}
 use Rattle.heap_tables.proofs.OnResult.{ok_both, ok_map, err_map}
 use Rattle.heap_tables.proofs.RunOn.{ran_more, then_ran, then_out}
@@ -62,7 +62,7 @@ returns-clause-counted g c = ok_map c.add_links.result _ _
     let same = ap (λ (o : Thread). o.made) c.stack_size-top.ensures.own in
     let makes = makes_uncounted (C.standing c.stack_size-top.new.caller) (C.standing c.add_links.new.caller) known name counts table word made in (
       (λ some. makes.0 some ∙ same, λ none. makes.1 none ∙ ap (λ m. m + 2) same),
-      (added.after, added.known_now, added_counts known name counts table word c.args.n (bucket_small word) (C.knows c.add_links.new.caller) added, added.others),
+      (added.after, added.known_now, added_counts known name counts table word c.args.n (bucket_small word) (C.knows c.add_links.new.caller) added, added.others, stay_nowhere known table.buckets word c.args.n name (C.knows c.add_links.new.caller) added),
     ))
     (ok_both c.add_links.result _ _ c.add_links.ensures.added c.add_links.ensures.made)
 
@@ -71,5 +71,5 @@ returns-clause-kept g c = err_map c.add_links.result _ _
     (λ kept known name counts may k.
     let table = may.is_table in
     let r = kept known name table.heads table.buckets (c.stack_size-top.ensures.keeps known k) (may_add (g.C.Caller.standing c.args.caller.now) _ c.stack_size-top.ensures.own known c.args.table c.args.word.now c.args.n name counts may) in
-    (lacks_none known name counts table c.args.word.now r.3, (r.0, r.1, grown_counts known r.0 r.2 name counts table, r.2)))
+    (lacks_none known name counts table c.args.word.now r.3, (r.0, r.1, grown_counts known r.0 r.2 name counts table, r.2, refl)))
     c.add_links.ensures.kept
