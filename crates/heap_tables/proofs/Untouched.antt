@@ -10,8 +10,8 @@ use Rattle.yak_model.specs.declared.datum.Datum.TheVariants as datum
 use Rattle.yak_model.specs.Graph.{Thread}
 use Rattle.yak_model.specs.Private.{IsKnown, KnownObjects}
 use Rattle.yak_model.specs.Standing.{Standing}
-use Rattle.yak_model.specs.Tables.{AreDifferent, AreInBucket, IsChain, IsKey, IsTable, LacksWord, Link, WordCounts, bucket_of}
-use Rattle.heap_tables.specs.Adds.{AddsCount, IsAddedTo, IsNoEntry, MayAdd, having_made, with_bucket}
+use Rattle.yak_model.specs.Tables.{AreDifferent, AreInBucket, IsChain, IsCountTable, IsKey, IsTable, LacksWord, Link, WordCounts, bucket_of}
+use Rattle.heap_tables.specs.Adds.{AddsCount, IsAddedTo, IsNoEntry, KeepsOthers, MayAdd, StayNowhere, having_made, with_bucket}
 use Rattle.heap_tables.specs.Counted.{count_of, or_zero, raised}
 use Rattle.heap_tables.specs.Merges.{AreSlots, AreSums, Goes, IsEntryAt, IsMerge, IsMerged, IsShare, KeepsUntouched, Merge, MergesEntry, SharesNone, Stops, done_at, news, one_if_none, raised_by, walk, with_shared}
 use Rattle.heap_tables.specs.Runs.{Ran, RanOut, next_of}
@@ -152,28 +152,45 @@ key_nowhere : (known : KnownObjects) (key : Name) (w : List ℕ) → IsKey known
 key_nowhere known key w is [] head chain = tt
 key_nowhere known key w is (l ∷ ls) head chain = ((λ e. key_no_entry known key w chain.1.0 l is chain.1.1 (sym e)), key_nowhere known key w is ls chain.1.0 chain.1.2)
 
-module _ (m : Merge) (is : IsMerge m) (after : KnownObjects) (later : ℕ → List Link) (kept : KeepsUntouched m.known m.into_name (is.into_table).buckets after later) where
-  chain_kept : (ls : List Link) (head : Datum) → IsChain m.known head ls → ((c : ℕ) → c < 128 → SharesNone ls ((is.into_table).buckets c)) → IsChain after head ls
-  chain_kept [] head chain apart = chain
-  chain_kept (l ∷ ls) head chain apart =
-      let into = (is.into_table).table in
+-- a table that shares no entry with another one stays as it was where nothing but the other one and its entries changed
+module _ (known : KnownObjects) (from_name into_name : Name) (from_heads into_heads : List Datum) (from_buckets into_buckets : ℕ → List Link) (from : IsTable known from_name from_heads from_buckets) (into : IsTable known into_name into_heads into_buckets) (different : from_name ≢ into_name)
+    (apart : (b c : ℕ) → b < 128 → c < 128 → SharesNone (from_buckets b) (into_buckets c)) (after : KnownObjects) (later : ℕ → List Link) (kept : KeepsUntouched known into_name into_buckets after later) where
+  chain_kept : (ls : List Link) (head : Datum) → IsChain known head ls → ((c : ℕ) → c < 128 → SharesNone ls (into_buckets c)) → IsChain after head ls
+  chain_kept [] head chain away = chain
+  chain_kept (l ∷ ls) head chain away =
       let entry = chain.1.1 in
-      let other = table_apart m.known m.into_name (is.into_table).heads (is.into_table).buckets into (l ∷ ls) head chain in
-      let same_entry = (kept l.entry (ap is_some entry.0) other.0 (λ c h. (apart c h).0)).0 in
-      let same_key = (kept l.key (ap is_some entry.1.1) other.1 (λ c h. key_nowhere m.known l.key l.word entry.1 ((is.into_table).buckets c) (get_or (is.into_table).heads c datum.Null) (into.chains c h))).0 in
-      (chain.0, (chain.1.0, (same_entry ∙ entry.0, (entry.1.0, same_key ∙ entry.1.1, entry.1.2, entry.1.3)), chain_kept ls chain.1.0 chain.1.2 (λ c h. (apart c h).1)))
+      let other = table_apart known into_name into_heads into_buckets into (l ∷ ls) head chain in
+      let same_entry = (kept l.entry (ap is_some entry.0) other.0 (λ c h. (away c h).0)).0 in
+      let same_key = (kept l.key (ap is_some entry.1.1) other.1 (λ c h. key_nowhere known l.key l.word entry.1 (into_buckets c) (get_or into_heads c datum.Null) (into.chains c h))).0 in
+      (chain.0, (chain.1.0, (same_entry ∙ entry.0, (entry.1.0, same_key ∙ entry.1.1, entry.1.2, entry.1.3)), chain_kept ls chain.1.0 chain.1.2 (λ c h. (away c h).1)))
 
-  pub from_stays : IsTable after m.from_name m.heads m.buckets
-  from_stays =
-      let from = is.from_table in
-      let into = (is.into_table).table in
-      record {
-        object = (kept m.from_name (ap is_some from.object) is.different (λ c h. apart_nowhere m.from_name ((is.into_table).buckets c) (table_apart m.known m.from_name m.heads m.buckets from ((is.into_table).buckets c) (get_or (is.into_table).heads c datum.Null) (into.chains c h)))).0 ∙ from.object;
-        size = from.size;
-        chains = λ b h. chain_kept (m.buckets b) (get_or m.heads b datum.Null) (from.chains b h) (λ c k. is.apart b c h k);
-        homes = from.homes;
-        distinct = from.distinct;
-      }
+  pub table_stays : IsTable after from_name from_heads from_buckets
+  table_stays = record {
+    object = (kept from_name (ap is_some from.object) different (λ c h. apart_nowhere from_name (into_buckets c) (table_apart known from_name from_heads from_buckets from (into_buckets c) (get_or into_heads c datum.Null) (into.chains c h)))).0 ∙ from.object;
+    size = from.size;
+    chains = λ b h. chain_kept (from_buckets b) (get_or from_heads b datum.Null) (from.chains b h) (λ c k. apart b c h k);
+    homes = from.homes;
+    distinct = from.distinct;
+  }
+
+pub from_stays : (m : Merge) (is : IsMerge m) (after : KnownObjects) (later : ℕ → List Link) → KeepsUntouched m.known m.into_name (is.into_table).buckets after later → IsTable after m.from_name m.heads m.buckets
+from_stays m is after later kept =
+    table_stays m.known m.from_name m.into_name m.heads (is.into_table).heads m.buckets (is.into_table).buckets is.from_table (is.into_table).table is.different is.apart after later kept
+
+-- a count table that shares no entry with another one
+abbrev pub counts_stay : (known : KnownObjects) (from_name into_name : Name) (from_counts into_counts : WordCounts) (from : IsCountTable known from_name from_counts) (into : IsCountTable known into_name into_counts) → from_name ≢ into_name
+    → ((b c : ℕ) → b < 128 → c < 128 → SharesNone (from.buckets b) (into.buckets c)) → (after : KnownObjects) (later : ℕ → List Link) → KeepsUntouched known into_name into.buckets after later → IsCountTable after from_name from_counts
+counts_stay known from_name into_name from_counts into_counts from into different apart after later kept = record {
+  heads = from.heads;
+  buckets = from.buckets;
+  table = table_stays known from_name into_name from.heads into.heads from.buckets into.buckets from.table into.table different apart after later kept;
+  counted = from.counted;
+  absent = from.absent;
+}
+
+-- what stays where a word was added
+pub untouched_by_add : (known after : KnownObjects) (name : Name) (buckets later : ℕ → List Link) (word : List ℕ) → KeepsOthers known name (buckets (bucket_of word)) after → StayNowhere known buckets later → KeepsUntouched known name buckets after later
+untouched_by_add known after name buckets later word keeps stay other k ne away = (keeps other k ne (away (bucket_of word) (bucket_small word)), stay other k away)
 
 untouched_step : (known : KnownObjects) (name : Name) (buckets : ℕ → List Link) (mid : KnownObjects) (now : ℕ → List Link) → KeepsUntouched known name buckets mid now → (word : List ℕ) (n : ℕ) (knows : KnownObjects → Type 0) (added : IsAddedTo mid word n name now knows) → KeepsUntouched known name buckets added.after (with_bucket now (bucket_of word) added.links)
 untouched_step known name buckets mid now kept word n knows added other k ne away =
