@@ -1,5 +1,6 @@
 -- The counts of a table after one was raised.
 use Rattle.std.proofs.Common.{◌≡◌, ◌≢◌, inl, inr, ℕ, ◌+◌, ◌*◌, ◌%◌, ◌<◌, List, [], ◌∷◌, ◌++◌, refl, ◌∙◌, ap, sym, subst, Some, None, Option, false, cond, true≢false, arith, IsSome}
+use Rattle.yak_model.specs.declared.TheConstants.{BUCKETS, HASH_FACTOR}
 use Rattle.std.specs.List.{fold}
 use Rattle.std.specs.declared.cmp.Ordering.{Ordering}
 use Rattle.std.specs.declared.cmp.Ordering.TheVariants.{Less, Equal, Greater}
@@ -69,7 +70,7 @@ kept_lack v (p ∷ passed) rest link n h = (h.0, kept_lack v passed rest link n 
 lacks_apart : (v : List ℕ) (word : List ℕ) (link : Link) → link.word ≡ word → v ≢ word → link.word ≢ v
 lacks_apart v word link same ne e = ne (sym e ∙ same)
 
-module _ (known : KnownObjects) (name : Name) (counts : WordCounts) (table : IsCountTable known name counts) (word : List ℕ) (n : ℕ) (bound : bucket_of word < 128) where
+module _ (known : KnownObjects) (name : Name) (counts : WordCounts) (table : IsCountTable known name counts) (word : List ℕ) (n : ℕ) (bound : bucket_of word < BUCKETS) where
   -- the count that the table has of a word that stands in it
   pub count_found : (m : ℕ) → HasCount word (table.buckets (bucket_of word)) m → count_of counts word ≡ m
   count_found m h = by_option (get counts word) refl
@@ -151,12 +152,12 @@ module _ (known : KnownObjects) (name : Name) (counts : WordCounts) (table : IsC
     absent = added_absent knows added;
   }
 
-pub bucket_small : (word : List ℕ) → bucket_of word < 128
+pub bucket_small : (word : List ℕ) → bucket_of word < BUCKETS
 bucket_small word = small word 0 (omega arith)
   where
-    small : (word : List ℕ) (h : ℕ) → h < 128 → fold (λ k b. (31 * k + b) % 128) h word < 128
+    small : (word : List ℕ) (h : ℕ) → h < BUCKETS → fold (λ k b. (HASH_FACTOR * k + b) % BUCKETS) h word < BUCKETS
     small [] h bound = bound
-    small (b ∷ rest) h bound = small rest ((31 * h + b) % 128) (omega arith)
+    small (b ∷ rest) h bound = small rest ((HASH_FACTOR * h + b) % BUCKETS) (omega arith)
 
 -- a table without entries counts no words
 abbrev pub empty_counts : (known : KnownObjects) (name : Name) (heads : List Datum) → IsTable known name heads (λ _. []) → IsCountTable known name empty

@@ -1,5 +1,6 @@
 -- A table with a new entry.
 use Rattle.std.proofs.Common.{◌≡◌, ◌≢◌, inr, ℕ, ◌+◌, ◌<◌, List, [], ◌∷◌, get_or, set, refl, ◌∙◌, ap, sym, subst, length, Some, None, Option, IsSome, is_some, arith, length-set, get_or-set_same, get_or-set_other, true≢false}
+use Rattle.yak_model.specs.declared.TheConstants.{BUCKETS}
 use Rattle.std.specs.FinMap.{get, insert}
 use Rattle.object_layout.specs.declared.names.Name.{Name}
 use Rattle.yak_model.specs.declared.datum.Datum.{Datum}
@@ -60,7 +61,7 @@ known_other : (known : KnownObjects) (x y : Name) → IsKnown known x → get kn
 known_other known x y h none e = let q : IsSome {T = Content} None = subst (λ o. IsSome o) (sym (ap (get known) e) ∙ none) h in true≢false (sym q)
 
 -- a new entry at the front of a bucket, whose key is known
-pub shared_table : (known : KnownObjects) (name : Name) (heads : List Datum) (buckets : ℕ → List Link) (table : IsTable known name heads buckets) (word : List ℕ) (n b : ℕ) (home : bucket_of word ≡ b) (bound : b < 128) (lacks : LacksWord word (buckets b))
+pub shared_table : (known : KnownObjects) (name : Name) (heads : List Datum) (buckets : ℕ → List Link) (table : IsTable known name heads buckets) (word : List ℕ) (n b : ℕ) (home : bucket_of word ≡ b) (bound : b < BUCKETS) (lacks : LacksWord word (buckets b))
     (key entry : Name) (no_entry : get known entry ≡ None) (is_key : IsKey known key word) (name_key : name ≢ key)
     → (knows : KnownObjects → Type 0) → knows (insert (with_fields known entry (get_or heads b datum.Null) (datum.Object key) n) name (Fields (set heads b (datum.Object entry))))
     → IsAddedTo known word n name buckets knows
@@ -102,7 +103,7 @@ shared_table known name heads buckets table word n b home bound lacks key entry 
       fresh = λ x kx no. (known_other known x entry kx no_entry, subst (λ i. IsNoEntry x (buckets i)) home no);
     }
 
-pub linked_table : (known : KnownObjects) (name : Name) (heads : List Datum) (buckets : ℕ → List Link) (table : IsTable known name heads buckets) (word : List ℕ) (n b : ℕ) (home : bucket_of word ≡ b) (bound : b < 128) (lacks : LacksWord word (buckets b))
+pub linked_table : (known : KnownObjects) (name : Name) (heads : List Datum) (buckets : ℕ → List Link) (table : IsTable known name heads buckets) (word : List ℕ) (n b : ℕ) (home : bucket_of word ≡ b) (bound : b < BUCKETS) (lacks : LacksWord word (buckets b))
     (key entry : Name) (d : Content) (no_key : get known key ≡ None) (no_entry : get (insert known key d) entry ≡ None) (is_key : IsKey (insert known key d) key word)
     → (knows : KnownObjects → Type 0) → knows (insert (with_fields (insert known key d) entry (get_or heads b datum.Null) (datum.Object key) n) name (Fields (set heads b (datum.Object entry))))
     → IsAddedTo known word n name buckets knows

@@ -1,5 +1,6 @@
 -- A table after the count in one of its entries was raised.
 use Rattle.std.proofs.lemmas.List.{length-replicate}
+use Rattle.yak_model.specs.declared.TheConstants.{BUCKETS}
 use Rattle.std.proofs.Common.{replicate, zero, suc, ◌≡◌, ◌≢◌, ◌⊎◌, inl, inr, ℕ, ◌+◌, ◌<◌, List, [], ◌∷◌, ◌++◌, get_or, refl, ◌∙◌, ap, sym, subst, length, Some, arith, cond, true, false, eqb}
 use Rattle.std.proofs.lemmas.Bool.Decides.{nat_tests}
 use Rattle.std.proofs.lemmas.Bool.{cases_lt}
@@ -92,13 +93,13 @@ eqb_cases b c = elim (cases_lt b c) [
 ]
 
 -- what holds of a new chain and of the others holds of all
-pub in_bucket : (P : ℕ → List Link → Type 0) (buckets : ℕ → List Link) (b : ℕ) (links : List Link) → P b links → ((c : ℕ) → c < 128 → c ≢ b → P c (buckets c)) → (c : ℕ) → c < 128 → P c (with_bucket buckets b links c)
+pub in_bucket : (P : ℕ → List Link → Type 0) (buckets : ℕ → List Link) (b : ℕ) (links : List Link) → P b links → ((c : ℕ) → c < BUCKETS → c ≢ b → P c (buckets c)) → (c : ℕ) → c < BUCKETS → P c (with_bucket buckets b links c)
 in_bucket P buckets b links new old c bound = elim (eqb_cases b c) [
   | inl s ↦ subst (λ t. P c (cond t links (buckets c))) (sym s.0) (subst (λ d. P d links) (sym s.1) new)
   | inr o ↦ subst (λ t. P c (cond t links (buckets c))) (sym o.0) (old c bound o.1)
 ]
 
-pub raised_table : (known : KnownObjects) (name : Name) (heads : List Datum) (buckets : ℕ → List Link) (table : IsTable known name heads buckets) (word : List ℕ) (n : ℕ) (bound : bucket_of word < 128)
+pub raised_table : (known : KnownObjects) (name : Name) (heads : List Datum) (buckets : ℕ → List Link) (table : IsTable known name heads buckets) (word : List ℕ) (n : ℕ) (bound : bucket_of word < BUCKETS)
     → (passed rest : List Link) (link : Link) (parts : buckets (bucket_of word) ≡ passed ++ link ∷ rest) (same : link.word ≡ word) (next : Datum) (entry : IsEntry known next link)
     → (knows : KnownObjects → Type 0) → knows (with_count known next link (link.count + n)) → IsAddedTo known word n name buckets knows
 raised_table known name heads buckets table word n bound passed rest link parts same next entry knows k =
@@ -139,7 +140,7 @@ pub table_apart : (known : KnownObjects) (name : Name) (heads : List Datum) (buc
 table_apart known name heads buckets table [] head chain = tt
 table_apart known name heads buckets table (l ∷ links) head chain =
     let key = chain.1.1.1 in
-    let some : 0 < 128 = omega arith in (
+    let some : 0 < BUCKETS = omega arith in (
       (λ e. let f = ap length (same_fields known l.entry name (entry_fields chain.1.0 l.key l.count) heads e chain.1.1.0 table.object) in omega (arith, f, table.size)),
       (λ e. let f = same_fields known l.key name key.0 heads e key.1 table.object in
           no_int known (buckets 0) (get_or heads 0 datum.Null) (table.chains 0 some) (length l.word) (sym (ap (λ vs. get_or vs 0 datum.Null) f) ∙ key.2.first)),
@@ -150,7 +151,7 @@ pub has_count_at : (word : List ℕ) (passed rest : List Link) (link : Link) →
 has_count_at word [] rest link lacks same = inl (same, refl)
 has_count_at word (p ∷ passed) rest link lacks same = inr (lacks.0, has_count_at word passed rest link lacks.1 same)
 
-pub empty_table : (known : KnownObjects) (name : Name) (k : ℕ) → k ≡ 128 → IsTable (insert known name (Fields (replicate k datum.Null))) name (replicate k datum.Null) (λ _. [])
+pub empty_table : (known : KnownObjects) (name : Name) (k : ℕ) → k ≡ BUCKETS → IsTable (insert known name (Fields (replicate k datum.Null))) name (replicate k datum.Null) (λ _. [])
 empty_table known name k e = record {
   object = get-same known name (Fields (replicate k datum.Null));
   size = length-replicate k datum.Null ∙ e;

@@ -1,5 +1,6 @@
 -- A merge of two tables, entry by entry.
-use Rattle.std.proofs.Common.{zero, suc, ◌≡◌, ◌≢◌, inl, inr, ℕ, ◌+◌, ◌*◌, ◌<◌, ◌≤◌, ◌^◌, List, [], ◌∷◌, ◌++◌, drop, take, get_or, refl, ◌∙◌, ap, sym, subst, Some, None, Option, IsSome, is_some, Bool, true, false, cond, arith, length, append_assoc, length-append, true≢false}
+use Rattle.std.proofs.Common.{◌-◌, zero, suc, ◌≡◌, ◌≢◌, inl, inr, ℕ, ◌+◌, ◌*◌, ◌<◌, ◌≤◌, ◌^◌, List, [], ◌∷◌, ◌++◌, drop, take, get_or, refl, ◌∙◌, ap, sym, subst, Some, None, Option, IsSome, is_some, Bool, true, false, cond, arith, length, append_assoc, length-append, true≢false}
+use Rattle.yak_model.specs.declared.TheConstants.{BUCKETS}
 use Rattle.std.proofs.lemmas.Bool.{cases_lt}
 use Rattle.std.proofs.lemmas.List.{append-nil}
 use Rattle.std.specs.FinMap.{get}
@@ -119,7 +120,7 @@ take_lacks zero xs rest link different e = tt
 take_lacks (suc p) [] rest link different e = tt
 take_lacks (suc p) (x ∷ xs) rest link different e = ((λ q. lacks_drop x.word p xs rest link different.0 e (sym q)), take_lacks p xs rest link different.1 e)
 
-pub walk_lacks : (buckets : ℕ → List Link) (w : List ℕ) (n : ℕ) → ((b : ℕ) → b < 128 → AreInBucket b (buckets b)) → n ≤ bucket_of w → n ≤ 128 → LacksWord w (walk buckets n)
+pub walk_lacks : (buckets : ℕ → List Link) (w : List ℕ) (n : ℕ) → ((b : ℕ) → b < BUCKETS → AreInBucket b (buckets b)) → n ≤ bucket_of w → n ≤ BUCKETS → LacksWord w (walk buckets n)
 walk_lacks buckets w zero homes h small = tt
 walk_lacks buckets w (suc n) homes h small =
     lacks_append w (walk buckets n) (buckets n) (walk_lacks buckets w n homes (omega (arith, h)) (omega (arith, small)))
@@ -131,7 +132,7 @@ home_drop b zero (x ∷ xs) rest link homes e = let q : x ≡ link = cc in subst
 home_drop b (suc p) [] rest link homes e = cc
 home_drop b (suc p) (x ∷ xs) rest link homes e = home_drop b p xs rest link homes.1 e
 
-pub done_lacks : (known : KnownObjects) (name : Name) (heads : List Datum) (buckets : ℕ → List Link) (table : IsTable known name heads buckets) (b p : ℕ) → b < 128 → (link : Link) (rest : List Link) → drop p (buckets b) ≡ link ∷ rest → (bucket_of link.word ≡ b) × LacksWord link.word (done_at buckets b p)
+pub done_lacks : (known : KnownObjects) (name : Name) (heads : List Datum) (buckets : ℕ → List Link) (table : IsTable known name heads buckets) (b p : ℕ) → b < BUCKETS → (link : Link) (rest : List Link) → drop p (buckets b) ≡ link ∷ rest → (bucket_of link.word ≡ b) × LacksWord link.word (done_at buckets b p)
 done_lacks known name heads buckets table b p bound link rest e =
     let home = home_drop b p (buckets b) rest link (table.homes b bound) e in
     (home, lacks_append link.word (walk buckets b) (take p (buckets b)) (walk_lacks buckets link.word b table.homes (omega (arith, home)) (omega (arith, bound))) (take_lacks p (buckets b) rest link (table.distinct b bound) e))
@@ -154,8 +155,8 @@ key_nowhere known key w is (l ∷ ls) head chain = ((λ e. key_no_entry known ke
 
 -- a table that shares no entry with another one stays as it was where nothing but the other one and its entries changed
 module _ (known : KnownObjects) (from_name into_name : Name) (from_heads into_heads : List Datum) (from_buckets into_buckets : ℕ → List Link) (from : IsTable known from_name from_heads from_buckets) (into : IsTable known into_name into_heads into_buckets) (different : from_name ≢ into_name)
-    (apart : (b c : ℕ) → b < 128 → c < 128 → SharesNone (from_buckets b) (into_buckets c)) (after : KnownObjects) (later : ℕ → List Link) (kept : KeepsUntouched known into_name into_buckets after later) where
-  chain_kept : (ls : List Link) (head : Datum) → IsChain known head ls → ((c : ℕ) → c < 128 → SharesNone ls (into_buckets c)) → IsChain after head ls
+    (apart : (b c : ℕ) → b < BUCKETS → c < BUCKETS → SharesNone (from_buckets b) (into_buckets c)) (after : KnownObjects) (later : ℕ → List Link) (kept : KeepsUntouched known into_name into_buckets after later) where
+  chain_kept : (ls : List Link) (head : Datum) → IsChain known head ls → ((c : ℕ) → c < BUCKETS → SharesNone ls (into_buckets c)) → IsChain after head ls
   chain_kept [] head chain away = chain
   chain_kept (l ∷ ls) head chain away =
       let entry = chain.1.1 in
@@ -179,7 +180,7 @@ from_stays m is after later kept =
 
 -- a count table that shares no entry with another one
 abbrev pub counts_stay : (known : KnownObjects) (from_name into_name : Name) (from_counts into_counts : WordCounts) (from : IsCountTable known from_name from_counts) (into : IsCountTable known into_name into_counts) → from_name ≢ into_name
-    → ((b c : ℕ) → b < 128 → c < 128 → SharesNone (from.buckets b) (into.buckets c)) → (after : KnownObjects) (later : ℕ → List Link) → KeepsUntouched known into_name into.buckets after later → IsCountTable after from_name from_counts
+    → ((b c : ℕ) → b < BUCKETS → c < BUCKETS → SharesNone (from.buckets b) (into.buckets c)) → (after : KnownObjects) (later : ℕ → List Link) → KeepsUntouched known into_name into.buckets after later → IsCountTable after from_name from_counts
 counts_stay known from_name into_name from_counts into_counts from into different apart after later kept = record {
   heads = from.heads;
   buckets = from.buckets;
@@ -248,7 +249,7 @@ merged_none m is knows k = record {
 }
 
 -- the word may be added
-pub may_merge : (s : Standing) (into : ℕ) (m : Merge) (is : IsMerge m) (b p : ℕ) (knows : KnownObjects → Type 0) (d : IsMerged m is (done_at m.buckets b p) knows) → b < 128 → p < 2 ^ 32 → length (walk m.buckets b) ≤ b * 2 ^ 32
+pub may_merge : (s : Standing) (into : ℕ) (m : Merge) (is : IsMerge m) (b p : ℕ) (knows : KnownObjects → Type 0) (d : IsMerged m is (done_at m.buckets b p) knows) → b < BUCKETS → p < 2 ^ 32 → length (walk m.buckets b) ≤ b * 2 ^ 32
     → get_or s.own.stack into datum.Null ≡ datum.Object m.into_name → (word : List ℕ) (n : ℕ) (link : Link) (rest : List Link) → IsEntryAt m b p word n link rest
     → MayAdd s d.after into word n m.into_name (d.into_table).heads (d.into_table).buckets
 may_merge s into m is b p knows d bound below walked slot word n link rest at =
@@ -261,12 +262,12 @@ may_merge s into m is b p knows d bound below walked slot word n link rest at =
       is_table = (d.into_table).table;
       short =
           let c = bucket_of word in
-          let small : c < 128 = bucket_small word in
+          let small : c < BUCKETS = bucket_small word in
           let few = d.few c small in
           let first = is.into_few c small in
           let long = length-append (walk m.buckets b) (take p (m.buckets b)) in
           let part = take_length p (m.buckets b) in
-          let count : b * 2 ^ 32 ≤ 127 * 2 ^ 32 = omega (arith, bound) in
+          let count : b * 2 ^ 32 ≤ (BUCKETS - 1) * 2 ^ 32 = omega (arith, bound) in
           omega (arith, few, first, long, part, walked, count, below);
       number = let e = at.2 in omega (arith, e, sum);
       sum = λ count h.
@@ -281,7 +282,7 @@ may_merge s into m is b p knows d bound below walked slot word n link rest at =
     take_length (suc n) [] = omega arith
     take_length (suc n) (x ∷ xs) = let h = take_length n xs in omega (arith, h)
 
-pub length_walk : (buckets : ℕ → List Link) → ((b : ℕ) → b < 128 → length (buckets b) < 2 ^ 32) → (n : ℕ) → n ≤ 128 → length (walk buckets n) ≤ n * 2 ^ 32
+pub length_walk : (buckets : ℕ → List Link) → ((b : ℕ) → b < BUCKETS → length (buckets b) < 2 ^ 32) → (n : ℕ) → n ≤ BUCKETS → length (walk buckets n) ≤ n * 2 ^ 32
 length_walk buckets few zero h = omega arith
 length_walk buckets few (suc n) h =
     let old = length_walk buckets few n (omega (arith, h)) in
@@ -333,11 +334,11 @@ module _ {S B : Type 0} (base : S → B) (tells : S → ℕ → Thread → Type 
         own = own;
       })
 
-  pub stops_here : (b p : ℕ) (word : List ℕ) (n : ℕ) (link : Link) (rest : List Link) → b < 128 → IsEntryAt m b p word n link rest → (x y : S) (knows : KnownObjects → Type 0)
+  pub stops_here : (b p : ℕ) (word : List ℕ) (n : ℕ) (link : Link) (rest : List Link) → b < BUCKETS → IsEntryAt m b p word n link rest → (x y : S) (knows : KnownObjects → Type 0)
       → IsMerged m is (done_at m.buckets b p) knows → get (raised_by m.counts (done_at m.buckets b p)) link.word ≡ None → RanOut base tells tells_known standing x y 0 3 → (standing y).own ≡ (standing x).own
       → Stops base tells tells_known standing m is (done_at m.buckets b p) x y knows
   stops_here b p word n link rest bound at x y knows merged absent out own =
-      let parts = walk_parts m.buckets b p 128 link rest bound at.0 in
+      let parts = walk_parts m.buckets b p BUCKETS link rest bound at.0 in
       record {
         later = done_at m.buckets b p;
         link = link;
@@ -396,7 +397,7 @@ apart_link name zero (l ∷ ls) rest link apart e = let q : l ≡ link = cc in s
 apart_link name (suc p) [] rest link apart e = cc
 apart_link name (suc p) (l ∷ ls) rest link apart e = apart_link name p ls rest link apart.2 e
 
-module _ (m : Merge) (is : IsMerge m) (b p : ℕ) (bound : b < 128) (knows : KnownObjects → Type 0) (d : IsMerged m is (done_at m.buckets b p) knows) where
+module _ (m : Merge) (is : IsMerge m) (b p : ℕ) (bound : b < BUCKETS) (knows : KnownObjects → Type 0) (d : IsMerged m is (done_at m.buckets b p) knows) where
   from_now : IsTable d.after m.from_name m.heads m.buckets
   from_now = from_stays m is d.after (d.into_table).buckets d.untouched
 

@@ -1,5 +1,6 @@
 -- What a merge leaves of whole tables.
-use Rattle.std.proofs.Common.{zero, suc, ◌≡◌, ◌≢◌, inl, inr, ℕ, ◌+◌, ◌-◌, ◌<◌, ◌≤◌, List, [], ◌∷◌, ◌++◌, refl, ◌∙◌, ap, sym, subst, Some, None, Option, IsSome, is_some, cond, true, true≢false, arith, length, append_assoc}
+use Rattle.std.proofs.Common.{zero, suc, ◌≡◌, ◌≢◌, inl, inr, ℕ, ◌+◌, ◌-◌, ◌<◌, ◌≤◌, List, [], ◌∷◌, ◌++◌, refl, ◌∙◌, ap, sym, subst, Some, None, Option, IsSome, is_some, cond, true≢false, arith, length, append_assoc}
+use Rattle.yak_model.specs.declared.TheConstants.{BUCKETS}
 use Rattle.std.proofs.lemmas.Bool.{cases_lt}
 use Rattle.std.specs.Cmp.Lexicographic.{nat_list_cmp_total, slice_cmp}
 use Rattle.std.specs.Ordering.{nat_cmp}
@@ -43,8 +44,8 @@ raised_none counts w (l ∷ ls) e =
       | inr ne ↦ sym (count_other counts l.word w (count_of counts l.word + l.count) ne) ∙ h
     ]
 
-module _ (buckets : ℕ → List Link) (homes : (b : ℕ) → b < 128 → AreInBucket b (buckets b)) (counts : WordCounts) (w : List ℕ) where
-  walk_sum : (distinct : (b : ℕ) → b < 128 → AreDifferent (buckets b)) (k n : ℕ) → HasCount w (buckets (bucket_of w)) k → bucket_of w < n → n ≤ 128 → get (raised_by counts (walk buckets n)) w ≡ Some (count_of counts w + k)
+module _ (buckets : ℕ → List Link) (homes : (b : ℕ) → b < BUCKETS → AreInBucket b (buckets b)) (counts : WordCounts) (w : List ℕ) where
+  walk_sum : (distinct : (b : ℕ) → b < BUCKETS → AreDifferent (buckets b)) (k n : ℕ) → HasCount w (buckets (bucket_of w)) k → bucket_of w < n → n ≤ BUCKETS → get (raised_by counts (walk buckets n)) w ≡ Some (count_of counts w + k)
   walk_sum distinct k zero has h small = absurd (omega (arith, h))
   walk_sum distinct k (suc n) has h small = ap (λ cs. get cs w) (raised_append counts (walk buckets n) (buckets n)) ∙ elim (cases_lt (bucket_of w) n) [
     | inl lt ↦
@@ -56,7 +57,7 @@ module _ (buckets : ℕ → List Link) (homes : (b : ℕ) → b < 128 → AreInB
         ∙ ap (λ o. Some (or_zero o + k)) (raised_lacks counts w (walk buckets n) (walk_lacks buckets w n homes ge (omega (arith, small))))
   ]
 
-  walk_none : (n : ℕ) → LacksWord w (buckets (bucket_of w)) → n ≤ 128 → LacksWord w (walk buckets n)
+  walk_none : (n : ℕ) → LacksWord w (buckets (bucket_of w)) → n ≤ BUCKETS → LacksWord w (walk buckets n)
   walk_none zero lacks small = tt
   walk_none (suc n) lacks small = lacks_append w (walk buckets n) (buckets n) (walk_none n lacks (omega (arith, small))) (elim (cases_lt (bucket_of w) n) [
     | inl lt ↦ other_bucket (bucket_of w) n w refl (λ e. omega (arith, lt, e)) (buckets n) (homes n (omega (arith, small)))
@@ -66,26 +67,26 @@ module _ (buckets : ℕ → List Link) (homes : (b : ℕ) → b < 128 → AreInB
     ]
   ])
 
-whole_sum : (known : KnownObjects) (name : Name) (from : WordCounts) (table : IsCountTable known name from) (counts : WordCounts) (w : List ℕ) → get (raised_by counts (walk table.buckets 128)) w ≡ sum_of (get counts w) (get from w)
+whole_sum : (known : KnownObjects) (name : Name) (from : WordCounts) (table : IsCountTable known name from) (counts : WordCounts) (w : List ℕ) → get (raised_by counts (walk table.buckets BUCKETS)) w ≡ sum_of (get counts w) (get from w)
 whole_sum known name from table counts w = by_option (get from w) refl
   where
-    by_option : (o : Option ℕ) → get from w ≡ o → get (raised_by counts (walk table.buckets 128)) w ≡ sum_of (get counts w) (get from w)
+    by_option : (o : Option ℕ) → get from w ≡ o → get (raised_by counts (walk table.buckets BUCKETS)) w ≡ sum_of (get counts w) (get from w)
     by_option None e =
-        raised_lacks counts w (walk table.buckets 128) (walk_none table.buckets (table.table).homes counts w 128 (table.absent w e) (omega arith))
+        raised_lacks counts w (walk table.buckets BUCKETS) (walk_none table.buckets (table.table).homes counts w BUCKETS (table.absent w e) (omega arith))
         ∙ sym (ap (sum_of (get counts w)) e)
     by_option (Some k) e =
-        walk_sum table.buckets (table.table).homes counts w (table.table).distinct k 128 (table.counted w k e) (bucket_small w) (omega arith)
+        walk_sum table.buckets (table.table).homes counts w (table.table).distinct k BUCKETS (table.counted w k e) (bucket_small w) (omega arith)
         ∙ sym (ap (sum_of (get counts w)) e)
 
 module _ (s : Standing) (known : KnownObjects) (from into : ℕ) (from_name into_name : Name) (from_counts into_counts : WordCounts) (may : MayMerge s known from into from_name into_name from_counts into_counts) where
-  sums_rest : (b : ℕ) → b < 128 → (passed rest : List Link) → (may.from_table).buckets b ≡ passed ++ rest → AreSums into_counts rest
+  sums_rest : (b : ℕ) → b < BUCKETS → (passed rest : List Link) → (may.from_table).buckets b ≡ passed ++ rest → AreSums into_counts rest
   sums_rest b bound passed [] parts = tt
   sums_rest b bound passed (l ∷ rest) parts =
       let e = ap or_zero (counted_at known from_name from_counts may.from_table b bound passed rest l parts) in
       let sum = may.sums l.word in
       (omega (arith, e, sum), sums_rest b bound (passed ++ l ∷ []) rest (parts ∙ sym (append_assoc passed (l ∷ []) rest)))
 
-  pub few_short : (b : ℕ) (bound : b < 128) → AreSums into_counts ((may.from_table).buckets b)
+  pub few_short : (b : ℕ) (bound : b < BUCKETS) → AreSums into_counts ((may.from_table).buckets b)
   few_short b bound = sums_rest b bound [] ((may.from_table).buckets b) refl
 
   abbrev pub merge_of : Merge
@@ -111,7 +112,7 @@ module _ (s : Standing) (known : KnownObjects) (from into : ℕ) (from_name into
   }
 
   module _ {S B : Type 0} (base : S → B) (tells : S → ℕ → Thread → Type 0) (tells_known : S → ℕ → KnownObjects → Type 0) (standing : S → Standing) (x y : S) (knows : KnownObjects → Type 0) where
-    pub merged_whole : Goes base tells tells_known standing merge_of is_merge [] (walk (may.from_table).buckets 128) x y knows → IsMergedWhole base tells tells_known standing known from_name into_name from_counts into_counts (may.from_table).buckets (may.into_table).buckets x y knows
+    pub merged_whole : Goes base tells tells_known standing merge_of is_merge [] (walk (may.from_table).buckets BUCKETS) x y knows → IsMergedWhole base tells tells_known standing known from_name into_name from_counts into_counts (may.from_table).buckets (may.into_table).buckets x y knows
     merged_whole goes =
         let d = goes.merged in record {
           later = d.after;
@@ -184,11 +185,11 @@ chain_len [] counts different counted = omega arith
 chain_len (l ∷ links) counts different counted =
     let fewer = remove counts l.word in
     let rest = chain_len links fewer different.1 (λ passed rest link parts.
-      subst (λ o. IsSome o) (sym (get_removed counts l.word link.word (lacks_at l.word passed rest link (subst (LacksWord l.word) parts different.0)))) (counted (l ∷ passed) rest link (ap (λ ls. l ∷ ls) parts))) in
+    subst (λ o. IsSome o) (sym (get_removed counts l.word link.word (lacks_at l.word passed rest link (subst (LacksWord l.word) parts different.0)))) (counted (l ∷ passed) rest link (ap (λ ls. l ∷ ls) parts))) in
     let one = len_removed counts l.word (counted [] links l refl) in
     omega (arith, rest, one)
 
-pub bucket_few : (known : KnownObjects) (name : Name) (counts : WordCounts) (table : IsCountTable known name counts) (b : ℕ) → b < 128 → length (table.buckets b) ≤ len counts
+pub bucket_few : (known : KnownObjects) (name : Name) (counts : WordCounts) (table : IsCountTable known name counts) (b : ℕ) → b < BUCKETS → length (table.buckets b) ≤ len counts
 bucket_few known name counts table b bound =
     chain_len (table.buckets b) counts ((table.table).distinct b bound) (λ passed rest link parts. ap is_some (counted_at known name counts table b bound passed rest link parts))
 

@@ -36,6 +36,10 @@ fn raise<C: Caller>(caller: &mut C, entry: u32, n: u64, top: u32)
 }
 
 /// Pushes a new table of no words.
+///
+/// # Errors
+///
+/// `OutOfHeap` where the heap has no room for the table.
 pub fn make<C: Caller>(caller: &mut C) -> Result<(), OutOfHeap>
     requires some { KnowsSome (C.knows caller.old) }
     requires page { PAGE_WORDS ≤ (C.standing caller.old).limits.page }
@@ -198,7 +202,11 @@ fn add_links<C: Caller>(
     }
 }
 
-/// Adds to the count of a word.
+/// Adds to the count of a word. A new word gets a key and an entry at the front of its bucket.
+///
+/// # Errors
+///
+/// `OutOfHeap` where the word is new and the heap has no room for its key or its entry. The table is unchanged then.
 pub fn add<C: Caller>(caller: &mut C, table: u32, word: &[u8], n: u64) -> Result<(), OutOfHeap>
     requires table { HasCountTable (C.standing caller.old) (C.knows caller.old) table word.now n }
     requires word { length word.now ≤ WORD_LIMIT }

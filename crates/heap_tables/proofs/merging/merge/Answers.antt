@@ -1,4 +1,5 @@
 use Rattle.std.proofs.Common.{◌∙◌, ap, arith, length, []}
+use Rattle.yak_model.specs.declared.TheConstants.{BUCKETS}
 use Rattle.yak_model.specs.Graph.{Limits, Thread}
 use Rattle.heap_tables.specs.Merges.{AreSlots, walk}
 use Rattle.heap_tables.proofs.Effects.{value_same}
@@ -39,7 +40,7 @@ returns-clause-merged g c = ok_map c.merge_buckets.result _ _
     let slots : AreSlots (C.standing c.stack_size-top.new.caller) c.args.from c.args.into m = (value_same s.own _ c.args.from own ∙ may.from_slot, value_same s.own _ c.args.into own ∙ may.into_slot) in
     let none = merged_none m is (C.knows c.stack_size-top.new.caller) (c.stack_size-top.ensures.keeps known k) in
     let first = goes_nowhere C.base C.tells C.tells_known C.standing m is [] c.args.caller.now c.stack_size-top.new.caller (C.knows c.stack_size-top.new.caller) none c.stack_size-top.ensures.ran own in
-    let goes = goes_then C.base C.tells C.tells_known C.standing m is [] [] (walk (may.from_table).buckets 128) c.args.caller.now c.stack_size-top.new.caller c.merge_buckets.new.caller (C.knows c.stack_size-top.new.caller) (C.knows c.merge_buckets.new.caller) first (merged m is slots none) in
+    let goes = goes_then C.base C.tells C.tells_known C.standing m is [] [] (walk (may.from_table).buckets BUCKETS) c.args.caller.now c.stack_size-top.new.caller c.merge_buckets.new.caller (C.knows c.stack_size-top.new.caller) (C.knows c.merge_buckets.new.caller) first (merged m is slots none) in
     merged_whole s known c.args.from c.args.into from_name into_name from_counts into_counts may C.base C.tells C.tells_known C.standing c.args.caller.now c.merge_buckets.new.caller (C.knows c.merge_buckets.new.caller) goes)
     c.merge_buckets.ensures.merged
 

@@ -1,4 +1,5 @@
-use Rattle.std.proofs.Common.{◌≡◌, ◌+◌, ◌*◌, ◌^◌, ◌≤◌, ◌∙◌, ap, subst, refl, arith, length, []}
+use Rattle.std.proofs.Common.{◌-◌, ◌≡◌, ◌+◌, ◌*◌, ◌^◌, ◌≤◌, ◌∙◌, ap, subst, refl, arith, length, []}
+use Rattle.yak_model.specs.declared.TheConstants.{BUCKETS}
 use Rattle.yak_model.specs.Graph.{Limits, Thread}
 use Rattle.heap_tables.specs.Merges.{AreSlots, Goes, walk}
 use Rattle.heap_tables.proofs.OnResult.{on_err}
@@ -61,7 +62,7 @@ merge_bucket-requires-clause-names g c =
     let now_slots : AreSlots (C.standing c.loop-bucket.caller) c.args.from c.args.into m = (made_slot s (C.standing c.loop-bucket.caller) G.made c.args.from own ∙ slots.0, made_slot s (C.standing c.loop-bucket.caller) G.made c.args.into own ∙ slots.1) in
     let few = G.few in
     let long = length_walk m.buckets is.from_few c.loop-bucket.bucket (omega (arith, c.loop-bucket-test.true)) in
-    let most : c.loop-bucket.bucket * 2 ^ 32 ≤ 127 * 2 ^ 32 = omega (arith, c.loop-bucket-test.true) in
+    let most : c.loop-bucket.bucket * 2 ^ 32 ≤ (BUCKETS - 1) * 2 ^ 32 = omega (arith, c.loop-bucket-test.true) in
     omega (arith, c.requires.names, few, long, most, ap (λ (o : Thread). o.made) own)
 
 pub merge_bucket-requires-clause-room : goal.merge_bucket-requires-clause-room
@@ -119,5 +120,5 @@ pub returns-clause-merged : goal.returns-clause-merged
 returns-clause-merged g c m is slots d =
     let C = g.C.Caller in
     let s = C.standing c.args.caller.now in
-    let end : c.loop-bucket.bucket ≡ 128 = omega (arith, c.loop-bucket-test.false, c.loop-bucket.auto.bucket-end) in
+    let end : c.loop-bucket.bucket ≡ BUCKETS = omega (arith, c.loop-bucket-test.false, c.loop-bucket.auto.bucket-end) in
     subst (λ n. Goes C.base C.tells C.tells_known C.standing m is [] (walk m.buckets n) c.args.caller.now c.loop-bucket.caller (C.knows c.loop-bucket.caller)) end (c.loop-bucket.invariant.goes m is slots d)

@@ -1,4 +1,5 @@
 use Rattle.std.proofs.Common.{◌≡◌, ◌+◌, ◌*◌, ◌/◌, ◌%◌, ◌<◌, ◌∙◌, ap, refl, arith, length, length-set, get_or}
+use Rattle.yak_model.specs.declared.TheConstants.{GROUP_BYTES}
 use Rattle.yak_model.specs.Tables.{group}
 use Rattle.heap_tables.proofs.Bytes.{front_more, group_digits, next_group, same_front}
 use Rattle.heap_tables.proofs.Effects.{value_same}
@@ -49,10 +50,10 @@ loop-i-preserved g c =
           let size = r.0 in
           let below : i < length word = omega (arith, c.loop-i-test.true, size) in
           let e = c.group_of-group.ensures.group known name word (inv.keeps known k) (value_same _ _ c.args.key inv.own ∙ key.0, key.1) below r.1 in
-          let place : 7 * (i / 7) + i % 7 ≡ i = omega arith in
-          let byte = c.byte_of.ensures word (7 * (i / 7)) key.1.3 (e ∙ group_digits word (i / 7)) ∙ ap (λ j. get_or word j 0) place in (
+          let place : GROUP_BYTES * (i / GROUP_BYTES) + i % GROUP_BYTES ≡ i = omega arith in
+          let byte = c.byte_of.ensures word (GROUP_BYTES * (i / GROUP_BYTES)) key.1.3 (e ∙ group_digits word (i / GROUP_BYTES)) ∙ ap (λ j. get_or word j 0) place in (
             r.0,
-            (λ ne. let same : i / 7 ≡ (i + 1) / 7 = next_group i ne in e ∙ ap (group word) same),
+            (λ ne. let same : i / GROUP_BYTES ≡ (i + 1) / GROUP_BYTES = next_group i ne in e ∙ ap (group word) same),
             (λ j h. front_more word c.loop-i.buffer i c.byte_of.result within r.2 byte j h),
           );
     }
