@@ -1,0 +1,4 @@
+pub mod Cutting
+pub mod Parting
+pub mod Tasking
+pub mod LongLines

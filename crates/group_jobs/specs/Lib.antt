@@ -1,0 +1,4 @@
+pub mod Tasks
+pub mod Pieces
+pub mod LongWords
+pub mod Counts
