@@ -2,3 +2,5 @@ pub mod Cutting
 pub mod Parting
 pub mod Tasking
 pub mod LongLines
+pub mod Sorting
+pub mod Counting

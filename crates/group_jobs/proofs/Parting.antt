@@ -1,5 +1,5 @@
 -- The words of bytes that are cut where words are parted.
-use Rattle.std.proofs.Common.{◌≡◌, ℕ, ◌+◌, ◌-◌, ◌<◌, ◌≤◌, cond, true, false, Bool, List, [], ◌∷◌, ◌++◌, length, get_or, take, drop, refl, sym, ap, ◌∙◌, arith, append_assoc, filter}
+use Rattle.std.proofs.Common.{◌≡◌, ℕ, ◌+◌, ◌-◌, ◌<◌, cond, true, false, Bool, List, [], ◌∷◌, ◌++◌, length, get_or, take, refl, sym, ap, ◌∙◌, arith, append_assoc, filter}
 use Rattle.std.specs.List.{slice_split, onto_first}
 use Rattle.std.proofs.lemmas.List.{append-nil, take_all, take_more}
 use Rattle.std.proofs.lemmas.List.Splits.{slice_split-cons_yes, slice_split-cons_no}
@@ -9,9 +9,9 @@ use Rattle.yak_model.specs.Texts.{parts_words, is_word, words_of}
 some_parts : {X : Type 0} (p : X → Bool) (xs : List X) → 0 < length (slice_split p xs)
 some_parts p [] = omega arith
 some_parts p (x ∷ xs) = elim (p x) as (λ b. p x ≡ b → 0 < length (slice_split p (x ∷ xs))) [
-    | true ↦ λ is. rw (slice_split-cons_yes p x xs is) (omega arith)
-    | false ↦ λ is. rw (slice_split-cons_no p x xs is) (onto (slice_split p xs))
-  ] refl
+  | true ↦ λ is. rw (slice_split-cons_yes p x xs is) (omega arith)
+  | false ↦ λ is. rw (slice_split-cons_no p x xs is) (onto (slice_split p xs))
+] refl
   where
     onto : (parts : List (List _)) → 0 < length (onto_first x parts)
     onto [] = omega arith
@@ -25,16 +25,16 @@ onto_first-append x (part ∷ parts) others some = refl
 pub parts_past : {X : Type 0} (p : X → Bool) (xs : List X) (y : X) (ys : List X) → p y ≡ true → slice_split p (xs ++ y ∷ ys) ≡ slice_split p xs ++ slice_split p ys
 parts_past p [] y ys is = slice_split-cons_yes p y ys is
 parts_past p (x ∷ xs) y ys is = elim (p x) as (λ b. p x ≡ b → slice_split p (x ∷ (xs ++ y ∷ ys)) ≡ slice_split p (x ∷ xs) ++ slice_split p ys) [
-    | true ↦ λ here. rw (slice_split-cons_yes p x (xs ++ y ∷ ys) here, slice_split-cons_yes p x xs here) (ap (λ parts. [] ∷ parts) (parts_past p xs y ys is))
-    | false ↦ λ other. rw (slice_split-cons_no p x (xs ++ y ∷ ys) other, slice_split-cons_no p x xs other) (ap (onto_first x) (parts_past p xs y ys is) ∙ onto_first-append x (slice_split p xs) (slice_split p ys) (some_parts p xs))
-  ] refl
+  | true ↦ λ here. rw (slice_split-cons_yes p x (xs ++ y ∷ ys) here, slice_split-cons_yes p x xs here) (ap (λ parts. [] ∷ parts) (parts_past p xs y ys is))
+  | false ↦ λ other. rw (slice_split-cons_no p x (xs ++ y ∷ ys) other, slice_split-cons_no p x xs other) (ap (onto_first x) (parts_past p xs y ys is) ∙ onto_first-append x (slice_split p xs) (slice_split p ys) (some_parts p xs))
+] refl
 
 filter_joined : {X : Type 0} (p : X → Bool) (xs ys : List X) → filter p (xs ++ ys) ≡ filter p xs ++ filter p ys
 filter_joined p [] ys = refl
 filter_joined p (x ∷ xs) ys = elim (p x) as (λ b. cond b (x ∷ filter p (xs ++ ys)) (filter p (xs ++ ys)) ≡ cond b (x ∷ filter p xs) (filter p xs) ++ filter p ys) [
-    | true ↦ ap (λ rest. x ∷ rest) (filter_joined p xs ys)
-    | false ↦ filter_joined p xs ys
-  ]
+  | true ↦ ap (λ rest. x ∷ rest) (filter_joined p xs ys)
+  | false ↦ filter_joined p xs ys
+]
 
 -- The words before a byte that parts words, and those after it.
 pub words_past : (xs : List ℕ) (y : ℕ) (ys : List ℕ) → parts_words y ≡ true → words_of (xs ++ y ∷ ys) ≡ words_of xs ++ words_of ys

@@ -1,9 +1,9 @@
 -- Cutting a text into tasks.
-use Rattle.std.proofs.Common.{◌≡◌, ℕ, ◌+◌, ◌-◌, ◌<◌, ◌≤◌, ◌⊎◌, inl, inr, true, false, List, [], ◌∷◌, ◌++◌, length, get_or, take, drop, count_by, refl, sym, ap, ◌∙◌, arith, append_assoc, subst}
+use Rattle.std.proofs.Common.{◌≡◌, ℕ, ◌+◌, ◌-◌, ◌<◌, ◌≤◌, ◌⊎◌, inl, inr, true, false, List, [], ◌∷◌, ◌++◌, length, get_or, take, drop, count_by, refl, sym, ap, ◌∙◌, arith, append_assoc}
 use Rattle.std.specs.List.{flat_map}
-use Rattle.std.proofs.lemmas.List.{append-nil, take_all, take_more, take-append-drop, drop-drop, drop_all, length-drop, length-take-le, get_or-take, take-take}
+use Rattle.std.proofs.lemmas.List.{append-nil, take_all, take-append-drop, drop-drop, drop_all, length-drop, length-take-le, get_or-take}
 use Rattle.std.proofs.lemmas.List.Sums.{count_by_more_yes, count_by_more_no}
-use Rattle.yak_model.specs.Texts.{parts_words, words_of}
+use Rattle.yak_model.specs.Texts.{words_of}
 use Rattle.group_jobs.specs.declared.tasks.Task.{Task}
 use Rattle.group_jobs.specs.Tasks.{is_feed, AreWholeLines, AreFewerLines, task_bytes, IsTask, AreTasksFrom, AreTasks}
 use Rattle.group_jobs.proofs.Parting.{words_behind}
