@@ -4,3 +4,4 @@ pub mod Tasking
 pub mod LongLines
 pub mod Sorting
 pub mod Counting
+pub mod SameTasks

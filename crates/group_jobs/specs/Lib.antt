@@ -2,3 +2,4 @@ pub mod Tasks
 pub mod Pieces
 pub mod LongWords
 pub mod Counts
+pub mod Printing

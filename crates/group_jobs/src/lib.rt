@@ -2,14 +2,18 @@
 #![tactic(auto)]
 
 mod counted;
+mod laws;
 mod long_words;
+mod printing;
 mod tasks;
 #[cfg(test)]
 mod tests;
 mod words;
 
 pub use counted::{Counted, sort_counts};
+pub use laws::law_one_cut;
 pub use long_words::long_word;
+pub use printing::print_counts;
 pub use tasks::{Task, cut_tasks};
 pub use words::Words;
 
