@@ -5,3 +5,4 @@ pub mod LongLines
 pub mod Sorting
 pub mod Counting
 pub mod SameTasks
+pub mod Walked

@@ -3,3 +3,4 @@ pub mod Pieces
 pub mod LongWords
 pub mod Counts
 pub mod Printing
+pub mod Room
