@@ -136,7 +136,7 @@ pub record Given (m : Areas) (slid : ℕ) (was : Contents) (count : ℕ) (moves 
   pub control : InPageOf m slid was.table new (size_at was.heap a)
   pub bounds : (room' ≤ page_words m) × (room' ≤ page_words m * next') × (next' ≤ m.pages)
   pub taken : 0 < room' → (1 ≤ next') × IsPageOf slid was.table (next' - 1)
-  pub next : NextPlace m slid was.table next room (size_at was.heap a) new next'
+  pub chosen : NextPlace m slid was.table next room (size_at was.heap a) new next'
   pub tight : new ≡ page_words m * (new / page_words m) + brought m was.heap count moves (new / page_words m)
   pub level : (new / page_words m ≡ next' - 1) × (1 ≤ next') × (brought m was.heap count moves (next' - 1) + size_at was.heap a + room' ≡ page_words m)
   pub empty : (p : ℕ) → next' ≤ p → brought m was.heap count moves p ≡ 0
@@ -179,14 +179,14 @@ slide-more m slid was runs now then count moves moves' next room a new next' roo
           (λ (q : count ≡ 0).
           let none = s.unused q in
           let first : (moves' 0).new ≡ new = ap (λ j. (moves' j).new) (sym q) ∙ to in
-          rw first (place-begins m slid was.table next room (size_at was.heap a) new next' none.0 none.1 (omega arith) g.next))
+          rw first (place-begins m slid was.table next room (size_at was.heap a) new next' none.0 none.1 (omega arith) g.chosen))
           (λ (ne : count ≡ 0 → ⊥). let some : 0 < count = omega arith in rw (former 0 some) (s.begins some))
           (cases_eq count 0);
       follows = λ k lt. ⊎_elim
           (λ (q : k + 1 ≡ count).
           let lk : k < count = omega arith in
           let ends = s.last k q in
-          rw (q, to, old, former k lk) (place-follows m slid was.table next room (moves k).new (size_at was.heap (moves k).old) (size_at was.heap a) new next' ends.0 ends.1 s.filled.2 g.next))
+          rw (q, to, old, former k lk) (place-follows m slid was.table next room (moves k).new (size_at was.heap (moves k).old) (size_at was.heap a) new next' ends.0 ends.1 s.filled.2 g.chosen))
           (λ (ne : k + 1 ≡ count → ⊥).
           let lk : k < count = omega arith in
           let lk' : k + 1 < count = omega arith in
@@ -279,7 +279,7 @@ given m slid was runs now count moves next room a new next' room' s o f =
           let t = s.taken some in
           rw e t)
           (cases_lt room size);
-      next = ⊎_elim
+      chosen = ⊎_elim
           (λ (less : room < size). inr (less, (f.taken less).0, f.nearest less))
           (λ (fits : size ≤ room). inl (fits, (f.fits fits).0))
           (cases_lt room size);
