@@ -1,4 +1,4 @@
-use Rattle.std.proofs.Common.{◌≡◌, ◌≢◌, ℕ, true, false, cond, ◌+◌, ◌-◌, ◌*◌, ◌/◌, ◌≤◌, ◌<◌, List, get_or, set, zero, suc, refl, sym, ap, subst, ◌∙◌, arith, inl, get_or-set_other}
+use Rattle.std.proofs.Common.{◌≡◌, ◌≢◌, ℕ, true, false, cond, ◌+◌, ◌-◌, ◌*◌, ◌/◌, ◌≤◌, ◌<◌, ◌⊎◌, List, get_or, set, zero, suc, refl, sym, ap, subst, ◌∙◌, arith, inl, inr, get_or-set_other}
 use Rattle.std.proofs.lemmas.Bool.{cases_eq, cases_lt, eq-eqb, ne_eqb}
 use Rattle.std.specs.Prelude.{◌==◌}
 use Rattle.std.proofs.Math.Logic.{⊎_elim}
@@ -11,7 +11,7 @@ use Rattle.yak_model.specs.Placed.{used_mark}
 use Rattle.yak_model.specs.Plans.{Move}
 use Rattle.relocation.specs.Moves.{size_at, HasHeader, Numbered, AllMovable}
 use Rattle.relocation.proofs.Moving.{fields_at-same}
-use Rattle.relocation.specs.Slide.{brought, behind, IsPageOf, pages_before, Runs, IsObject, InPageOf, front, Sliding}
+use Rattle.relocation.specs.Slide.{brought, behind, IsPageOf, IsFirstPage, GoesBehind, GoesOn, pages_before, Runs, IsObject, InPageOf, front, Sliding}
 use Rattle.relocation.specs.Moves.{words_moved}
 use Rattle.relocation.proofs.SlidObjects.{behind-more, object-page, object-header, object-same}
 
@@ -64,6 +64,10 @@ slide-skip m slid was runs now count moves next room a s o unmarked =
       placed = s.placed;
       down = s.down;
       control = s.control;
+      begins = s.begins;
+      follows = s.follows;
+      last = s.last;
+      unused = s.unused;
       tight = s.tight;
       level = s.level;
       empty = s.empty;
@@ -101,6 +105,29 @@ brought-other m heap k a n x moves moves' p former added other =
     let last' : cond (n / page_words m == p) (size_at heap a) 0 ≡ 0 = rw test refl in
     rw (e, brought-suc m heap k moves' p, brought-same m heap k moves moves' p former, last, last') (omega arith)
 
+-- the next place is in the page that is being filled, or at the front of the next page of the space
+abbrev pub NextPlace : Areas → ℕ → List (List ℕ) → ℕ → ℕ → ℕ → ℕ → ℕ → Type 0
+NextPlace m slid table next room size new next' = ((size ≤ room) × (new ≡ front m next room)) ⊎ ((room < size) × (new ≡ page_words m * (next' - 1)) × IsFirstPage slid table next (next' - 1))
+
+-- the place after one at the end of what was filled
+place-follows : (m : Areas) (slid : ℕ) (table : List (List ℕ)) (next room place before size new next' : ℕ) → front m next room ≡ place + before → place / page_words m + 1 ≡ next → room ≤ page_words m * next → NextPlace m slid table next room size new next' → GoesBehind m place before new size ⊎ GoesOn m slid table place before new size
+place-follows m slid table next room place before size new next' ends page small h = ⊎_elim
+    (λ (stays : (size ≤ room) × (new ≡ front m next room)).
+    let room_for : place + before + size ≤ page_words m * (place / page_words m + 1) = omega (arith, stays.0) in
+    let behind_it : new ≡ place + before = stays.1 ∙ ends in
+    inl (room_for, behind_it))
+    (λ (goes : (room < size) × (new ≡ page_words m * (next' - 1)) × IsFirstPage slid table next (next' - 1)).
+    let too_long : page_words m * (place / page_words m + 1) < place + before + size = omega (arith, goes.0) in
+    inr (too_long, (next' - 1, subst (λ x. IsFirstPage slid table x (next' - 1)) (sym page) goes.2, goes.1)))
+    h
+
+-- the first place is at the front of the first page of the space
+place-begins : (m : Areas) (slid : ℕ) (table : List (List ℕ)) (next room size new next' : ℕ) → next ≡ 0 → room ≡ 0 → 0 < size → NextPlace m slid table next room size new next' → (q : ℕ) × IsFirstPage slid table 0 q × (new ≡ page_words m * q)
+place-begins m slid table next room size new next' none empty some h = ⊎_elim
+    (λ (stays : (size ≤ room) × (new ≡ front m next room)). let fits = stays.0 in absurd (omega arith))
+    (λ (goes : (room < size) × (new ≡ page_words m * (next' - 1)) × IsFirstPage slid table next (next' - 1)). (next' - 1, subst (λ x. IsFirstPage slid table x (next' - 1)) none goes.2, goes.1))
+    h
+
 -- a place that a slide gives to an object at a
 pub record Given (m : Areas) (slid : ℕ) (was : Contents) (count : ℕ) (moves : ℕ → Move) (next room a new next' room' : ℕ) : Type 0 where
   pub filled : front m next' room' ≡ new + size_at was.heap a
@@ -109,6 +136,7 @@ pub record Given (m : Areas) (slid : ℕ) (was : Contents) (count : ℕ) (moves 
   pub control : InPageOf m slid was.table new (size_at was.heap a)
   pub bounds : (room' ≤ page_words m) × (room' ≤ page_words m * next') × (next' ≤ m.pages)
   pub taken : 0 < room' → (1 ≤ next') × IsPageOf slid was.table (next' - 1)
+  pub chosen : NextPlace m slid was.table next room (size_at was.heap a) new next'
   pub tight : new ≡ page_words m * (new / page_words m) + brought m was.heap count moves (new / page_words m)
   pub level : (new / page_words m ≡ next' - 1) × (1 ≤ next') × (brought m was.heap count moves (next' - 1) + size_at was.heap a + room' ≡ page_words m)
   pub empty : (p : ℕ) → next' ≤ p → brought m was.heap count moves p ≡ 0
@@ -147,6 +175,29 @@ slide-more m slid was runs now then count moves moves' next room a new next' roo
       placed = split (λ (v : Move). v.new + size_at was.heap v.old ≤ front m next' room') (omega (arith, g.filled)) (λ k lt. let p = s.placed k lt in omega (arith, p, g.filled, g.past));
       down = split (λ (v : Move). v.new ≤ v.old) g.down s.down;
       control = split (λ (v : Move). (v.space ≡ Control) × InPageOf m slid was.table v.new (size_at was.heap v.old)) (refl, g.control) s.control;
+      begins = λ h. ⊎_elim
+          (λ (q : count ≡ 0).
+          let none = s.unused q in
+          let first : (moves' 0).new ≡ new = ap (λ j. (moves' j).new) (sym q) ∙ to in
+          rw first (place-begins m slid was.table next room (size_at was.heap a) new next' none.0 none.1 (omega arith) g.chosen))
+          (λ (ne : count ≡ 0 → ⊥). let some : 0 < count = omega arith in rw (former 0 some) (s.begins some))
+          (cases_eq count 0);
+      follows = λ k lt. ⊎_elim
+          (λ (q : k + 1 ≡ count).
+          let lk : k < count = omega arith in
+          let ends = s.last k q in
+          rw (q, to, old, former k lk) (place-follows m slid was.table next room (moves k).new (size_at was.heap (moves k).old) (size_at was.heap a) new next' ends.0 ends.1 s.filled.2 g.chosen))
+          (λ (ne : k + 1 ≡ count → ⊥).
+          let lk : k < count = omega arith in
+          let lk' : k + 1 < count = omega arith in
+          rw (former k lk, former (k + 1) lk') (s.follows k lk'))
+          (cases_eq (k + 1) count);
+      last = λ k q.
+          let e : k ≡ count = omega arith in
+          let page = g.level.0 in
+          let one = g.level.1 in
+          rw (e, to, old) (g.filled, (let beyond : new / page_words m + 1 ≡ next' = omega (arith, page, one) in beyond));
+      unused = λ q. absurd (omega arith);
       tight = λ k lk. ⊎_elim
           (λ (q : k ≡ count). rw (q, to, brought-same m was.heap count moves moves' (new / page_words m) former) g.tight)
           (λ (ne : k ≡ count → ⊥). let h : k < count = omega arith in rw (former k h, brought-same m was.heap k moves moves' ((moves k).new / page_words m) (λ j lj. former j (omega arith))) (s.tight k h))
@@ -189,6 +240,7 @@ pub record Offered (m : Areas) (slid : ℕ) (table : List (List ℕ)) (next room
   pub first : (p : ℕ) → p < m.pages → IsPageOf slid table p → room < size → next ≤ p → new ≤ page_words m * p
   pub fits : size ≤ room → (new ≡ front m next room) × (next' ≡ next)
   pub taken : room < size → (new ≡ page_words m * (next' - 1)) × (1 ≤ next') × IsPageOf slid table (next' - 1)
+  pub nearest : room < size → IsFirstPage slid table next (next' - 1)
   pub dense : (w : ℕ) → page_words m * pages_before slid table next ≤ 2 * w + room → page_words m * pages_before slid table next' ≤ 2 * (w + size) + room'
 
 next-beyond : (m : Areas) (next room new q : ℕ) → new ≡ page_words m * q → page_words m * next - room ≤ new → room ≤ page_words m → next ≤ q + 1
@@ -226,6 +278,10 @@ given m slid was runs now count moves next room a new next' room' s o f =
           let some : 0 < room = omega arith in
           let t = s.taken some in
           rw e t)
+          (cases_lt room size);
+      chosen = ⊎_elim
+          (λ (less : room < size). inr (less, (f.taken less).0, f.nearest less))
+          (λ (fits : size ≤ room). inl (fits, (f.fits fits).0))
           (cases_lt room size);
       tight = ⊎_elim
           (λ (less : room < size).
@@ -289,6 +345,10 @@ slide-on m slid was runs now count moves next room a b s le within none = record
   placed = s.placed;
   down = s.down;
   control = s.control;
+  begins = s.begins;
+  follows = s.follows;
+  last = s.last;
+  unused = s.unused;
   tight = s.tight;
   level = s.level;
   empty = s.empty;
@@ -339,6 +399,10 @@ slide-none m slid was runs moves = record {
   placed = λ k lt. absurd (omega arith);
   down = λ k lt. absurd (omega arith);
   control = λ k lt. absurd (omega arith);
+  begins = λ h. absurd (omega arith);
+  follows = λ k lt. absurd (omega arith);
+  last = λ k e. absurd (omega arith);
+  unused = λ e. (refl, refl);
   tight = λ k lt. absurd (omega arith);
   level = λ h. absurd (omega arith);
   empty = λ p h. brought-none m was.heap moves p;

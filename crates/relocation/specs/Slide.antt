@@ -1,5 +1,5 @@
 -- A slide: the marked objects of a space are moved to the front of its pages, in ascending order, and into the control space.
-use Rattle.std.specs.Prelude.{Bool, false, Some, ◌≡◌, ◌≢◌, ◌==◌, cond, ℕ, ◌+◌, ◌-◌, ◌*◌, ◌/◌, ◌≤◌, ◌<◌, List, slice_index, zero, suc}
+use Rattle.std.specs.Prelude.{Bool, false, Some, ◌≡◌, ◌≢◌, ◌==◌, cond, ℕ, ◌+◌, ◌-◌, ◌*◌, ◌/◌, ◌≤◌, ◌<◌, ◌⊎◌, List, slice_index, zero, suc}
 use Rattle.heap_words.specs.declared.map.Areas.{Areas}
 use Rattle.heap_words.specs.Map.{page_words, heap_length}
 use Rattle.heap_words.specs.Contents.{Contents}
@@ -58,8 +58,23 @@ IsObject m slid c runs a = (p : ℕ) × (j : ℕ) × (h : p < m.pages) × (contr
 abbrev pub InPageOf : Areas → ℕ → List (List ℕ) → ℕ → ℕ → Type 0
 InPageOf m slid table a n = (p : ℕ) × (p < m.pages) × IsPageOf slid table p × (page_words m * p ≤ a) × (a + n ≤ page_words m * p + page_words m)
 
--- The marked objects before an address are planned, in ascending order, each into the page that is being filled where it
--- fits, else to the front of the next page of the space. None goes past its old place. A mark is a work word other than 0.
+-- A page is the first page of the space from a page on.
+pub record IsFirstPage (slid : ℕ) (table : List (List ℕ)) (from q : ℕ) : Type 0 where
+  pub beyond : from ≤ q
+  pub page : IsPageOf slid table q
+  pub none_between : (p : ℕ) → from ≤ p → p < q → IsPageOf slid table p → ⊥
+
+-- An object goes right behind one of `size` words at `place`, within that one's page.
+abbrev pub GoesBehind : Areas → ℕ → ℕ → ℕ → ℕ → Type 0
+GoesBehind m place size new size' = (place + size + size' ≤ page_words m * (place / page_words m + 1)) × (new ≡ place + size)
+
+-- An object does not fit behind one of `size` words at `place`, and goes to the front of the next page of the space.
+abbrev pub GoesOn : Areas → ℕ → List (List ℕ) → ℕ → ℕ → ℕ → ℕ → Type 0
+GoesOn m slid table place size new size' = (page_words m * (place / page_words m + 1) < place + size + size') × ((q : ℕ) × IsFirstPage slid table (place / page_words m + 1) q × (new ≡ page_words m * q))
+
+-- The marked objects before an address are planned, in ascending order. The first goes to the front of the first page of the
+-- space, and each other one right behind the one before it where it fits into that one's page, else to the front of the next
+-- page of the space. None goes past its old place. A mark is a work word other than 0.
 pub record Sliding (m : Areas) (slid : ℕ) (was : Contents) (runs : Runs m slid was) (now : Contents) (count : ℕ) (moves : ℕ → Move) (next room a : ℕ) : Type 0 where
   -- only the work words of planned objects and the scratch area have changed
   pub elsewhere : now ≡ record was { scratch = now.scratch; heap = now.heap }
@@ -76,6 +91,12 @@ pub record Sliding (m : Areas) (slid : ℕ) (was : Contents) (runs : Runs m slid
   pub placed : (k : ℕ) → k < count → (moves k).new + size_at was.heap (moves k).old ≤ front m next room
   pub down : (k : ℕ) → k < count → (moves k).new ≤ (moves k).old
   pub control : (k : ℕ) → k < count → ((moves k).space ≡ Control) × InPageOf m slid was.table (moves k).new (size_at was.heap (moves k).old)
+  -- no page of the space is passed over, and none is begun while the object fits into the page before
+  pub begins : 0 < count → (q : ℕ) × IsFirstPage slid was.table 0 q × ((moves 0).new ≡ page_words m * q)
+  pub follows : (k : ℕ) → k + 1 < count → GoesBehind m (moves k).new (size_at was.heap (moves k).old) (moves (k + 1)).new (size_at was.heap (moves (k + 1)).old) ⊎ GoesOn m slid was.table (moves k).new (size_at was.heap (moves k).old) (moves (k + 1)).new (size_at was.heap (moves (k + 1)).old)
+  -- what was filled ends behind the last object, and nothing was taken for no object
+  pub last : (k : ℕ) → k + 1 ≡ count → (front m next room ≡ (moves k).new + size_at was.heap (moves k).old) × ((moves k).new / page_words m + 1 ≡ next)
+  pub unused : count ≡ 0 → (next ≡ 0) × (room ≡ 0)
   -- each object is put behind those that came into its page before
   pub tight : (k : ℕ) → k < count → (moves k).new ≡ page_words m * ((moves k).new / page_words m) + brought m was.heap k moves ((moves k).new / page_words m)
   pub level : 1 ≤ next → brought m was.heap count moves (next - 1) + room ≡ page_words m

@@ -8,7 +8,7 @@ ghost use Rattle.std.specs.Prelude.{◌≡◌, ◌≤◌, ◌<◌, ◌+◌, ◌-
 ghost use Rattle.heap_words.specs.Map.{heap_length, page_words};
 ghost use Rattle.heap_words.specs.Contents.{Contents, Sound, contents};
 ghost use Rattle.relocation.specs.Moves.{heap_of, scratch_of, HasHeader, size_at, move_at};
-ghost use Rattle.relocation.specs.Slide.{IsPageOf, pages_before, front, Runs, IsObject, Sliding};
+ghost use Rattle.relocation.specs.Slide.{IsPageOf, IsFirstPage, pages_before, front, Runs, IsObject, Sliding};
 
 use crate::pages::page_start;
 use crate::plans::{Plan, add_move};
@@ -77,6 +77,7 @@ fn next_place<W: Words>(
     ensures fits { size ≤ cursor.old.room → result ≡ front map cursor.old.next cursor.old.room }
     ensures stays { size ≤ cursor.old.room → cursor.new.next ≡ cursor.old.next }
     ensures taken { cursor.old.room < size → (result ≡ page_words map * (cursor.new.next - 1)) × (1 ≤ cursor.new.next) × IsPageOf slid (contents map (W.words words.old)).table (cursor.new.next - 1) }
+    ensures nearest { cursor.old.room < size → IsFirstPage slid (contents map (W.words words.old)).table cursor.old.next (cursor.new.next - 1) }
     ensures dense { (w : ℕ) → page_words map * pages_before slid (contents map (W.words words.old)).table cursor.old.next ≤ 2 * w + cursor.old.room → page_words map * pages_before slid (contents map (W.words words.old)).table cursor.new.next ≤ 2 * (w + size) + cursor.new.room }
     ensures words { W.words words.new ≡ W.words words.old }
     ensures base { W.base words.new ≡ W.base words.old }

@@ -1,4 +1,4 @@
-use Rattle.std.proofs.Common.{get_or, ◌≤◌, ◌≡◌, ◌<◌, ◌+◌, ◌*◌, arith, set, length, subst, sym, ap, ◌∙◌, List, ℕ}
+use Rattle.std.proofs.Common.{get_or, ◌≡◌, ◌<◌, ◌+◌, ◌*◌, arith, set, length, subst, sym, ap, ◌∙◌, List, ℕ}
 use Rattle.heap_words.specs.Contents.{Contents, contents}
 use Rattle.heap_words.proofs.Contents.{length-heap, length-scratch}
 use Rattle.relocation.specs.declared.plans.TheConstants.{MOVE_WORDS}

@@ -80,6 +80,7 @@ add_move-requires-clause-within g c =
       first = f.first;
       fits = λ h. (f.fits h, f.stays h);
       taken = f.taken;
+      nearest = f.nearest;
       dense = f.dense;
     } in
     let offer' = subst (λ n. Offered m c.args.slid was.table c.args.cursor.now.next c.args.cursor.now.room n c.next_place-new.result c.next_place-new.new.cursor.next c.next_place-new.new.cursor.room) size (subst (λ (t : List (List ℕ)). Offered m c.args.slid t c.args.cursor.now.next c.args.cursor.now.room c.object_size-size.result c.next_place-new.result c.next_place-new.new.cursor.next c.next_place-new.new.cursor.room) table offer) in
@@ -114,6 +115,7 @@ returns-clause-sliding g c was runs s o =
       first = f.first;
       fits = λ h. (f.fits h, f.stays h);
       taken = f.taken;
+      nearest = f.nearest;
       dense = f.dense;
     } in
     let offer' = subst (λ n. Offered m c.args.slid was.table next room n new next' room') size (subst (λ (t : List (List ℕ)). Offered m c.args.slid t next room c.object_size-size.result new next' room') table offer) in
