@@ -1,5 +1,6 @@
 -- How a run of the program ends: its status, what the status says of the words and of the input, and what is written.
-use Rattle.std.specs.Prelude.{◌≡◌, ◌<◌, ◌≤◌, ◌⊎◌, ℕ, List, [], ◌++◌, length, codes, Option, Some, None, IfSome}
+use Rattle.std.specs.Prelude.{◌≡◌, ◌<◌, ◌≤◌, ◌⊎◌, ℕ, false, List, [], ◌++◌, length, codes, decimal, Option, Some, None, IfSome}
+use Rattle.std.specs.List.{flat_map}
 use Rattle.std.specs.Io.KnownBytes.{Appends}
 use Rattle.yak_io.specs.Causes.{Rose}
 use Rattle.yak_io.specs.Transfers.{TookAll, TookFront}
@@ -8,12 +9,21 @@ use Rattle.script_text.specs.declared.faults.Bad.{Bad}
 use Rattle.script_text.specs.Contents.{Contents}
 use Rattle.script_text.specs.Reasons.{bad_text}
 use Rattle.yak.specs.declared.endings.Status.{Status}
-use Rattle.yak.specs.declared.endings.Status.TheVariants.{Done, Usage, Refused, ReadFault, WriteFault, NoMemory, TooLarge}
+use Rattle.yak.specs.declared.endings.Status.TheVariants.{Done, Usage, Refused, ReadFault, WriteFault, NoMemory, TooLarge, OutOfHeap, LongWord}
 use Rattle.object_layout.specs.declared.replies.Reply.{Reply}
 use Rattle.script_text.specs.Printing.{script_text}
 use Rattle.script_text.specs.Scripts.{IsScript, IsBad}
 use Rattle.script_runner.specs.Runs.{Held, IsRun}
-use Rattle.yak.specs.Forms.{IsAsked, IsGen, IsReplay}
+use Rattle.object_layout.specs.declared.replies.Census.{Census}
+use Rattle.heap_words.specs.Contents.{contents}
+use Rattle.yak_model.specs.Texts.{words_of}
+use Rattle.group_jobs.specs.Counts.{counts_of}
+use Rattle.group_jobs.specs.LongWords.{has_long_word, long_word_line}
+use Rattle.group_jobs.specs.Printing.{count_line}
+use Rattle.yak.specs.Alone.{HoldsCounts, TellsWhy}
+use Rattle.yak.specs.declared.stub.CountError.TheVariants as CountError
+use Rattle.yak.specs.declared.forms.Options.{Options}
+use Rattle.yak.specs.Forms.{IsAsked, IsCount, IsGen, IsReading, IsReplay}
 use Rattle.yak.specs.Generator.{generated}
 use Rattle.yak.specs.Texts.{replies_text, summary}
 
@@ -67,6 +77,30 @@ pub record Generates (rounds : ℕ) (text : List ℕ) (held : Held) : Type 0 whe
   pub run : IsRun (generated rounds).heap (generated rounds).lines replies held
   pub written : text ≡ summary (generated rounds).lines replies
 
+-- The words of the bytes, none of them too long, were counted by one worker in a heap of the command's pages, which it left with
+-- a table of the counts, and the text has one line for each word, in ascending order.
+pub record Counts (options : Options) (bytes text : List ℕ) (held : Held) : Type 0 where
+  pub short : has_long_word bytes ≡ false
+  pub map : held.map ≡ record { pages = options.pages; threads = 1 }
+  pub heap : HoldsCounts held.map (contents held.map held.words) (words_of bytes)
+  pub written : text ≡ flat_map count_line (counts_of (words_of bytes))
+
+-- The words of the bytes, none of them too long, found no room in a heap of the command's pages, which tells why.
+pub record RunsOut (options : Options) (bytes : List ℕ) : Type 0 where
+  pub short : has_long_word bytes ≡ false
+  pub census : Census
+  pub why : TellsWhy (record { pages = options.pages; threads = 1 }) options.task bytes (CountError.OutOfHeap census tt)
+
+-- the line that tells the first line with a word that is too long
+abbrev pub long_line : ℕ → List ℕ
+long_line line = codes "line " ++ decimal line ++ codes ": long word\n"
+
+-- the bytes have a word that is too long, and this text tells the line of the first one
+pub record TellsLong (bytes text : List ℕ) : Type 0 where
+  pub line : ℕ
+  pub first : long_word_line bytes ≡ Some line
+  pub written : text ≡ long_line line
+
 -- the line that tells the first bad line of a text and its reason
 abbrev pub refusal_line : Bad → List ℕ
 refusal_line bad = bad_text bad ++ codes "\n"
@@ -77,7 +111,7 @@ pub record Refuses (bytes text : List ℕ) : Type 0 where
   pub refused : IsBad bytes bad
   pub line : text ≡ refusal_line bad
 
--- what is kept of a heap, where any is: nothing but after a replay
+-- what is kept of a heap, where any is: nothing but after a script ran or a text was counted
 abbrev pub KeepsNothing : Option Held → Type 0
 KeepsNothing kept = kept ≡ None
 
@@ -89,6 +123,8 @@ comes_to NoMemory bytes text kept = (text ≡ []) × KeepsNothing kept
 comes_to Usage bytes text kept = ⊥
 comes_to ReadFault bytes text kept = ⊥
 comes_to WriteFault bytes text kept = ⊥
+comes_to OutOfHeap bytes text kept = ⊥
+comes_to LongWord bytes text kept = ⊥
 comes_to TooLarge bytes text kept = ⊥
 
 -- what the generated script of so many rounds comes to
@@ -99,7 +135,21 @@ generates Refused rounds text kept = ⊥
 generates Usage rounds text kept = ⊥
 generates ReadFault rounds text kept = ⊥
 generates WriteFault rounds text kept = ⊥
+generates OutOfHeap rounds text kept = ⊥
+generates LongWord rounds text kept = ⊥
 generates TooLarge rounds text kept = ⊥
+
+-- what counting the words of a text of bytes by one worker comes to
+abbrev pub counts : Status → Options → List ℕ → List ℕ → Option Held → Type 0
+counts Done options bytes text kept = (held : Held) × (kept ≡ Some held) × Counts options bytes text held
+counts OutOfHeap options bytes text kept = RunsOut options bytes × (text ≡ []) × KeepsNothing kept
+counts LongWord options bytes text kept = TellsLong bytes text × KeepsNothing kept
+counts NoMemory options bytes text kept = (text ≡ []) × KeepsNothing kept
+counts Refused options bytes text kept = ⊥
+counts Usage options bytes text kept = ⊥
+counts ReadFault options bytes text kept = ⊥
+counts WriteFault options bytes text kept = ⊥
+counts TooLarge options bytes text kept = ⊥
 
 -- why an input gave no bytes to read
 abbrev pub gives_none : Status → Input → Type 0
@@ -110,18 +160,25 @@ gives_none Done input = ⊥
 gives_none Usage input = ⊥
 gives_none Refused input = ⊥
 gives_none WriteFault input = ⊥
+gives_none OutOfHeap input = ⊥
+gives_none LongWord input = ⊥
 
 -- what a status says of the words and of the input, the text that belongs to it, and the heap that is kept
 abbrev pub belongs : Status → List (List ℕ) → Input → List ℕ → Option Held → Type 0
 belongs Done words input text kept =
     (IsReplay words × ((bytes : List ℕ) × IsInput input bytes × ((held : Held) × (kept ≡ Some held) × Replays bytes text held)))
     ⊎ ((rounds : ℕ) × IsGen words rounds × ((held : Held) × (kept ≡ Some held) × Generates rounds text held))
+    ⊎ ((options : Options) × IsCount words options × ((bytes : List ℕ) × IsInput input bytes × ((held : Held) × (kept ≡ Some held) × Counts options bytes text held)))
 belongs Usage words input text kept = (IsAsked words → ⊥) × (text ≡ usage_line) × KeepsNothing kept
 belongs Refused words input text kept = IsReplay words × ((bytes : List ℕ) × IsInput input bytes × Refuses bytes text) × KeepsNothing kept
-belongs ReadFault words input text kept = IsReplay words × Rose input.faults_before input.faults_after × (text ≡ []) × KeepsNothing kept
+belongs ReadFault words input text kept = IsReading words × Rose input.faults_before input.faults_after × (text ≡ []) × KeepsNothing kept
 belongs WriteFault words input text kept = ⊥
 belongs NoMemory words input text kept = (text ≡ []) × KeepsNothing kept
-belongs TooLarge words input text kept = IsReplay words × IsTooLarge input × (text ≡ []) × KeepsNothing kept
+belongs TooLarge words input text kept = IsReading words × IsTooLarge input × (text ≡ []) × KeepsNothing kept
+belongs OutOfHeap words input text kept =
+    ((options : Options) × IsCount words options × ((bytes : List ℕ) × IsInput input bytes × RunsOut options bytes)) × (text ≡ []) × KeepsNothing kept
+belongs LongWord words input text kept =
+    ((options : Options) × IsCount words options × ((bytes : List ℕ) × IsInput input bytes × TellsLong bytes text)) × KeepsNothing kept
 
 -- the text of a status was written
 pub record IsWritten (words : List (List ℕ)) (input : Input) (output : Output) (status : Status) (text : List ℕ) (kept : Option Held) : Type 0 where
@@ -153,6 +210,8 @@ number_of ReadFault = 3
 number_of WriteFault = 4
 number_of NoMemory = 5
 number_of TooLarge = 6
+number_of OutOfHeap = 7
+number_of LongWord = 8
 
 -- a number stands for a status with which a run ends
 abbrev pub EndsAs : ℕ → List (List ℕ) → Input → Output → Option Held → Type 0
@@ -171,13 +230,25 @@ EndsRefused input output = (bytes : List ℕ) × IsInput input bytes × ((text :
 abbrev pub EndsGenerated : ℕ → Output → Option Held → Type 0
 EndsGenerated rounds output kept = (text : List ℕ) × (held : Held) × (kept ≡ Some held) × Generates rounds text held × Appends output.before output.after text
 
+-- the headline of a count: the words of the input were counted, their counts were written, and the heap is kept
+abbrev pub EndsCounted : Options → Input → Output → Option Held → Type 0
+EndsCounted options input output kept =
+    (bytes : List ℕ) × IsInput input bytes × ((text : List ℕ) × (held : Held) × (kept ≡ Some held) × Counts options bytes text held × Appends output.before output.after text)
+
+-- the input has a word that is too long, and the line that tells its place was written
+abbrev pub EndsLong : Input → Output → Type 0
+EndsLong input output = (bytes : List ℕ) × IsInput input bytes × ((text : List ℕ) × TellsLong bytes text × Appends output.before output.after text)
+
+-- the heap of a count ran out, and nothing was written
+abbrev pub EndsOut : Options → Input → Output → Type 0
+EndsOut options input output = ((bytes : List ℕ) × IsInput input bytes × RunsOut options bytes) × Appends output.before output.after []
+
 -- nothing is written
 abbrev pub WritesNothing : Output → Type 0
 WritesNothing output = Appends output.before output.after []
 
--- the words ask for a replay, the input is told, and neither end counted a fault
-pub record IsFaultless (words : List (List ℕ)) (input : Input) (output : Output) (bytes : List ℕ) : Type 0 where
-  pub named : IsReplay words
+-- the input is told, and neither end counted a fault
+pub record IsFaultless (input : Input) (output : Output) (bytes : List ℕ) : Type 0 where
   pub told : input.before ≡ Some bytes
   pub read_well : Rose input.faults_before input.faults_after → ⊥
   pub written_well : Rose output.faults_before output.faults_after → ⊥

@@ -84,7 +84,7 @@ IsForm words (Gen rounds) = (rounds ≤ MAX_ROUNDS) × (words ≡ codes "gen" �
 abbrev pub IsBuiltForm : Form → Type 0
 IsBuiltForm Replay = Unit {0}
 IsBuiltForm Threads = ⊥
-IsBuiltForm (Count options) = ⊥
+IsBuiltForm (Count options) = options.workers ≡ 1
 IsBuiltForm (Gen rounds) = Unit {0}
 
 -- the words ask for what is answered
@@ -98,3 +98,11 @@ IsReplay words = IsForm words Replay
 -- the words ask for the generated script of so many rounds
 abbrev pub IsGen : List (List ℕ) → ℕ → Type 0
 IsGen words rounds = IsForm words (Gen rounds)
+
+-- the words ask for a count by one worker
+abbrev pub IsCount : List (List ℕ) → Options → Type 0
+IsCount words options = IsForm words (Count options) × (options.workers ≡ 1)
+
+-- the words ask for what reads the input: a replay, or a count by one worker
+abbrev pub IsReading : List (List ℕ) → Type 0
+IsReading words = IsReplay words ⊎ ((options : Options) × IsCount words options)

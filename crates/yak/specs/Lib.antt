@@ -1,4 +1,5 @@
 -- What words ask for, what that gives, and how a run of the program ends.
+pub mod Alone
 pub mod Forms
 pub mod Generator
 pub mod Texts

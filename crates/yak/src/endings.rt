@@ -17,4 +17,8 @@ pub enum Status {
     NoMemory,
     /// The input has more than `INPUT_LIMIT` bytes.
     TooLarge,
+    /// The heap of a count had no room for an object.
+    OutOfHeap,
+    /// The text has a word that is too long to be counted.
+    LongWord,
 }

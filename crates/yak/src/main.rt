@@ -1,4 +1,4 @@
-//! Replays a script of calls on a heap, and writes a line for each reply.
+//! Replays a script of calls on a heap, or counts the words of a text in one, and writes a line for each reply or word.
 #![tactic(auto)]
 
 mod endings;
@@ -6,6 +6,7 @@ mod forms;
 mod generator;
 mod numbers;
 mod plain;
+mod stub;
 mod summaries;
 #[cfg(test)]
 mod tests;

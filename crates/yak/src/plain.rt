@@ -1,24 +1,28 @@
 //! The top call.
-ghost use Rattle.std.specs.Prelude.{◌≡◌, ◌≢◌, ◌≤◌, ◌<◌, ◌⊎◌, ℕ, List, [], None, Option, map, codes, Some, IfOk, IfErr, OnErr, IfSome, length, string_bytes};
+ghost use Rattle.std.specs.Prelude.{◌≡◌, ◌≢◌, ◌≤◌, ◌<◌, ◌⊎◌, ℕ, true, false, List, [], None, Option, map, codes, Some, IfOk, IfErr, OnErr, IfSome, length, string_bytes};
 ghost use Rattle.std.specs.Io.KnownBytes.{Appends};
 ghost use Rattle.script_text.specs.Contents.{Contents};
 ghost use Rattle.yak_io.specs.Causes.{Rose};
 ghost use Rattle.script_text.specs.Scripts.{IsBad, IsScript};
-ghost use Rattle.yak.specs.Forms.{IsAsked, IsGen, IsReplay};
+ghost use Rattle.group_jobs.specs.LongWords.{has_long_word, long_word_line};
+ghost use Rattle.yak.specs.declared.forms.Options.{Options};
+ghost use Rattle.yak.specs.Forms.{IsAsked, IsCount, IsGen, IsReading, IsReplay};
 ghost use Rattle.script_text.specs.declared.faults.Bad.{Bad};
 ghost use Rattle.script_runner.specs.Runs.{held_of};
 ghost use Rattle.yak.specs.Keeping.{held_by};
-ghost use Rattle.yak.specs.Endings.{usage_line, input_of, output_of, IsInput, refusal_line, KeepsNothing, comes_to, generates, gives_none, belongs, ends, EndsAs, EndsCut, EndsGenerated, EndsReplayed, EndsRefused, IsFaultless, Input};
+ghost use Rattle.yak.specs.Endings.{usage_line, input_of, output_of, IsInput, refusal_line, KeepsNothing, comes_to, counts, generates, gives_none, belongs, ends, EndsAs, EndsCounted, EndsCut, EndsLong, EndsOut, EndsGenerated, EndsReplayed, EndsRefused, IsFaultless, Input};
 
 use crate::endings::Status;
-use crate::forms::{Form, MAX_ROUNDS, read_form};
+use crate::forms::{Form, MAX_ROUNDS, Options, read_form};
 use crate::generator::generated_script;
+use crate::stub::{CountError, count_one};
 use crate::summaries::{reply_lines, summed_up};
+use group_jobs::{long_word, print_counts};
 use heap_core::Core;
 use heap_words::{Image, Words};
 use object_layout::NoMemory;
 use script_runner::replay;
-use script_text::{Bad, INPUT_LIMIT, ReadError, law_script_or_refusal, read_script};
+use script_text::{Bad, INPUT_LIMIT, MAX_PAGES, ReadError, law_script_or_refusal, read_script};
 use std::alloc::{AllocError, Global};
 use yak_io::{ReadAllError, Sink, Source, read_all, write_all};
 
@@ -27,7 +31,7 @@ use yak_io::{ReadAllError, Sink, Source, read_all, write_all};
 pub enum Kept {
     /// No heap.
     Nothing,
-    /// The heap after the last call of a replay.
+    /// The heap after the last call of a replay, or of a count by one worker.
     Alone(Core<Image>),
 }
 
@@ -128,6 +132,48 @@ fn generate(alloc: Global, rounds: u32) -> Prepared
     }
 }
 
+/// The line that tells the first line with a word that is too long.
+fn long_line(alloc: Global, line: u32) -> Result<Vec<u8>, AllocError>
+    ensures { IfOk result (λ text. text.items ≡ Rattle.yak.specs.Endings.long_line line) }
+{
+    let line = format!(in alloc; "line {line}: long word\n")?;
+    Ok(line.into_bytes())
+}
+
+/// A run that is refused for a word that is too long.
+fn too_long(alloc: Global, line: u32) -> Prepared
+    ensures { (options : Options) (bytes : List ℕ) → long_word_line bytes ≡ Some line → counts result.status options bytes result.text.items (held_by ⟦<Image as Words>⟧.words result.kept) }
+{
+    match long_line(alloc, line) {
+        Ok(text) => Prepared {
+            status: Status::LongWord,
+            text,
+            kept: Kept::Nothing,
+        },
+        Err(_) => stopped(alloc, Status::NoMemory),
+    }
+}
+
+/// Counts the words of a text by one worker.
+fn count(alloc: Global, options: Options, bytes: &[u8]) -> Prepared
+    requires short { length bytes.now ≤ INPUT_LIMIT }
+    requires pages { (1 ≤ options.pages) × (options.pages ≤ MAX_PAGES) }
+    requires lines { 1 ≤ options.task }
+    ensures { counts result.status options bytes.now result.text.items (held_by ⟦<Image as Words>⟧.words result.kept) }
+{
+    if let Some(line) = long_word(bytes) {
+        return too_long(alloc, line);
+    }
+    match count_one(alloc, options.pages, options.task, bytes) {
+        Ok(counted) => {
+            let text = print_counts(alloc, &counted.list);
+            done(alloc, text, counted.core)
+        }
+        Err(CountError::OutOfHeap(_, _)) => stopped(alloc, Status::OutOfHeap),
+        Err(CountError::Memory) => stopped(alloc, Status::NoMemory),
+    }
+}
+
 /// A run that is refused for a bad line.
 fn refused(alloc: Global, bad: Bad) -> Prepared
     ensures { (bytes : List ℕ) → IsBad bytes bad → comes_to result.status bytes result.text.items (held_by ⟦<Image as Words>⟧.words result.kept) }
@@ -159,13 +205,17 @@ fn usage(alloc: Global) -> Prepared
 /// Does all but the writing.
 fn prepare<S: Source>(alloc: Global, args: &[String], source: &mut S) -> Prepared
     ensures later { S.faults source.old ≤ S.faults source.new }
-    ensures unread { (IsReplay (map string_bytes args.now) → ⊥) → source.new ≡ source.old }
+    ensures unread { (IsReading (map string_bytes args.now) → ⊥) → source.new ≡ source.old }
     ensures text { belongs result.status (map string_bytes args.now)
         (input_of (S.left source.old) (S.left source.new) (S.faults source.old) (S.faults source.new)) result.text.items (held_by ⟦<Image as Words>⟧.words result.kept) }
 {
     match read_form(args) {
         Some(Form::Replay) => match read_input(alloc, source) {
             Ok(bytes) => answer(alloc, &bytes),
+            Err(status) => stopped(alloc, status),
+        },
+        Some(Form::Count(options)) if options.workers == 1 => match read_input(alloc, source) {
+            Ok(bytes) => count(alloc, options, &bytes),
             Err(status) => stopped(alloc, status),
         },
         Some(Form::Gen(rounds)) => generate(alloc, rounds),
@@ -182,7 +232,7 @@ fn written<S: Source, K: Sink>(
     kept: &mut Kept,
 ) -> Status
     requires { KeepsNothing (held_by ⟦<Image as Words>⟧.words kept.old) }
-    ensures unread { (IsReplay (map string_bytes args.now) → ⊥) → source.new ≡ source.old }
+    ensures unread { (IsReading (map string_bytes args.now) → ⊥) → source.new ≡ source.old }
     ensures ends { ends result (map string_bytes args.now)
         (input_of (S.left source.old) (S.left source.new) (S.faults source.old) (S.faults source.new))
         (output_of (K.written sink.old) (K.written sink.new) (K.faults sink.old) (K.faults sink.new)) (held_by ⟦<Image as Words>⟧.words kept.new) }
@@ -204,20 +254,35 @@ fn ended<S: Source, K: Sink>(
     kept: &mut Kept,
 ) -> Status
     requires { KeepsNothing (held_by ⟦<Image as Words>⟧.words kept.old) }
-    ensures unread { (IsReplay (map string_bytes args.now) → ⊥) → source.new ≡ source.old }
+    ensures unread { (IsReading (map string_bytes args.now) → ⊥) → source.new ≡ source.old }
     ensures ends { ends result (map string_bytes args.now)
+        (input_of (S.left source.old) (S.left source.new) (S.faults source.old) (S.faults source.new))
+        (output_of (K.written sink.old) (K.written sink.new) (K.faults sink.old) (K.faults sink.new)) (held_by ⟦<Image as Words>⟧.words kept.new) }
+    ensures replays { IsReplay (map string_bytes args.now) → result ≡ Status.Done → EndsReplayed
         (input_of (S.left source.old) (S.left source.new) (S.faults source.old) (S.faults source.new))
         (output_of (K.written sink.old) (K.written sink.new) (K.faults sink.old) (K.faults sink.new)) (held_by ⟦<Image as Words>⟧.words kept.new) }
     ensures generates { (rounds : ℕ) → IsGen (map string_bytes args.now) rounds → result ≡ Status.Done → EndsGenerated rounds
         (output_of (K.written sink.old) (K.written sink.new) (K.faults sink.old) (K.faults sink.new)) (held_by ⟦<Image as Words>⟧.words kept.new) }
+    ensures counts { (options : Options) → IsCount (map string_bytes args.now) options → result ≡ Status.Done → EndsCounted options
+        (input_of (S.left source.old) (S.left source.new) (S.faults source.old) (S.faults source.new))
+        (output_of (K.written sink.old) (K.written sink.new) (K.faults sink.old) (K.faults sink.new)) (held_by ⟦<Image as Words>⟧.words kept.new) }
     ensures other_words { (IsAsked (map string_bytes args.now) → ⊥) → (result ≡ Status.Usage) ⊎ (result ≡ Status.WriteFault) ⊎ (result ≡ Status.NoMemory) }
-    ensures every_script { (bytes : List ℕ) (script : Contents) → IsFaultless (map string_bytes args.now)
+    ensures every_script { (bytes : List ℕ) (script : Contents) → IsReplay (map string_bytes args.now) → IsFaultless
         (input_of (S.left source.old) (S.left source.new) (S.faults source.old) (S.faults source.new))
         (output_of (K.written sink.old) (K.written sink.new) (K.faults sink.old) (K.faults sink.new)) bytes → length bytes ≤ INPUT_LIMIT → IsScript bytes script → (result ≡ Status.Done) ⊎ (result ≡ Status.NoMemory) }
-    ensures every_refusal { (bytes : List ℕ) (bad : Bad) → IsFaultless (map string_bytes args.now)
+    ensures every_refusal { (bytes : List ℕ) (bad : Bad) → IsReplay (map string_bytes args.now) → IsFaultless
         (input_of (S.left source.old) (S.left source.new) (S.faults source.old) (S.faults source.new))
         (output_of (K.written sink.old) (K.written sink.new) (K.faults sink.old) (K.faults sink.new)) bytes → length bytes ≤ INPUT_LIMIT → IsBad bytes bad → (result ≡ Status.Refused) ⊎ (result ≡ Status.NoMemory) }
     ensures every_gen { (rounds : ℕ) → IsGen (map string_bytes args.now) rounds → (Rose (K.faults sink.old) (K.faults sink.new) → ⊥) → (result ≡ Status.Done) ⊎ (result ≡ Status.NoMemory) }
+    ensures every_count { (options : Options) (bytes : List ℕ) → IsCount (map string_bytes args.now) options → IsFaultless
+        (input_of (S.left source.old) (S.left source.new) (S.faults source.old) (S.faults source.new))
+        (output_of (K.written sink.old) (K.written sink.new) (K.faults sink.old) (K.faults sink.new)) bytes → length bytes ≤ INPUT_LIMIT → has_long_word bytes ≡ false → (result ≡ Status.Done) ⊎ (result ≡ Status.OutOfHeap) ⊎ (result ≡ Status.NoMemory) }
+    ensures every_long_word { (options : Options) (bytes : List ℕ) → IsCount (map string_bytes args.now) options → IsFaultless
+        (input_of (S.left source.old) (S.left source.new) (S.faults source.old) (S.faults source.new))
+        (output_of (K.written sink.old) (K.written sink.new) (K.faults sink.old) (K.faults sink.new)) bytes → length bytes ≤ INPUT_LIMIT → has_long_word bytes ≡ true → (result ≡ Status.LongWord) ⊎ (result ≡ Status.NoMemory) }
+    ensures every_excess { (bytes : List ℕ) → IsReading (map string_bytes args.now) → IsFaultless
+        (input_of (S.left source.old) (S.left source.new) (S.faults source.old) (S.faults source.new))
+        (output_of (K.written sink.old) (K.written sink.new) (K.faults sink.old) (K.faults sink.new)) bytes → INPUT_LIMIT < length bytes → (result ≡ Status.TooLarge) ⊎ (result ≡ Status.NoMemory) }
 {
     law_script_or_refusal();
     written(alloc, args, source, sink, kept)
@@ -225,9 +290,9 @@ fn ended<S: Source, K: Sink>(
 
 /// Does what the words ask for, and gives the number of the status with which that ended.
 ///
-/// `replay` reads the source's bytes as a script and runs it, and writes a line for the reply to each command. `gen n` makes
-/// a script of n rounds as bytes, runs it in the same way, and writes a summary of the replies. Other words get the usage
-/// line. Nothing may be kept at the call; afterwards the heap is kept where the status is 0. All output is made in memory
+/// `replay` reads the source's bytes as a script and runs it, and writes a line for the reply to each command. `count` with one
+/// worker counts the words of the source's bytes in a heap, and writes a line for each word. `gen n` makes a script of n rounds
+/// as bytes, runs it as `replay` does, and writes a summary of the replies. Other words get the usage line. Nothing may be kept at the call; afterwards the heap is kept where the status is 0. All output is made in memory
 /// before the first byte is written. `docs/FORMAT.md` has the forms and the statuses.
 pub fn plain<S: Source, K: Sink>(
     alloc: Global,
@@ -245,30 +310,45 @@ pub fn plain<S: Source, K: Sink>(
         (output_of (K.written sink.old) (K.written sink.new) (K.faults sink.old) (K.faults sink.new)) (held_by ⟦<Image as Words>⟧.words kept.new) }
     ensures generates { (rounds : ℕ) → IsGen (map string_bytes args.now) rounds → result ≡ 0 → EndsGenerated rounds
         (output_of (K.written sink.old) (K.written sink.new) (K.faults sink.old) (K.faults sink.new)) (held_by ⟦<Image as Words>⟧.words kept.new) }
-    ensures unread { (IsReplay (map string_bytes args.now) → ⊥) → source.new ≡ source.old }
+    ensures counts { (options : Options) → IsCount (map string_bytes args.now) options → result ≡ 0 → EndsCounted options
+        (input_of (S.left source.old) (S.left source.new) (S.faults source.old) (S.faults source.new))
+        (output_of (K.written sink.old) (K.written sink.new) (K.faults sink.old) (K.faults sink.new)) (held_by ⟦<Image as Words>⟧.words kept.new) }
+    ensures unread { (IsReading (map string_bytes args.now) → ⊥) → source.new ≡ source.old }
     ensures usage { result ≡ 1 → (IsAsked (map string_bytes args.now) → ⊥) × Appends (K.written sink.old) (K.written sink.new) usage_line }
     ensures refused { result ≡ 2 → IsReplay (map string_bytes args.now) × EndsRefused
         (input_of (S.left source.old) (S.left source.new) (S.faults source.old) (S.faults source.new))
         (output_of (K.written sink.old) (K.written sink.new) (K.faults sink.old) (K.faults sink.new)) }
-    ensures read_fault { result ≡ 3 → IsReplay (map string_bytes args.now) × Rose (S.faults source.old) (S.faults source.new) × Appends (K.written sink.old) (K.written sink.new) [] }
+    ensures read_fault { result ≡ 3 → IsReading (map string_bytes args.now) × Rose (S.faults source.old) (S.faults source.new) × Appends (K.written sink.old) (K.written sink.new) [] }
     ensures write_fault { result ≡ 4 → Rose (K.faults sink.old) (K.faults sink.new) }
     ensures cut { result ≡ 4 → EndsCut (map string_bytes args.now)
         (input_of (S.left source.old) (S.left source.new) (S.faults source.old) (S.faults source.new))
         (output_of (K.written sink.old) (K.written sink.new) (K.faults sink.old) (K.faults sink.new)) }
     ensures no_memory { result ≡ 5 → Appends (K.written sink.old) (K.written sink.new) [] }
-    ensures too_large { result ≡ 6 → IsReplay (map string_bytes args.now) × IfSome (S.left source.old) (λ told. INPUT_LIMIT < length told) × Appends (K.written sink.old) (K.written sink.new) [] }
+    ensures too_large { result ≡ 6 → IsReading (map string_bytes args.now) × IfSome (S.left source.old) (λ told. INPUT_LIMIT < length told) × Appends (K.written sink.old) (K.written sink.new) [] }
+    ensures out_of_heap { result ≡ 7 → (options : Options) × IsCount (map string_bytes args.now) options × EndsOut options
+        (input_of (S.left source.old) (S.left source.new) (S.faults source.old) (S.faults source.new))
+        (output_of (K.written sink.old) (K.written sink.new) (K.faults sink.old) (K.faults sink.new)) }
+    ensures long_word { result ≡ 8 → ((options : Options) × IsCount (map string_bytes args.now) options) × EndsLong
+        (input_of (S.left source.old) (S.left source.new) (S.faults source.old) (S.faults source.new))
+        (output_of (K.written sink.old) (K.written sink.new) (K.faults sink.old) (K.faults sink.new)) }
     ensures kept { result ≢ 0 → KeepsNothing (held_by ⟦<Image as Words>⟧.words kept.new) }
     ensures other_words { (IsAsked (map string_bytes args.now) → ⊥) → (result ≡ 1) ⊎ (result ≡ 4) ⊎ (result ≡ 5) }
-    ensures every_script { (bytes : List ℕ) (script : Contents) → IsFaultless (map string_bytes args.now)
+    ensures every_script { (bytes : List ℕ) (script : Contents) → IsReplay (map string_bytes args.now) → IsFaultless
         (input_of (S.left source.old) (S.left source.new) (S.faults source.old) (S.faults source.new))
         (output_of (K.written sink.old) (K.written sink.new) (K.faults sink.old) (K.faults sink.new)) bytes → length bytes ≤ INPUT_LIMIT → IsScript bytes script → (result ≡ 0) ⊎ (result ≡ 5) }
-    ensures every_refusal { (bytes : List ℕ) (bad : Bad) → IsFaultless (map string_bytes args.now)
+    ensures every_refusal { (bytes : List ℕ) (bad : Bad) → IsReplay (map string_bytes args.now) → IsFaultless
         (input_of (S.left source.old) (S.left source.new) (S.faults source.old) (S.faults source.new))
         (output_of (K.written sink.old) (K.written sink.new) (K.faults sink.old) (K.faults sink.new)) bytes → length bytes ≤ INPUT_LIMIT → IsBad bytes bad → (result ≡ 2) ⊎ (result ≡ 5) }
     ensures every_gen { (rounds : ℕ) → IsGen (map string_bytes args.now) rounds → (Rose (K.faults sink.old) (K.faults sink.new) → ⊥) → (result ≡ 0) ⊎ (result ≡ 5) }
-    ensures every_excess { (bytes : List ℕ) → IsFaultless (map string_bytes args.now)
+    ensures every_excess { (bytes : List ℕ) → IsReading (map string_bytes args.now) → IsFaultless
         (input_of (S.left source.old) (S.left source.new) (S.faults source.old) (S.faults source.new))
         (output_of (K.written sink.old) (K.written sink.new) (K.faults sink.old) (K.faults sink.new)) bytes → INPUT_LIMIT < length bytes → (result ≡ 6) ⊎ (result ≡ 5) }
+    ensures every_count { (options : Options) (bytes : List ℕ) → IsCount (map string_bytes args.now) options → IsFaultless
+        (input_of (S.left source.old) (S.left source.new) (S.faults source.old) (S.faults source.new))
+        (output_of (K.written sink.old) (K.written sink.new) (K.faults sink.old) (K.faults sink.new)) bytes → length bytes ≤ INPUT_LIMIT → has_long_word bytes ≡ false → (result ≡ 0) ⊎ (result ≡ 7) ⊎ (result ≡ 5) }
+    ensures every_long_word { (options : Options) (bytes : List ℕ) → IsCount (map string_bytes args.now) options → IsFaultless
+        (input_of (S.left source.old) (S.left source.new) (S.faults source.old) (S.faults source.new))
+        (output_of (K.written sink.old) (K.written sink.new) (K.faults sink.old) (K.faults sink.new)) bytes → length bytes ≤ INPUT_LIMIT → has_long_word bytes ≡ true → (result ≡ 8) ⊎ (result ≡ 5) }
 {
     ended(alloc, args, source, sink, kept) as u8
 }
