@@ -1,5 +1,5 @@
 -- How a run of the program ends: its status, what the status says of the words and of the input, and what is written.
-use Rattle.std.specs.Prelude.{◌≡◌, ◌<◌, ◌≤◌, ◌⊎◌, ℕ, false, List, [], ◌++◌, length, codes, decimal, Option, Some, None, IfSome}
+use Rattle.std.specs.Prelude.{◌≡◌, ◌<◌, ◌≤◌, ◌⊎◌, ℕ, true, false, List, [], ◌++◌, length, codes, decimal, Option, Some, None, IfSome}
 use Rattle.std.specs.List.{flat_map}
 use Rattle.std.specs.Io.KnownBytes.{Appends}
 use Rattle.yak_io.specs.Causes.{Rose}
@@ -97,6 +97,7 @@ long_line line = codes "line " ++ decimal line ++ codes ": long word\n"
 
 -- the bytes have a word that is too long, and this text tells the line of the first one
 pub record TellsLong (bytes text : List ℕ) : Type 0 where
+  pub long : has_long_word bytes ≡ true
   pub line : ℕ
   pub first : long_word_line bytes ≡ Some line
   pub written : text ≡ long_line line

@@ -142,7 +142,7 @@ fn long_line(alloc: Global, line: u32) -> Result<Vec<u8>, AllocError>
 
 /// A run that is refused for a word that is too long.
 fn too_long(alloc: Global, line: u32) -> Prepared
-    ensures { (options : Options) (bytes : List ℕ) → long_word_line bytes ≡ Some line → counts result.status options bytes result.text.items (held_by ⟦<Image as Words>⟧.words result.kept) }
+    ensures { (options : Options) (bytes : List ℕ) → long_word_line bytes ≡ Some line → has_long_word bytes ≡ true → counts result.status options bytes result.text.items (held_by ⟦<Image as Words>⟧.words result.kept) }
 {
     match long_line(alloc, line) {
         Ok(text) => Prepared {
@@ -219,7 +219,7 @@ fn prepare<S: Source>(alloc: Global, args: &[String], source: &mut S) -> Prepare
             Err(status) => stopped(alloc, status),
         },
         Some(Form::Gen(rounds)) => generate(alloc, rounds),
-        _ => usage(alloc),
+        Some(Form::Threads) | Some(Form::Count(_)) | None => usage(alloc),
     }
 }
 

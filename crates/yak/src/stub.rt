@@ -43,6 +43,6 @@ pub fn count_one(alloc: Global, pages: u32, lines: u32, bytes: &[u8]) -> Result<
     ensures heap { IfOk result (λ counted. HoldsCounts counted.core.map (contents counted.core.map (⟦<Image as Words>⟧.words counted.core.words)) (words_of bytes.now)) }
     ensures why { IfErr result (λ error. TellsWhy (record { pages = pages; threads = 1 }) lines bytes.now error) }
 {
-    let _all = (alloc, pages, lines, bytes);
+    let _all = (alloc, pages, lines, bytes.len());
     Err(CountError::Memory)
 }

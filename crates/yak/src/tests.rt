@@ -1,6 +1,6 @@
 use crate::forms::{Form, read_form};
 use crate::plain::{Kept, plain};
-use object_layout::{Call, Reply};
+use object_layout::{Call, Reply, WORD_LIMIT};
 use std::alloc::{AllocError, Global};
 use std::test::Fail;
 use yak_io::{MemorySink, MemorySource, SureSource};
@@ -38,8 +38,9 @@ fn other_words_give_the_usage_line(rt: HostRuntime) -> Result<(), Fail> {
         ("gen +1", 1),
         ("gen 1 1", 1),
         ("threads", 1),
-        ("count", 1),
+        ("count 1", 1),
         ("count --workers 2 --task=1", 1),
+        ("count --workers 8", 1),
     ] {
         let args = words_of(alloc, line)?;
         let mut source = SureSource::new(Vec::from_slice(alloc, FIRST_PATH)?);
@@ -120,6 +121,82 @@ fn generated_scripts_are_summed_up(rt: HostRuntime) -> Result<(), Fail> {
         };
         assert_eq!(rt; (core.pages(), core.threads()), (64, 4), "{line}");
     }
+    Ok(())
+}
+
+#[test]
+fn words_are_counted(rt: HostRuntime) -> Result<(), Fail> {
+    let alloc = rt.alloc();
+    let lines = "the cat saw the dog\nthe dog ran\n";
+    let counts = "1 cat\n2 dog\n1 ran\n1 saw\n3 the\n";
+    for (line, text, status, written) in [
+        ("count --task 1", "b a b\n", 0, "1 a\n2 b\n"),
+        ("count --pages=3 --task 1", "b a b\n", 0, "1 a\n2 b\n"),
+        ("count --task 1", "", 0, ""),
+        ("count --task 1", "\n", 0, ""),
+        ("count", lines, 0, counts),
+        ("count --task=1", lines, 0, counts),
+        ("count --workers 1", "b\ta\r\nb", 0, "1 a\n2 b\n"),
+        ("count --pages 1", "b a b", 7, ""),
+    ] {
+        let args = words_of(alloc, line)?;
+        let mut source = SureSource::new(Vec::from_slice(alloc, text.as_bytes())?);
+        let mut sink = MemorySink::new(alloc, 100, Vec::new(alloc))?;
+        let mut kept = Kept::Nothing;
+        let ended = plain(alloc, &args, &mut source, &mut sink, &mut kept);
+        assert_eq!(rt; ended, status, "{line}");
+        assert_eq!(rt; sink.written(), written.as_bytes(), "{line}");
+        let is_kept = match kept {
+            Kept::Alone(core) => core.threads() == 1,
+            Kept::Nothing => false,
+        };
+        assert_eq!(rt; is_kept, status == 0, "{line}");
+    }
+    Ok(())
+}
+
+#[test]
+fn long_words_are_told(rt: HostRuntime) -> Result<(), Fail> {
+    let alloc = rt.alloc();
+    let args = words_of(alloc, "count")?;
+    for (letters, status) in [(WORD_LIMIT, 0), (WORD_LIMIT + 1, 8)] {
+        let word = vec![in alloc; b'c'; letters as usize]?;
+        let mut text = Vec::from_slice(alloc, b"b\n")?;
+        text.extend_from_slice(&word)?;
+        let mut want = Vec::new(alloc);
+        if status == 0 {
+            want.extend_from_slice(b"1 b\n1 ")?;
+            want.extend_from_slice(&word)?;
+            want.push(b'\n')?;
+        } else {
+            want.extend_from_slice(b"line 2: long word\n")?;
+        }
+        let mut source = SureSource::new(text);
+        let mut sink = MemorySink::new(alloc, 100, Vec::new(alloc))?;
+        let mut kept = Kept::Nothing;
+        assert_eq!(rt;
+            plain(alloc, &args, &mut source, &mut sink, &mut kept),
+            status
+        );
+        assert_eq!(rt; sink.written(), want.as_slice());
+    }
+    Ok(())
+}
+
+#[test]
+fn a_fault_ends_a_count(rt: HostRuntime) -> Result<(), Fail> {
+    let alloc = rt.alloc();
+    let args = words_of(alloc, "count --task 1")?;
+    let fails = Vec::from_slice(alloc, &[2])?;
+    let mut source = MemorySource::new(Vec::from_slice(alloc, b"b a b\n")?, 5, fails);
+    let mut sink = MemorySink::new(alloc, 100, Vec::new(alloc))?;
+    let mut kept = Kept::Nothing;
+    assert_eq!(rt; plain(alloc, &args, &mut source, &mut sink, &mut kept), 3);
+    assert!(rt; sink.written().is_empty());
+    let mut source = SureSource::new(Vec::from_slice(alloc, b"b a b\n")?);
+    let mut sink = MemorySink::new(alloc, 4, Vec::new(alloc))?;
+    assert_eq!(rt; plain(alloc, &args, &mut source, &mut sink, &mut kept), 4);
+    assert_eq!(rt; sink.written(), b"1 a\n".as_slice());
     Ok(())
 }
 

@@ -1,0 +1,46 @@
+-- The numbers of a count lie in their ranges.
+use Rattle.std.proofs.Common.{◌≡◌, ◌≤◌, ◌⊎◌, ℕ, List, Option, None, Some, refl, sym, ap, subst, inl, inr, arith}
+use Rattle.std.specs.Prelude.{IfSome}
+use Rattle.script_text.specs.declared.TheConstants.{MAX_PAGES}
+use Rattle.yak.specs.declared.forms.Form.TheVariants.{Count}
+use Rattle.yak.specs.declared.forms.Options.{Options}
+use Rattle.yak.specs.declared.forms.Setting.{Setting}
+use Rattle.yak.specs.declared.forms.Setting.TheVariants.{Workers, Task, Pages}
+use Rattle.yak.specs.declared.forms.Settings.{Settings}
+use Rattle.yak.specs.Forms.{IsForm, IsNumber, IsSetting, Sets, all_told, chosen, one_told, or_default, tell, unset}
+
+-- the numbers that were told are such as the options may have
+record AreNumbers (settings : Settings) : Type 0 where
+  task : IfSome settings.task (IsNumber Task)
+  pages : IfSome settings.pages (IsNumber Pages)
+
+number_within : (words : List (List ℕ)) (setting : Setting) (number : ℕ) (rest : List (List ℕ)) → IsSetting words setting number rest → IsNumber setting number
+number_within words setting number rest (inl (word, joined, is)) = joined.within
+number_within words setting number rest (inr (within, is)) = within
+
+told_number : (setting : Setting) (number : ℕ) (before : Settings) → IsNumber setting number → AreNumbers before → AreNumbers (tell setting number before)
+told_number Workers number before is are = record { task = are.task; pages = are.pages }
+told_number Task number before is are = record { task = is; pages = are.pages }
+told_number Pages number before is are = record { task = are.task; pages = is }
+
+all_numbers : (settings before : Settings) (words : List (List ℕ)) → Sets settings before words → AreNumbers before → AreNumbers settings
+all_numbers settings before words (all_told empty same) are = subst AreNumbers (sym same) are
+all_numbers settings before words (one_told setting number rest is untold later) are =
+    all_numbers settings (tell setting number before) rest later (told_number setting number before (number_within words setting number rest is) are)
+
+default_number : (setting : Setting) (told : Option ℕ) (number : ℕ) → IfSome told (IsNumber setting) → IsNumber setting number → IsNumber setting (or_default told number)
+default_number setting None number are is = is
+default_number setting (Some told) number are is = are
+
+pub record IsRanged (options : Options) : Type 0 where
+  pub pages : (1 ≤ options.pages) × (options.pages ≤ MAX_PAGES)
+  pub task : 1 ≤ options.task
+
+ranged : (settings : Settings) → AreNumbers settings → IsRanged (chosen settings)
+ranged settings are =
+    let pages = default_number Pages settings.pages MAX_PAGES are.pages (record { some = omega arith; few = omega arith }) in
+    let task = default_number Task settings.task 64 are.task (record { some = omega arith; few = omega arith }) in
+    record { pages = (pages.some, pages.few); task = task.some }
+
+pub count_ranged : (words : List (List ℕ)) (options : Options) → IsForm words (Count options) → IsRanged options
+count_ranged words options h = subst IsRanged (sym h.4) (ranged h.0 (all_numbers h.0 unset h.1 h.3 (record { task = tt; pages = tt })))
