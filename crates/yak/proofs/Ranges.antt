@@ -2,6 +2,7 @@
 use Rattle.std.proofs.Common.{◌≡◌, ◌≤◌, ◌⊎◌, ℕ, List, Option, None, Some, refl, sym, ap, subst, inl, inr, arith}
 use Rattle.std.specs.Prelude.{IfSome}
 use Rattle.script_text.specs.declared.TheConstants.{MAX_PAGES}
+use Rattle.yak.specs.declared.forms.Form.{Form}
 use Rattle.yak.specs.declared.forms.Form.TheVariants.{Count}
 use Rattle.yak.specs.declared.forms.Options.{Options}
 use Rattle.yak.specs.declared.forms.Setting.{Setting}
@@ -42,5 +43,8 @@ ranged settings are =
     let task = default_number Task settings.task 64 are.task (record { some = omega arith; few = omega arith }) in
     record { pages = (pages.some, pages.few); task = task.some }
 
-pub count_ranged : (words : List (List ℕ)) (options : Options) → IsForm words (Count options) → IsRanged options
-count_ranged words options h = subst IsRanged (sym h.4) (ranged h.0 (all_numbers h.0 unset h.1 h.3 (record { task = tt; pages = tt })))
+form_ranged : (words : List (List ℕ)) (options : Options) → IsForm words (Count options) → IsRanged options
+form_ranged words options h = subst IsRanged (sym h.4) (ranged h.0 (all_numbers h.0 unset h.1 h.3 (record { task = tt; pages = tt })))
+
+pub count_ranged : (words : List (List ℕ)) (form : Form) (options : Options) → IsForm words form → form ≡ Count options → IsRanged options
+count_ranged words form options is named = form_ranged words options (subst (IsForm words) named is)

@@ -25,10 +25,10 @@ gen_or_replay : (words : List (List ℕ)) (rounds : ℕ) → IsReplay words → 
 gen_or_replay words rounds replay gen = let e = one_form words Replay (Gen rounds) replay gen in absurd (cc e)
 
 count_or_replay : (words : List (List ℕ)) (options : Options) → IsReplay words → IsCount words options → ⊥
-count_or_replay words options replay count = let e = one_form words Replay (Count options) replay count.0 in absurd (cc e)
+count_or_replay words options replay count = let e = one_form words Replay (Count options) replay count.named in absurd (cc e)
 
 count_or_gen : (words : List (List ℕ)) (options : Options) (rounds : ℕ) → IsCount words options → IsGen words rounds → ⊥
-count_or_gen words options rounds count gen = let e = one_form words (Count options) (Gen rounds) count.0 gen in absurd (cc e)
+count_or_gen words options rounds count gen = let e = one_form words (Count options) (Gen rounds) count.named gen in absurd (cc e)
 
 reading_or_gen : (words : List (List ℕ)) (rounds : ℕ) → IsReading words → IsGen words rounds → ⊥
 reading_or_gen words rounds (inl replay) gen = gen_or_replay words rounds replay gen
@@ -36,16 +36,16 @@ reading_or_gen words rounds (inr (options, count)) gen = count_or_gen words opti
 
 reading_asked : (words : List (List ℕ)) → IsReading words → IsAsked words
 reading_asked words (inl replay) = (Replay, replay, tt)
-reading_asked words (inr (options, count)) = (Count options, count.0, count.1)
+reading_asked words (inr (options, count)) = (Count options, count.named, count.alone)
 
 count_asked : (words : List (List ℕ)) (options : Options) → IsCount words options → IsAsked words
-count_asked words options count = (Count options, count.0, count.1)
+count_asked words options count = (Count options, count.named, count.alone)
 
 same_rounds : (words : List (List ℕ)) (one other : ℕ) → IsGen words one → IsGen words other → one ≡ other
 same_rounds words one other a b = let e = one_form words (Gen one) (Gen other) a b in cc e
 
 same_options : (words : List (List ℕ)) (one other : Options) → IsCount words one → IsCount words other → one ≡ other
-same_options words one other a b = let e = one_form words (Count one) (Count other) a.0 b.0 in cc e
+same_options words one other a b = let e = one_form words (Count one) (Count other) a.named b.named in cc e
 
 -- ---- inputs
 
@@ -242,3 +242,16 @@ excess_ends NoMemory words input output kept h bytes reading clean many = inr re
 excess_ends TooLarge words input output kept h bytes reading clean many = inl refl
 excess_ends OutOfHeap words input output kept h bytes reading clean many = absurd (too_many input bytes h.1.meaning.0.2.0 clean.told many h.1.meaning.0.2.1)
 excess_ends LongWord words input output kept h bytes reading clean many = absurd (too_many input bytes h.1.meaning.0.2.0 clean.told many h.1.meaning.0.2.1)
+
+-- the whole text of a status was written
+pub written_ends : (status : Status) (words : List (List ℕ)) (input : Input) (output : Output) (kept : Option Held) (text : List ℕ) → belongs status words input text kept
+    → Appends output.before output.after text → ends status words input output kept
+written_ends Done words input output kept text is all = (text, record { meaning = is; all = all })
+written_ends Usage words input output kept text is all = (text, record { meaning = is; all = all })
+written_ends Refused words input output kept text is all = (text, record { meaning = is; all = all })
+written_ends ReadFault words input output kept text is all = (text, record { meaning = is; all = all })
+written_ends WriteFault words input output kept text is all = absurd is
+written_ends NoMemory words input output kept text is all = (text, record { meaning = is; all = all })
+written_ends TooLarge words input output kept text is all = (text, record { meaning = is; all = all })
+written_ends OutOfHeap words input output kept text is all = (text, record { meaning = is; all = all })
+written_ends LongWord words input output kept text is all = (text, record { meaning = is; all = all })

@@ -20,8 +20,8 @@ use Rattle.yak_model.specs.Texts.{words_of}
 use Rattle.group_jobs.specs.Counts.{counts_of}
 use Rattle.group_jobs.specs.LongWords.{has_long_word, long_word_line}
 use Rattle.group_jobs.specs.Printing.{count_line}
-use Rattle.yak.specs.Alone.{HoldsCounts, TellsWhy}
-use Rattle.yak.specs.declared.stub.CountError.TheVariants as CountError
+use Rattle.group_jobs.specs.Alone.{HoldsCounts, TellsWhy}
+use Rattle.group_jobs.specs.declared.count.CountError.TheVariants as CountError
 use Rattle.yak.specs.declared.forms.Options.{Options}
 use Rattle.yak.specs.Forms.{IsAsked, IsCount, IsGen, IsReading, IsReplay}
 use Rattle.yak.specs.Generator.{generated}

@@ -100,8 +100,9 @@ abbrev pub IsGen : List (List ℕ) → ℕ → Type 0
 IsGen words rounds = IsForm words (Gen rounds)
 
 -- the words ask for a count by one worker
-abbrev pub IsCount : List (List ℕ) → Options → Type 0
-IsCount words options = IsForm words (Count options) × (options.workers ≡ 1)
+pub record IsCount (words : List (List ℕ)) (options : Options) : Type 0 where
+  pub named : IsForm words (Count options)
+  pub alone : options.workers ≡ 1
 
 -- the words ask for what reads the input: a replay, or a count by one worker
 abbrev pub IsReading : List (List ℕ) → Type 0

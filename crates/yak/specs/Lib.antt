@@ -1,5 +1,4 @@
 -- What words ask for, what that gives, and how a run of the program ends.
-pub mod Alone
 pub mod Forms
 pub mod Generator
 pub mod Texts

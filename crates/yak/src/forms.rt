@@ -1,9 +1,9 @@
 //! The forms of words that are understood.
-ghost use Rattle.std.specs.Prelude.{◌≡◌, ◌≢◌, ◌≤◌, ◌<◌, ◌++◌, ◌∷◌, ℕ, List, [], None, Some, map, codes, decimal, length, MatchOption, IfSome, string_bytes};
+ghost use Rattle.std.specs.Prelude.{◌≡◌, ◌≢◌, ◌≤◌, ◌<◌, ◌++◌, ◌∷◌, ℕ, List, [], None, Some, map, codes, decimal, length, MatchBool, MatchOption, IfSome, string_bytes};
 ghost use Rattle.yak.specs.declared.forms.Form.{Form};
 ghost use Rattle.yak.specs.declared.forms.Setting.{Setting};
 ghost use Rattle.yak.specs.declared.forms.Settings.{Settings};
-ghost use Rattle.yak.specs.Forms.{IsForm, IsJoined, IsSetting, Sets, chosen, most_of, setting_word, tell, told, unset};
+ghost use Rattle.yak.specs.Forms.{IsAsked, IsBuiltForm, IsForm, IsJoined, IsSetting, Sets, chosen, most_of, setting_word, tell, told, unset};
 
 use crate::numbers::number_of;
 use object_layout::MAX_THREADS;
@@ -50,6 +50,19 @@ pub struct Settings {
     pub workers: Option<u32>,
     pub task: Option<u32>,
     pub pages: Option<u32>,
+}
+
+impl Form {
+    /// Whether the form is answered.
+    fn is_built(self) -> bool
+        ensures { MatchBool result (IsBuiltForm self) (IsBuiltForm self → ⊥) }
+    {
+        match self {
+            Form::Replay | Form::Gen(_) => true,
+            Form::Count(options) => options.workers == 1,
+            Form::Threads => false,
+        }
+    }
 }
 
 impl Setting {
@@ -250,6 +263,17 @@ pub fn read_form(words: &[String]) -> Option<Form>
 {
     let (word, rest) = words.split_first()?;
     read_rest(word.as_str(), rest)
+}
+
+/// What the words ask for, if that is answered.
+#[tactic(auto, using(crate::proofs::Unasked::unbuilt, crate::proofs::Unasked::none_unasked))]
+pub fn asked_form(words: &[String]) -> Option<Form>
+    ensures { MatchOption result
+        (IsAsked (map string_bytes words.now) → ⊥)
+        (λ form. IsForm (map string_bytes words.now) form × IsBuiltForm form) }
+{
+    let form = read_form(words)?;
+    if form.is_built() { Some(form) } else { None }
 }
 
 /// Words are of one form at most.

@@ -6,7 +6,6 @@ mod forms;
 mod generator;
 mod numbers;
 mod plain;
-mod stub;
 mod summaries;
 #[cfg(test)]
 mod tests;

@@ -13,11 +13,10 @@ ghost use Rattle.yak.specs.Keeping.{held_by};
 ghost use Rattle.yak.specs.Endings.{usage_line, input_of, output_of, IsInput, refusal_line, KeepsNothing, comes_to, counts, generates, gives_none, belongs, ends, EndsAs, EndsCounted, EndsCut, EndsLong, EndsOut, EndsGenerated, EndsReplayed, EndsRefused, IsFaultless, Input};
 
 use crate::endings::Status;
-use crate::forms::{Form, MAX_ROUNDS, Options, read_form};
+use crate::forms::{Form, MAX_ROUNDS, Options, asked_form};
 use crate::generator::generated_script;
-use crate::stub::{CountError, count_one};
 use crate::summaries::{reply_lines, summed_up};
-use group_jobs::{long_word, print_counts};
+use group_jobs::{CountError, count_one, long_word, print_counts};
 use heap_core::Core;
 use heap_words::{Image, Words};
 use object_layout::NoMemory;
@@ -209,17 +208,17 @@ fn prepare<S: Source>(alloc: Global, args: &[String], source: &mut S) -> Prepare
     ensures text { belongs result.status (map string_bytes args.now)
         (input_of (S.left source.old) (S.left source.new) (S.faults source.old) (S.faults source.new)) result.text.items (held_by ⟦<Image as Words>⟧.words result.kept) }
 {
-    match read_form(args) {
+    match asked_form(args) {
         Some(Form::Replay) => match read_input(alloc, source) {
             Ok(bytes) => answer(alloc, &bytes),
             Err(status) => stopped(alloc, status),
         },
-        Some(Form::Count(options)) if options.workers == 1 => match read_input(alloc, source) {
+        Some(Form::Count(options)) => match read_input(alloc, source) {
             Ok(bytes) => count(alloc, options, &bytes),
             Err(status) => stopped(alloc, status),
         },
         Some(Form::Gen(rounds)) => generate(alloc, rounds),
-        Some(Form::Threads) | Some(Form::Count(_)) | None => usage(alloc),
+        Some(Form::Threads) | None => usage(alloc),
     }
 }
 

@@ -21,3 +21,6 @@ returns-clause-every_long_word g c = λ options bytes count clean fits long. eli
 
 pub returns-clause-every_excess : goal.returns-clause-every_excess
 returns-clause-every_excess g c = λ bytes reading clean many. elim (c.ended.ensures.every_excess bytes reading clean many) [ inl e ↦ inl (rw e refl) | inr e ↦ inr (rw e refl) ]
+
+pub returns-clause-counts : goal.returns-clause-counts
+returns-clause-counts g c = λ options count is. c.ended.ensures.counts options count (done_of c.ended.result is)
