@@ -1,0 +1,103 @@
+-- A table with a new entry.
+use Rattle.std.proofs.Common.{zero, suc, ◌≡◌, ◌≢◌, ◌⊎◌, inl, inr, ℕ, ◌+◌, ◌-◌, ◌<◌, ◌≤◌, List, [], ◌∷◌, ◌++◌, get_or, set, take, refl, ◌∙◌, ap, sym, subst, length, Some, None, Option, IsSome, is_some, arith, length-set, get_or-set_same, get_or-set_other, true≢false}
+use Rattle.std.specs.FinMap.{get, insert}
+use Rattle.object_layout.specs.declared.names.Name.{Name}
+use Rattle.yak_model.specs.declared.datum.Datum.{Datum}
+use Rattle.yak_model.specs.declared.datum.Datum.TheVariants as datum
+use Rattle.yak_model.specs.Graph.{Content, Fields, Thread}
+use Rattle.yak_model.specs.Private.{KnownObjects, IsKnown}
+use Rattle.yak_model.proofs.Names.{get-same, get-other, same_or_other}
+use Rattle.yak_model.specs.Standing.{Standing}
+use Rattle.heap_tables.specs.Runs.{next_of, popped, pushed, with_made}
+use Rattle.heap_tables.proofs.Effects.{slot_below, take_push}
+use Rattle.yak_model.specs.Tables.{bucket_of}
+use Rattle.yak_model.specs.Tables.{IsKey}
+use Rattle.yak_model.specs.Tables.{Link, IsChain, IsEntry, IsTable, LacksWord, AreDifferent, AreInBucket, entry_fields}
+use Rattle.heap_tables.specs.Walks.{IsApart}
+use Rattle.heap_tables.specs.Adds.{AddsCount, IsAddedTo, IsNoEntry, Grows, KeepsOthers, having_made, with_bucket, with_fields}
+use Rattle.heap_tables.proofs.Places.{Agree, insert_agrees, chain_agrees}
+use Rattle.heap_tables.proofs.Raised.{in_bucket, table_apart}
+
+pub made_below : (s : Standing) (own : Thread) (i : ℕ) → own ≡ with_made s → i < length s.own.stack → get_or own.stack i datum.Null ≡ get_or s.own.stack i datum.Null
+made_below s own i e h = ap (λ (o : Thread). get_or o.stack i datum.Null) e ∙ slot_below s.own.stack (datum.Object (next_of s)) i h
+
+pub popped_made : (s : Standing) → popped (with_made s) ≡ record s.own { made = s.own.made + 1 }
+popped_made s = ap (λ (st : List Datum). record s.own { stack = st; made = s.own.made + 1 }) (take_push s.own.stack (datum.Object (next_of s)))
+
+-- a push, some objects made, and then a pop
+pub popped_having : (o : Thread) (x : Datum) (n : ℕ) → popped (having_made (pushed o x) n) ≡ having_made o n
+popped_having o x n = ap (λ (st : List Datum). record o { stack = st; made = o.made + n }) (take_push o.stack x)
+
+pub other_name : (known : KnownObjects) (x y : Name) (c : Content) → get known y ≡ None → get known x ≡ Some c → x ≢ y
+other_name known x y c none some e = let q = sym some ∙ ap (get known) e ∙ none in true≢false (ap is_some q)
+
+pub insert_grows : (known : KnownObjects) (y : Name) (d : Content) → get known y ≡ None → Grows known (insert known y d)
+insert_grows known y d none x c some = get-other known y d x (other_name known x y c none some) ∙ some
+
+pub chain_grows : (m n : KnownObjects) → Grows m n → (links : List Link) (head : Datum) → IsChain m head links → IsChain n head links
+chain_grows m n grows [] head chain = chain
+chain_grows m n grows (l ∷ links) head chain =
+    let e = chain.1.1 in
+    (chain.0, (chain.1.0, (grows l.entry _ e.0, (e.1.0, grows l.key _ e.1.1, e.1.2, e.1.3)), chain_grows m n grows links chain.1.0 chain.1.2))
+
+pub table_grows : (m n : KnownObjects) → Grows m n → (name : Name) (heads : List Datum) (buckets : ℕ → List Link) → IsTable m name heads buckets → IsTable n name heads buckets
+table_grows m n grows name heads buckets t = record {
+  object = grows name _ t.object;
+  size = t.size;
+  chains = λ b h. chain_grows m n grows (buckets b) (get_or heads b datum.Null) (t.chains b h);
+  homes = t.homes;
+  distinct = t.distinct;
+}
+
+pub linked_table : (known : KnownObjects) (name : Name) (heads : List Datum) (buckets : ℕ → List Link) (table : IsTable known name heads buckets) (word : List ℕ) (n b : ℕ) (home : bucket_of word ≡ b) (bound : b < 128) (lacks : LacksWord word (buckets b))
+    (key entry : Name) (d : Content) (no_key : get known key ≡ None) (no_entry : get (insert known key d) entry ≡ None) (is_key : IsKey (insert known key d) key word)
+    → (knows : KnownObjects → Type 0) → knows (insert (with_fields (insert known key d) entry (get_or heads b datum.Null) (datum.Object key) n) name (Fields (set heads b (datum.Object entry))))
+    → IsAddedTo known word n name buckets knows
+linked_table known name heads buckets table word n b home bound lacks key entry d no_key no_entry is_key knows k =
+    let one : KnownObjects = insert known key d in
+    let two : KnownObjects = with_fields one entry (get_or heads b datum.Null) (datum.Object key) n in
+    let last : List Datum = set heads b (datum.Object entry) in
+    let after : KnownObjects = insert two name (Fields last) in
+    let link : Link = record { entry = entry; key = key; word = word; count = n } in
+    let g1 : Grows known one = insert_grows known key d no_key in
+    let g2 : Grows one two = insert_grows one entry (Fields (get_or heads b datum.Null ∷ datum.Object key ∷ datum.Int n ∷ [])) no_entry in
+    let t1 = table_grows known one g1 name heads buckets table in
+    let t2 : IsTable two name heads buckets = table_grows one two g2 name heads buckets t1 in
+    let agree : Agree two after name = insert_agrees two name (Fields last) in
+    let entry_there : get two entry ≡ Some (Fields (entry_fields (get_or heads b datum.Null) key n)) = get-same one entry (Fields (get_or heads b datum.Null ∷ datum.Object key ∷ datum.Int n ∷ [])) in
+    let key_there : get two key ≡ Some (Fields is_key.0) = g2 key _ is_key.1 in
+    let name_entry : name ≢ entry = other_name one name entry _ no_entry t1.object in
+    let name_key : name ≢ key = other_name known name key _ no_key table.object in
+    let within : b < length heads = omega (arith, bound, table.size) in
+    record {
+      after = after;
+      heads = last;
+      links = link ∷ buckets b;
+      known_now = k;
+      is_table = subst (λ i. IsTable after name last (with_bucket buckets i (link ∷ buckets b))) (sym home) (record {
+        object = get-same two name (Fields last);
+        size = length-set heads b (datum.Object entry) ∙ table.size;
+        chains = in_bucket (λ c ls. IsChain after (get_or last c datum.Null) ls) buckets b (link ∷ buckets b)
+          (get_or-set_same heads b (datum.Object entry) datum.Null within,
+            (get_or heads b datum.Null, (agree entry (λ e. name_entry (sym e)) ∙ entry_there, (is_key.0, agree key (λ e. name_key (sym e)) ∙ key_there, is_key.2, is_key.3)),
+              chain_agrees two after name agree (buckets b) (get_or heads b datum.Null) (table_apart two name heads buckets t2 (buckets b) (get_or heads b datum.Null) (t2.chains b bound)) (t2.chains b bound)))
+          (λ c h o. subst (λ v. IsChain after v (buckets c)) (sym (get_or-set_other heads b c (datum.Object entry) datum.Null o))
+            (chain_agrees two after name agree (buckets c) (get_or heads c datum.Null) (table_apart two name heads buckets t2 (buckets c) (get_or heads c datum.Null) (t2.chains c h)) (t2.chains c h)));
+        homes = in_bucket AreInBucket buckets b (link ∷ buckets b) (home, table.homes b bound) (λ c h o. table.homes c h);
+        distinct = in_bucket (λ c ls. AreDifferent ls) buckets b (link ∷ buckets b) (lacks, table.distinct b bound) (λ c h o. table.distinct c h);
+      });
+      adds = inr (subst (λ i. LacksWord word (buckets i)) (sym home) lacks, (link, refl, refl, ap (λ i. link ∷ buckets i) (sym home)));
+      others = λ x kx o no. others_kept x kx o;
+    }
+  where
+    by_option : (x : Name) (o : Option Content) → get known x ≡ o → IsSome o → x ≢ name
+        → get (insert (with_fields (insert known key d) entry (get_or heads b datum.Null) (datum.Object key) n) name (Fields (set heads b (datum.Object entry)))) x ≡ get known x
+    by_option x None e h o = absurd (true≢false (sym h))
+    by_option x (Some c) e h o =
+        let g1 = insert_grows known key d no_key x c e in
+        let g2 = insert_grows (insert known key d) entry (Fields (get_or heads b datum.Null ∷ datum.Object key ∷ datum.Int n ∷ [])) no_entry x c g1 in
+        get-other _ name (Fields (set heads b (datum.Object entry))) x o ∙ g2 ∙ sym e
+
+    others_kept : (x : Name) → IsKnown known x → x ≢ name
+        → get (insert (with_fields (insert known key d) entry (get_or heads b datum.Null) (datum.Object key) n) name (Fields (set heads b (datum.Object entry)))) x ≡ get known x
+    others_kept x h o = by_option x (get known x) refl h o

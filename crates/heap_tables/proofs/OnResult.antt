@@ -1,0 +1,15 @@
+-- What holds of one answer alone.
+use Rattle.std.proofs.Common.{Result, Ok, Err}
+use Rattle.std.specs.Result.{OnOk, OnErr}
+
+pub ok_map : {A B : Type 0} (r : Result A B) (P Q : Type 0) → (P → Q) → OnOk r P → OnOk r Q
+ok_map (Ok x) P Q f h = f h
+ok_map (Err e) P Q f h = tt
+
+pub err_map : {A B : Type 0} (r : Result A B) (P Q : Type 0) → (P → Q) → OnErr r P → OnErr r Q
+err_map (Ok x) P Q f h = tt
+err_map (Err e) P Q f h = f h
+
+pub ok_both : {A B : Type 0} (r : Result A B) (P Q : Type 0) → OnOk r P → OnOk r Q → OnOk r (P × Q)
+ok_both (Ok x) P Q h k = (h, k)
+ok_both (Err e) P Q h k = tt

@@ -1,0 +1,21 @@
+use Rattle.std.proofs.Common.{◌+◌, ◌*◌, ◌^◌, ◌<◌, ◌≡◌, arith, refl, rules, ap, subst, ◌∙◌, ℕ}
+use Rattle.heap_tables.proofs.Groups.{power_bound}
+use Rattle.yak_model.specs.Tables.{digits, group}
+use Rattle.heap_tables.proofs.keys.group.Goals as goal
+
+pub overflow_mul-value : goal.overflow_mul-value
+overflow_mul-value c = let h = c.loop-j-test.true in omega (arith, c.loop-j.invariant.0, power_bound c.loop-j.j (omega (arith, h)))
+
+pub overflow_add-value : goal.overflow_add-value
+overflow_add-value c = let h = c.loop-j-test.true in omega (arith, c.loop-j.invariant.0, power_bound c.loop-j.j (omega (arith, h)), c.ranges)
+
+pub returns-clause-same : goal.returns-clause-same
+unfolding group
+returns-clause-same c = let h = c.loop-j.auto.j-end in let e : c.loop-j.j ≡ 7 = omega (arith, h, c.loop-j-test.false) in c.loop-j.invariant.1 ∙ ap (λ n. digits c.args.word.now (7 * c.args.i) n) e
+
+pub returns-clause-small : goal.returns-clause-small
+returns-clause-small c =
+    let h = c.loop-j.auto.j-end in
+    let e : c.loop-j.j ≡ 7 = omega (arith, h, c.loop-j-test.false) in
+    let low : c.loop-j.value < 256 ^ 7 = subst (λ n. c.loop-j.value < 256 ^ n) e c.loop-j.invariant.0 in
+    omega (arith, low)

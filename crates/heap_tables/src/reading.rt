@@ -1,0 +1,108 @@
+//! Words and counts, read from the entries of a table.
+ghost use Rattle.std.specs.Prelude.{◌≡◌, ◌≢◌, ℕ, ◌+◌, ◌/◌, ◌%◌, ◌^◌, ◌<◌, ◌≤◌, List, length, drop, take, slice_index, slice_index_or, IsTrue};
+ghost use Rattle.object_layout.specs.declared.TheConstants.{WORD_LIMIT};
+ghost use Rattle.object_layout.specs.declared.names.Name.{Name};
+ghost use Rattle.yak_model.specs.declared.TheConstants.{GROUP_BYTES, STACK_SLOTS};
+ghost use Rattle.yak_model.specs.declared.datum.Datum.{Datum};
+ghost use Rattle.yak_model.specs.Private.{KnownObjects};
+ghost use Rattle.yak_model.specs.Tables.{AreBytes, Link, digits, group};
+ghost use Rattle.heap_tables.specs.Keys.{IsKeyInSlot};
+ghost use Rattle.heap_tables.specs.Reads.{AreShort, HasKeyByte, HasShortEntry, HasShortKey, HasShortWalk, IsCopied, Took};
+ghost use Rattle.heap_tables.specs.Runs.{KeepsKnown, Ran, stack_in};
+ghost use Rattle.heap_tables.specs.Walks.{IsApart, IsAtChain, IsEntryInSlot};
+
+use crate::seek::seek;
+use crate::steps::{field_int, load, pop, slot_is_null};
+use yak_model::{BYTE_VALUES, Caller, GROUP_BYTES};
+
+/// The byte at a place of a group of bytes.
+fn byte_of(group: u64, j: usize) -> u8
+    requires { j < GROUP_BYTES }
+    ensures { (word : List ℕ) (start : ℕ) → AreBytes word → group ≡ digits word start GROUP_BYTES → result ≡ slice_index word (start + j) }
+{
+    let mut rest = group;
+    for k in j + 1..GROUP_BYTES {
+        rest /= BYTE_VALUES;
+    }
+    (rest % BYTE_VALUES) as u8
+}
+
+/// The group with a byte of a key's word: it is read where it begins with the byte, and is else the one that was read last.
+fn group_of<C: Caller>(caller: &mut C, key: u32, i: usize, last: u64, top: u32) -> u64
+    requires key { HasKeyByte (C.standing caller.old) (C.knows caller.old) key i }
+    requires room { length (stack_in (C.standing caller.old)) < STACK_SLOTS }
+    requires top { length (stack_in (C.standing caller.old)) ≡ top }
+    ensures ran { Ran C.base C.tells C.tells_known C.standing caller.old caller.new 0 }
+    ensures keeps { KeepsKnown (C.knows caller.old) (C.knows caller.new) }
+    ensures own { (C.standing caller.new).own ≡ (C.standing caller.old).own }
+    ensures group { (known : KnownObjects) (name : Name) (word : List ℕ) → C.knows caller.old known → IsKeyInSlot (C.standing caller.old) known key name word → i < length word → (i % GROUP_BYTES ≢ 0 → last ≡ group word (i / GROUP_BYTES)) → result ≡ group word (i / GROUP_BYTES) }
+{
+    if i % GROUP_BYTES != 0 {
+        return last;
+    }
+    field_int(caller, key, (i / GROUP_BYTES) as u32 + 1, top)
+}
+
+/// Copies the word of a key into the buffer, and gives its length.
+fn read_word<C: Caller>(caller: &mut C, key: u32, buffer: &mut [u8], top: u32) -> usize
+    requires key { HasShortKey (C.standing caller.old) (C.knows caller.old) key }
+    requires buffer { WORD_LIMIT ≤ length buffer.old }
+    requires room { length (stack_in (C.standing caller.old)) < STACK_SLOTS }
+    requires top { length (stack_in (C.standing caller.old)) ≡ top }
+    ensures ran { Ran C.base C.tells C.tells_known C.standing caller.old caller.new 0 }
+    ensures keeps { KeepsKnown (C.knows caller.old) (C.knows caller.new) }
+    ensures own { (C.standing caller.new).own ≡ (C.standing caller.old).own }
+    ensures buffer { length buffer.new ≡ length buffer.old }
+    ensures copied { (known : KnownObjects) (name : Name) (word : List ℕ) → C.knows caller.old known → IsKeyInSlot (C.standing caller.old) known key name word → IsCopied word result buffer.new }
+{
+    let size = field_int(caller, key, 0, top) as usize;
+    let mut group = 0;
+    for i in 0..size {
+        group = group_of(caller, key, i, group, top);
+        buffer[i] = byte_of(group, i % GROUP_BYTES);
+    }
+    size
+}
+
+/// Copies the word of an entry into the buffer, and gives its length.
+fn entry_word<C: Caller>(caller: &mut C, entry: u32, buffer: &mut [u8], top: u32) -> usize
+    requires entry { HasShortEntry (C.standing caller.old) (C.knows caller.old) entry }
+    requires buffer { WORD_LIMIT ≤ length buffer.old }
+    requires room { length (stack_in (C.standing caller.old)) + 1 < STACK_SLOTS }
+    requires top { length (stack_in (C.standing caller.old)) ≡ top }
+    ensures ran { Ran C.base C.tells C.tells_known C.standing caller.old caller.new 0 }
+    ensures keeps { KeepsKnown (C.knows caller.old) (C.knows caller.new) }
+    ensures own { (C.standing caller.new).own ≡ (C.standing caller.old).own }
+    ensures buffer { length buffer.new ≡ length buffer.old }
+    ensures copied { (known : KnownObjects) (next : Datum) (link : Link) → C.knows caller.old known → IsEntryInSlot (C.standing caller.old) known entry next link → IsCopied link.word result buffer.new }
+{
+    load(caller, entry, 1);
+    let size = read_word(caller, top, buffer, top + 1);
+    pop(caller);
+    size
+}
+
+/// Copies the word of the entry at a place of a bucket's chain into the buffer, and gives its length and the count, or `None`
+/// past the end of the chain.
+pub(crate) fn take_entry<C: Caller>(caller: &mut C, table: u32, bucket: u32, place: u32, buffer: &mut [u8], top: u32) -> Option<(usize, u64)>
+    requires chain { HasShortWalk (C.standing caller.old) (C.knows caller.old) table bucket }
+    requires buffer { WORD_LIMIT ≤ length buffer.old }
+    requires room { length (stack_in (C.standing caller.old)) + 3 < STACK_SLOTS }
+    requires top { length (stack_in (C.standing caller.old)) ≡ top }
+    ensures ran { Ran C.base C.tells C.tells_known C.standing caller.old caller.new 0 }
+    ensures own { (C.standing caller.new).own ≡ (C.standing caller.old).own }
+    ensures buffer { length buffer.new ≡ length buffer.old }
+    ensures took { (known : KnownObjects) (name : Name) (values : List Datum) (links : List Link) → C.knows caller.old known → IsAtChain (C.standing caller.old) known table bucket name values links → IsApart name links → Took (drop place links) result buffer.new × C.knows caller.new known }
+{
+    seek(caller, table, bucket, place, top);
+    if slot_is_null(caller, top + 1) {
+        pop(caller);
+        pop(caller);
+        return None;
+    }
+    let size = entry_word(caller, top + 1, buffer, top + 2);
+    let count = field_int(caller, top + 1, 2, top + 2);
+    pop(caller);
+    pop(caller);
+    Some((size, count))
+}

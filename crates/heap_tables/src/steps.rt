@@ -1,0 +1,226 @@
+//! Single calls of a caller, where it is known that they aren't refused.
+ghost use Rattle.std.specs.Prelude.{◌≡◌, ◌≢◌, ℕ, ◌+◌, ◌-◌, ◌^◌, ◌<◌, ◌≤◌, ◌++◌, ◌∷◌, [], List, length, OnOk, OnErr, slice_index_or, None, IsTrue, ◌↔◌};
+ghost use Rattle.std.specs.FinMap as finite;
+ghost use Rattle.yak_model.specs.Private.{KnownObjects};
+ghost use Rattle.heap_tables.specs.Runs.{KeepsKnown, IsInSlot, HasField, HasFields, KnowsSome, Ran, stack_in, slot_in, pushed, popped, next_of, with_made, with_new, with_field, IsShown, RanOut};
+ghost use Rattle.object_layout.specs.declared.names.Name.{Name};
+ghost use Rattle.object_layout.specs.declared.TheConstants.{MAX_INT, MAX_SERIAL, OBJECT_WORDS};
+ghost use Rattle.yak_model.specs.declared.TheConstants.{STACK_SLOTS};
+ghost use Rattle.object_layout.specs.declared.replies.Reply.TheVariants as said;
+ghost use Rattle.object_layout.specs.declared.replies.Refusal.TheVariants as refusal;
+ghost use Rattle.yak_model.specs.declared.datum.Datum.{Datum};
+ghost use Rattle.yak_model.specs.declared.datum.Datum.TheVariants as datum;
+
+use object_layout::{Call, OutOfHeap, Refusal, Reply};
+use yak_model::{Caller, STACK_SLOTS};
+
+/// Pushes a field of a known object.
+pub fn load<C: Caller>(caller: &mut C, s: u32, f: u32)
+    requires field { HasField (C.standing caller.old) (C.knows caller.old) s f }
+    requires room { length (stack_in (C.standing caller.old)) < STACK_SLOTS }
+    ensures ran { Ran C.base C.tells C.tells_known C.standing caller.old caller.new 0 }
+    ensures keeps { KeepsKnown (C.knows caller.old) (C.knows caller.new) }
+    ensures pushed { (known : KnownObjects) (name : Name) (values : List Datum) → C.knows caller.old known → IsInSlot (C.standing caller.old) known s name values → f < length values → (C.standing caller.new).own ≡ pushed (C.standing caller.old).own (slice_index_or values f datum.Null) }
+{
+    let _reply = caller.make_call(Call::Load(s, f));
+}
+
+/// Pushes an integer.
+pub fn push_int<C: Caller>(caller: &mut C, i: u64)
+    requires some { KnowsSome (C.knows caller.old) }
+    requires number { i ≤ MAX_INT }
+    requires room { length (stack_in (C.standing caller.old)) < STACK_SLOTS }
+    ensures ran { Ran C.base C.tells C.tells_known C.standing caller.old caller.new 0 }
+    ensures keeps { KeepsKnown (C.knows caller.old) (C.knows caller.new) }
+    ensures pushed { (C.standing caller.new).own ≡ pushed (C.standing caller.old).own (datum.Int i) }
+{
+    let _reply = caller.make_call(Call::Int(i));
+}
+
+/// Drops the top slot.
+pub fn pop<C: Caller>(caller: &mut C)
+    requires some { KnowsSome (C.knows caller.old) }
+    requires slot { 0 < length (stack_in (C.standing caller.old)) }
+    ensures ran { Ran C.base C.tells C.tells_known C.standing caller.old caller.new 0 }
+    ensures keeps { KeepsKnown (C.knows caller.old) (C.knows caller.new) }
+    ensures popped { (C.standing caller.new).own ≡ popped (C.standing caller.old).own }
+{
+    let _reply = caller.make_call(Call::Pop);
+}
+
+/// What a slot shows.
+pub fn get<C: Caller>(caller: &mut C, s: u32) -> Reply
+    requires some { KnowsSome (C.knows caller.old) }
+    ensures ran { Ran C.base C.tells C.tells_known C.standing caller.old caller.new 0 }
+    ensures keeps { KeepsKnown (C.knows caller.old) (C.knows caller.new) }
+    ensures own { (C.standing caller.new).own ≡ (C.standing caller.old).own }
+    ensures shown { s < length (stack_in (C.standing caller.old)) → IsShown (slot_in (C.standing caller.old) s) result }
+    ensures past { length (stack_in (C.standing caller.old)) ≤ s → result ≡ said.Refused refusal.BadSlot }
+{
+    caller.make_call(Call::Get(s))
+}
+
+/// Stores the value of a slot in a field of a known object.
+pub fn store<C: Caller>(caller: &mut C, s: u32, f: u32, x: u32)
+    requires field { HasField (C.standing caller.old) (C.knows caller.old) s f }
+    requires value { x < length (stack_in (C.standing caller.old)) }
+    ensures ran { Ran C.base C.tells C.tells_known C.standing caller.old caller.new 0 }
+    ensures own { (C.standing caller.new).own ≡ (C.standing caller.old).own }
+    ensures stored { (known : KnownObjects) (name : Name) (values : List Datum) → C.knows caller.old known → IsInSlot (C.standing caller.old) known s name values → f < length values → C.knows caller.new (with_field known name values f (slot_in (C.standing caller.old) x)) }
+{
+    let _reply = caller.make_call(Call::Store(s, f, x));
+}
+
+/// Makes an object of null fields, and pushes a reference to it.
+pub fn push_new<C: Caller>(caller: &mut C, k: u32) -> Result<(), OutOfHeap>
+    requires some { KnowsSome (C.knows caller.old) }
+    requires fits { k + OBJECT_WORDS ≤ (C.standing caller.old).limits.page }
+    requires room { length (stack_in (C.standing caller.old)) < STACK_SLOTS }
+    requires names { (C.standing caller.old).own.made < MAX_SERIAL }
+    ensures ran { OnOk result (Ran C.base C.tells C.tells_known C.standing caller.old caller.new (k + OBJECT_WORDS)) }
+    ensures pushed { OnOk result ((C.standing caller.new).own ≡ with_made (C.standing caller.old)) }
+    ensures made { OnOk result ((known : KnownObjects) → C.knows caller.old known → C.knows caller.new (with_new (C.standing caller.old) known k) × (finite.get known (next_of (C.standing caller.old)) ≡ None)) }
+    ensures same { OnErr result ((C.standing caller.new).own ≡ (C.standing caller.old).own) }
+    ensures keeps { OnErr result (KeepsKnown (C.knows caller.old) (C.knows caller.new)) }
+    ensures ran_out { OnErr result (RanOut C.base C.tells C.tells_known C.standing caller.old caller.new 0 k) }
+{
+    if caller.make_call(Call::New(k)) == Reply::OutOfHeap {
+        Err(OutOfHeap)
+    } else {
+        Ok(())
+    }
+}
+
+/// What a field of a known object shows.
+pub fn peek<C: Caller>(caller: &mut C, s: u32, f: u32, top: u32) -> Reply
+    requires field { HasField (C.standing caller.old) (C.knows caller.old) s f }
+    requires room { length (stack_in (C.standing caller.old)) < STACK_SLOTS }
+    requires top { length (stack_in (C.standing caller.old)) ≡ top }
+    ensures ran { Ran C.base C.tells C.tells_known C.standing caller.old caller.new 0 }
+    ensures keeps { KeepsKnown (C.knows caller.old) (C.knows caller.new) }
+    ensures own { (C.standing caller.new).own ≡ (C.standing caller.old).own }
+    ensures shown { (known : KnownObjects) (name : Name) (values : List Datum) → C.knows caller.old known → IsInSlot (C.standing caller.old) known s name values → f < length values → IsShown (slice_index_or values f datum.Null) result }
+{
+    load(caller, s, f);
+    let shown = get(caller, top);
+    pop(caller);
+    shown
+}
+
+/// Whether a reply shows this integer.
+fn is_int(shown: Reply, n: u64) -> bool
+    ensures { IsTrue result ↔ (shown ≡ said.Int n) }
+{
+    shown == Reply::Int(n)
+}
+
+/// Whether a field of a known object is this integer.
+pub fn field_is<C: Caller>(caller: &mut C, s: u32, f: u32, top: u32, n: u64) -> bool
+    requires field { HasField (C.standing caller.old) (C.knows caller.old) s f }
+    requires room { length (stack_in (C.standing caller.old)) < STACK_SLOTS }
+    requires top { length (stack_in (C.standing caller.old)) ≡ top }
+    ensures ran { Ran C.base C.tells C.tells_known C.standing caller.old caller.new 0 }
+    ensures keeps { KeepsKnown (C.knows caller.old) (C.knows caller.new) }
+    ensures own { (C.standing caller.new).own ≡ (C.standing caller.old).own }
+    ensures answer { (known : KnownObjects) (name : Name) (values : List Datum) → C.knows caller.old known → IsInSlot (C.standing caller.old) known s name values → f < length values → IsTrue result ↔ (slice_index_or values f datum.Null ≡ datum.Int n) }
+{
+    let shown = peek(caller, s, f, top);
+    is_int(shown, n)
+}
+
+/// Puts an integer into a field of a known object.
+pub fn put_int<C: Caller>(caller: &mut C, s: u32, f: u32, n: u64, top: u32)
+    requires number { n ≤ MAX_INT }
+    requires field { HasField (C.standing caller.old) (C.knows caller.old) s f }
+    requires room { length (stack_in (C.standing caller.old)) < STACK_SLOTS }
+    requires top { length (stack_in (C.standing caller.old)) ≡ top }
+    ensures ran { Ran C.base C.tells C.tells_known C.standing caller.old caller.new 0 }
+    ensures own { (C.standing caller.new).own ≡ (C.standing caller.old).own }
+    ensures stored { (known : KnownObjects) (name : Name) (values : List Datum) → C.knows caller.old known → IsInSlot (C.standing caller.old) known s name values → f < length values → C.knows caller.new (with_field known name values f (datum.Int n)) }
+{
+    push_int(caller, n);
+    store(caller, s, f, top);
+    pop(caller);
+}
+
+/// Copies a field of a known object into one of another known object.
+pub fn copy_field<C: Caller>(caller: &mut C, s: u32, f: u32, to: u32, g: u32, top: u32)
+    requires both { HasFields (C.standing caller.old) (C.knows caller.old) s f to g }
+    requires room { length (stack_in (C.standing caller.old)) < STACK_SLOTS }
+    requires top { length (stack_in (C.standing caller.old)) ≡ top }
+    ensures ran { Ran C.base C.tells C.tells_known C.standing caller.old caller.new 0 }
+    ensures own { (C.standing caller.new).own ≡ (C.standing caller.old).own }
+    ensures stored { (known : KnownObjects) (name to_name : Name) (values to_values : List Datum) → C.knows caller.old known → IsInSlot (C.standing caller.old) known s name values → f < length values → IsInSlot (C.standing caller.old) known to to_name to_values → g < length to_values → C.knows caller.new (with_field known to_name to_values g (slice_index_or values f datum.Null)) }
+{
+    load(caller, s, f);
+    store(caller, to, g, top);
+    pop(caller);
+}
+
+/// Whether a reply shows null.
+fn is_null(shown: Reply) -> bool
+    ensures { IsTrue result ↔ (shown ≡ said.Null) }
+{
+    shown == Reply::Null
+}
+
+/// Whether a slot is null.
+pub fn slot_is_null<C: Caller>(caller: &mut C, s: u32) -> bool
+    requires some { KnowsSome (C.knows caller.old) }
+    requires slot { s < length (stack_in (C.standing caller.old)) }
+    ensures ran { Ran C.base C.tells C.tells_known C.standing caller.old caller.new 0 }
+    ensures keeps { KeepsKnown (C.knows caller.old) (C.knows caller.new) }
+    ensures own { (C.standing caller.new).own ≡ (C.standing caller.old).own }
+    ensures answer { IsTrue result ↔ (slot_in (C.standing caller.old) s ≡ datum.Null) }
+{
+    let shown = get(caller, s);
+    is_null(shown)
+}
+
+/// The integer that a reply shows, or 0.
+fn int_of(shown: Reply) -> u64
+    ensures { (n : ℕ) → shown ≡ said.Int n → result ≡ n }
+{
+    match shown {
+        Reply::Int(n) => n,
+        _ => 0,
+    }
+}
+
+/// The integer in a field of a known object.
+pub fn field_int<C: Caller>(caller: &mut C, s: u32, f: u32, top: u32) -> u64
+    requires field { HasField (C.standing caller.old) (C.knows caller.old) s f }
+    requires room { length (stack_in (C.standing caller.old)) < STACK_SLOTS }
+    requires top { length (stack_in (C.standing caller.old)) ≡ top }
+    ensures ran { Ran C.base C.tells C.tells_known C.standing caller.old caller.new 0 }
+    ensures keeps { KeepsKnown (C.knows caller.old) (C.knows caller.new) }
+    ensures own { (C.standing caller.new).own ≡ (C.standing caller.old).own }
+    ensures value { (known : KnownObjects) (name : Name) (values : List Datum) (n : ℕ) → C.knows caller.old known → IsInSlot (C.standing caller.old) known s name values → f < length values → slice_index_or values f datum.Null ≡ datum.Int n → result ≡ n }
+{
+    let shown = peek(caller, s, f, top);
+    int_of(shown)
+}
+
+/// Whether a reply says that there is no such slot.
+fn is_bad_slot(shown: Reply) -> bool
+    ensures { IsTrue result ↔ (shown ≡ said.Refused refusal.BadSlot) }
+{
+    shown == Reply::Refused(Refusal::BadSlot)
+}
+
+/// The number of slots of the caller's stack.
+pub fn stack_size<C: Caller>(caller: &mut C) -> u32
+    requires some { KnowsSome (C.knows caller.old) }
+    requires room { length (stack_in (C.standing caller.old)) ≤ STACK_SLOTS }
+    ensures ran { Ran C.base C.tells C.tells_known C.standing caller.old caller.new 0 }
+    ensures keeps { KeepsKnown (C.knows caller.old) (C.knows caller.new) }
+    ensures own { (C.standing caller.new).own ≡ (C.standing caller.old).own }
+    ensures size { result ≡ length (stack_in (C.standing caller.old)) }
+{
+    for top in 0..STACK_SLOTS as u32 {
+        if is_bad_slot(get(caller, top)) {
+            return top;
+        }
+    }
+    STACK_SLOTS as u32
+}

@@ -1,0 +1,192 @@
+//! Count tables.
+ghost use Rattle.std.specs.Prelude.{◌≡◌, ◌≢◌, ℕ, ◌+◌, ◌-◌, ◌*◌, ◌^◌, ◌<◌, ◌≤◌, ◌↔◌, ◌++◌, ◌∷◌, [], List, length, IsTrue, OnOk, OnErr, slice_index, slice_index_or, None, replicate};
+ghost use Rattle.std.specs.FinMap as finite;
+ghost use Rattle.object_layout.specs.declared.TheConstants.{MAX_INT, MAX_SERIAL, PAGE_WORDS, WORD_LIMIT};
+ghost use Rattle.yak_model.specs.declared.TheConstants.{BUCKETS, ENTRY_FIELDS, STACK_SLOTS};
+ghost use Rattle.yak_model.specs.Room.{entry_words, key_words, table_words};
+ghost use Rattle.heap_tables.specs.declared.TheConstants.{FREE_SLOTS, MOST_MADE};
+ghost use Rattle.yak_model.specs.declared.datum.Datum.TheVariants as datum;
+ghost use Rattle.yak_model.specs.Private.{KnownObjects};
+ghost use Rattle.yak_model.specs.declared.datum.Datum.{Datum};
+ghost use Rattle.object_layout.specs.declared.names.Name.{Name};
+ghost use Rattle.heap_tables.specs.Runs.{HasField, IsInSlot, slot_in, KeepsKnown, KnowsSome, Ran, RanOut, stack_in, next_of, with_made, with_new};
+ghost use Rattle.yak_model.specs.Tables.{Link, IsCountTable, IsTable, LacksWord, WordCounts};
+ghost use Rattle.heap_tables.specs.Counted.{HasCountTable, MayCount, IsCounted, IsUncounted};
+ghost use Rattle.yak_model.specs.Tables.{bucket_of};
+ghost use Rattle.heap_tables.specs.Walks.{IsEntryInSlot};
+ghost use Rattle.heap_tables.specs.Adds.{AddRan, AddRanOut, AddsPresent, HasTable, MakesForNew, MayAdd, MayRaise, with_count, HasBlank, with_fields, with_linked, IsAddedTo, Grows};
+
+use object_layout::OutOfHeap;
+use yak_model::{BUCKETS, Caller, ENTRY_FIELDS};
+use crate::chains::find;
+use crate::keys::{bucket_of, make_key};
+use crate::steps::{field_int, load, pop, push_new, put_int, stack_size, store};
+
+/// Raises the count of an entry.
+fn raise<C: Caller>(caller: &mut C, entry: u32, n: u64, top: u32)
+    requires entry { MayRaise (C.standing caller.old) (C.knows caller.old) entry n }
+    requires room { length (stack_in (C.standing caller.old)) < STACK_SLOTS }
+    requires top { length (stack_in (C.standing caller.old)) ≡ top }
+    ensures ran { Ran C.base C.tells C.tells_known C.standing caller.old caller.new 0 }
+    ensures own { (C.standing caller.new).own ≡ (C.standing caller.old).own }
+    ensures raised { (known : KnownObjects) (next : Datum) (link : Link) → C.knows caller.old known → IsEntryInSlot (C.standing caller.old) known entry next link → C.knows caller.new (with_count known next link (link.count + n)) }
+{
+    let count = field_int(caller, entry, 2, top);
+    put_int(caller, entry, 2, count + n, top);
+}
+
+
+/// Pushes a new table of no words.
+pub fn make<C: Caller>(caller: &mut C) -> Result<(), OutOfHeap>
+    requires some { KnowsSome (C.knows caller.old) }
+    requires page { PAGE_WORDS ≤ (C.standing caller.old).limits.page }
+    requires room { length (stack_in (C.standing caller.old)) + FREE_SLOTS ≤ STACK_SLOTS }
+    requires names { (C.standing caller.old).own.made ≤ MOST_MADE }
+    ensures ran { OnOk result (Ran C.base C.tells C.tells_known C.standing caller.old caller.new table_words) }
+    ensures pushed { OnOk result ((C.standing caller.new).own ≡ with_made (C.standing caller.old)) }
+    ensures made { OnOk result ((known : KnownObjects) → C.knows caller.old known → C.knows caller.new (with_new (C.standing caller.old) known BUCKETS) × IsCountTable (with_new (C.standing caller.old) known BUCKETS) (next_of (C.standing caller.old)) finite.empty × (finite.get known (next_of (C.standing caller.old)) ≡ None)) }
+    ensures same { OnErr result ((C.standing caller.new).own ≡ (C.standing caller.old).own) }
+    ensures keeps { OnErr result (KeepsKnown (C.knows caller.old) (C.knows caller.new)) }
+    ensures ran_out { OnErr result (RanOut C.base C.tells C.tells_known C.standing caller.old caller.new 0 BUCKETS) }
+{
+    push_new(caller, BUCKETS as u32)
+}
+
+/// Adds to the count of a word that is in the table, and tells whether it is.
+fn add_present<C: Caller>(caller: &mut C, table: u32, word: &[u8], n: u64, top: u32) -> bool
+    requires table { HasTable (C.standing caller.old) (C.knows caller.old) table word.now n }
+    requires word { length word.now ≤ WORD_LIMIT }
+    requires room { length (stack_in (C.standing caller.old)) + 3 < STACK_SLOTS }
+    requires top { length (stack_in (C.standing caller.old)) ≡ top }
+    ensures ran { Ran C.base C.tells C.tells_known C.standing caller.old caller.new 0 }
+    ensures own { (C.standing caller.new).own ≡ (C.standing caller.old).own }
+    ensures added { (known : KnownObjects) (name : Name) (heads : List Datum) (buckets : ℕ → List Link) → C.knows caller.old known → MayAdd (C.standing caller.old) known table word.now n name heads buckets → AddsPresent known word.now n name buckets result (C.knows caller.new) }
+{
+    let bucket = bucket_of(word);
+    if find(caller, table, bucket, word, top) {
+        raise(caller, top + 1, n, top + 2);
+        pop(caller);
+        pop(caller);
+        true
+    } else {
+        pop(caller);
+        false
+    }
+}
+
+/// Fills in the fields of a new entry.
+fn fill_entry<C: Caller>(caller: &mut C, entry: u32, next: u32, key: u32, n: u64, top: u32)
+    requires number { n ≤ MAX_INT }
+    requires entry { HasBlank (C.standing caller.old) (C.knows caller.old) entry }
+    requires next { next < length (stack_in (C.standing caller.old)) }
+    requires key { key < length (stack_in (C.standing caller.old)) }
+    requires room { length (stack_in (C.standing caller.old)) < STACK_SLOTS }
+    requires top { length (stack_in (C.standing caller.old)) ≡ top }
+    ensures ran { Ran C.base C.tells C.tells_known C.standing caller.old caller.new 0 }
+    ensures own { (C.standing caller.new).own ≡ (C.standing caller.old).own }
+    ensures filled { (known : KnownObjects) (name : Name) (values : List Datum) → C.knows caller.old known → IsInSlot (C.standing caller.old) known entry name values → length values ≡ 3 → C.knows caller.new (with_fields known name (slot_in (C.standing caller.old) next) (slot_in (C.standing caller.old) key) n) }
+{
+    store(caller, entry, 0, next);
+    store(caller, entry, 1, key);
+    put_int(caller, entry, 2, n, top);
+}
+
+/// Makes an entry for the key in the top slot, and puts it at the front of a bucket, which the slot below has.
+fn link_new<C: Caller>(caller: &mut C, table: u32, bucket: u32, n: u64, front: u32) -> Result<(), OutOfHeap>
+    requires number { n ≤ MAX_INT }
+    requires table { HasField (C.standing caller.old) (C.knows caller.old) table bucket }
+    requires page { PAGE_WORDS ≤ (C.standing caller.old).limits.page }
+    requires names { (C.standing caller.old).own.made < MAX_SERIAL }
+    requires room { length (stack_in (C.standing caller.old)) + 1 < STACK_SLOTS }
+    requires top { length (stack_in (C.standing caller.old)) ≡ front + 2 }
+    ensures ran { OnOk result (Ran C.base C.tells C.tells_known C.standing caller.old caller.new entry_words) }
+    ensures own { OnOk result ((C.standing caller.new).own ≡ record (C.standing caller.old).own { made = (C.standing caller.old).own.made + 1 }) }
+    ensures linked { OnOk result ((known : KnownObjects) (name : Name) (heads : List Datum) → C.knows caller.old known → IsInSlot (C.standing caller.old) known table name heads → bucket < length heads → C.knows caller.new (with_linked (C.standing caller.old) known name heads bucket front n) × (finite.get known (next_of (C.standing caller.old)) ≡ None)) }
+    ensures same { OnErr result ((C.standing caller.new).own ≡ (C.standing caller.old).own) }
+    ensures keeps { OnErr result (KeepsKnown (C.knows caller.old) (C.knows caller.new)) }
+    ensures ran_out { OnErr result (RanOut C.base C.tells C.tells_known C.standing caller.old caller.new 0 ENTRY_FIELDS) }
+{
+    push_new(caller, ENTRY_FIELDS as u32)?;
+    fill_entry(caller, front + 2, front, front + 1, n, front + 3);
+    store(caller, table, bucket, front + 2);
+    pop(caller);
+    Ok(())
+}
+
+/// Puts a new entry of a new word at the front of its bucket, which the top slot has.
+fn insert_new<C: Caller>(caller: &mut C, table: u32, bucket: u32, word: &[u8], n: u64, front: u32) -> Result<(), OutOfHeap>
+    requires number { n ≤ MAX_INT }
+    requires table { HasField (C.standing caller.old) (C.knows caller.old) table bucket }
+    requires word { length word.now ≤ WORD_LIMIT }
+    requires page { PAGE_WORDS ≤ (C.standing caller.old).limits.page }
+    requires names { (C.standing caller.old).own.made + 1 < MAX_SERIAL }
+    requires room { length (stack_in (C.standing caller.old)) + 2 < STACK_SLOTS }
+    requires top { length (stack_in (C.standing caller.old)) ≡ front + 1 }
+    ensures ran { OnOk result (Ran C.base C.tells C.tells_known C.standing caller.old caller.new (key_words word.now + entry_words)) }
+    ensures ran_out { OnErr result (AddRanOut C.base C.tells C.tells_known C.standing caller.old caller.new word.now) }
+    ensures own { OnOk result ((C.standing caller.new).own ≡ record (C.standing caller.old).own { made = (C.standing caller.old).own.made + 2 }) }
+    ensures added { OnOk result ((known : KnownObjects) (name : Name) (heads : List Datum) (buckets : ℕ → List Link) → C.knows caller.old known → slot_in (C.standing caller.old) table ≡ datum.Object name → IsTable known name heads buckets → slot_in (C.standing caller.old) front ≡ slice_index_or heads bucket datum.Null → bucket_of word.now ≡ bucket → bucket < BUCKETS → LacksWord word.now (buckets bucket) → IsAddedTo known word.now n name buckets (C.knows caller.new)) }
+    ensures stack { OnErr result (stack_in (C.standing caller.new) ≡ stack_in (C.standing caller.old)) }
+    ensures kept { OnErr result ((known : KnownObjects) → C.knows caller.old known → (after : KnownObjects) × C.knows caller.new after × Grows known after) }
+{
+    make_key(caller, word, front + 1)?;
+    match link_new(caller, table, bucket, n, front) {
+        Ok(()) => {
+            pop(caller);
+            Ok(())
+        }
+        Err(full) => {
+            pop(caller);
+            Err(full)
+        }
+    }
+}
+
+/// Adds to the count of a word, as far as chains go.
+fn add_links<C: Caller>(caller: &mut C, table: u32, word: &[u8], n: u64, top: u32) -> Result<(), OutOfHeap>
+    requires table { HasTable (C.standing caller.old) (C.knows caller.old) table word.now n }
+    requires word { length word.now ≤ WORD_LIMIT }
+    requires page { PAGE_WORDS ≤ (C.standing caller.old).limits.page }
+    requires names { (C.standing caller.old).own.made ≤ MOST_MADE }
+    requires room { length (stack_in (C.standing caller.old)) + FREE_SLOTS ≤ STACK_SLOTS }
+    requires top { length (stack_in (C.standing caller.old)) ≡ top }
+    ensures ran { OnOk result (AddRan C.base C.tells C.tells_known C.standing caller.old caller.new word.now) }
+    ensures ran_out { OnErr result (AddRanOut C.base C.tells C.tells_known C.standing caller.old caller.new word.now) }
+    ensures stack { stack_in (C.standing caller.new) ≡ stack_in (C.standing caller.old) }
+    ensures added { OnOk result ((known : KnownObjects) (name : Name) (heads : List Datum) (buckets : ℕ → List Link) → C.knows caller.old known → MayAdd (C.standing caller.old) known table word.now n name heads buckets → IsAddedTo known word.now n name buckets (C.knows caller.new)) }
+    ensures kept { OnErr result ((known : KnownObjects) (name : Name) (heads : List Datum) (buckets : ℕ → List Link) → C.knows caller.old known → MayAdd (C.standing caller.old) known table word.now n name heads buckets → (after : KnownObjects) × C.knows caller.new after × Grows known after × LacksWord word.now (buckets (bucket_of word.now))) }
+    ensures made { OnOk result ((known : KnownObjects) (name : Name) (heads : List Datum) (buckets : ℕ → List Link) → C.knows caller.old known → MayAdd (C.standing caller.old) known table word.now n name heads buckets → MakesForNew (C.standing caller.old) (C.standing caller.new) word.now (buckets (bucket_of word.now))) }
+{
+    if add_present(caller, table, word, n, top) {
+        return Ok(());
+    }
+    let bucket = bucket_of(word);
+    load(caller, table, bucket);
+    match insert_new(caller, table, bucket, word, n, top) {
+        Ok(()) => {
+            pop(caller);
+            Ok(())
+        }
+        Err(full) => {
+            pop(caller);
+            Err(full)
+        }
+    }
+}
+
+/// Adds to the count of a word.
+pub fn add<C: Caller>(caller: &mut C, table: u32, word: &[u8], n: u64) -> Result<(), OutOfHeap>
+    requires table { HasCountTable (C.standing caller.old) (C.knows caller.old) table word.now n }
+    requires word { length word.now ≤ WORD_LIMIT }
+    requires page { PAGE_WORDS ≤ (C.standing caller.old).limits.page }
+    requires names { (C.standing caller.old).own.made ≤ MOST_MADE }
+    requires room { length (stack_in (C.standing caller.old)) + FREE_SLOTS ≤ STACK_SLOTS }
+    ensures ran { OnOk result (AddRan C.base C.tells C.tells_known C.standing caller.old caller.new word.now) }
+    ensures ran_out { OnErr result (AddRanOut C.base C.tells C.tells_known C.standing caller.old caller.new word.now) }
+    ensures stack { stack_in (C.standing caller.new) ≡ stack_in (C.standing caller.old) }
+    ensures counted { OnOk result ((known : KnownObjects) (name : Name) (counts : WordCounts) (may : MayCount (C.standing caller.old) known table word.now n name counts) → C.knows caller.old known → IsCounted (C.standing caller.old) (C.standing caller.new) known table word.now n name counts may (C.knows caller.new)) }
+    ensures kept { OnErr result ((known : KnownObjects) (name : Name) (counts : WordCounts) → MayCount (C.standing caller.old) known table word.now n name counts → C.knows caller.old known → IsUncounted known word.now name counts (C.knows caller.new)) }
+{
+    let top = stack_size(caller);
+    add_links(caller, table, word, n, top)
+}
