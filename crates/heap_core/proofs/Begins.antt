@@ -85,7 +85,7 @@ stands-deepened m c s l t d h ht most least = record {
   dense = h.dense;
 }
 
-depth_words : (m : Areas) (c : Contents) (s : SpaceState) (h : Stands m c s) (t : ℕ) → depth_of c t ≡ (thread_of s.graph t).depth
+pub depth_words : (m : Areas) (c : Contents) (s : SpaceState) (h : Stands m c s) (t : ℕ) → depth_of c t ≡ (thread_of s.graph t).depth
 depth_words m c s h t = ap (λ (is : List ℕ). get_or is (t - 1) 0) h.stands.depths ∙ depth-shown s t
 
 pub too_deep : (m : Areas) (c : Contents) (t : ℕ) → HasThread m t → MAX_DEPTH ≤ depth_of c t → Turned m c c t call.Begin (reply.Refused refusal.TooDeep)

@@ -255,10 +255,10 @@ placed-stacks m c c1 t x size a placed = ⊎_elim
     placed
 
 -- an object that is made, and the reference to it that is pushed
-pub make_turns : (m : Areas) (c c1 c2 c3 d : Contents) (t k made a first second w : ℕ) (r : Reply) → IsAreas m → HasThread m t → k ≤ MAX_FIELDS → length (stack_of c t) < STACK_SLOTS → made ≡ made_of c t → made < MAX_SERIAL → Shape m c → length c.made ≡ m.threads → PoolStands m c1.heads c1.pool c1.table → CurrentsStand m c1.currents c1.table → first ≡ header_word (record { fields = k; space = space_index (inner_of t (depth_of c t)) }) → second ≡ name_word (record { thread = t; serial = made + 1 }) → w ≡ 2 * (a + 1) → IsPlaced m c t (inner_of t (depth_of c t)) (k + OBJECT_WORDS) a c1 → IsWritten c1 c2 a first second (k + OBJECT_WORDS) (k + OBJECT_WORDS) → c3 ≡ with_made c2 t (made + 1) → IsPushed c3 d t w r → Turned m c d t (call.New k) r
+pub make_turns : (m : Areas) (c c1 c2 c3 d : Contents) (t k made a first second w : ℕ) (r : Reply) → IsAreas m → HasThread m t → k ≤ MAX_FIELDS → length (stack_of c t) < STACK_SLOTS → made ≡ made_of c t → made < MAX_SERIAL → Shape m c → length c.made ≡ m.threads → PoolStands m c1.heads c1.pool c1.table → CurrentsStand m c1.currents c1.table → first ≡ header_word (record { fields = k; space = space_index (inner_of t (depth_of c t)) }) → second ≡ name_word (record { thread = t; serial = made + 1 }) → w ≡ 2 * (a + 1) → IsPlaced m c t (inner_of t (depth_of c t)) (k + OBJECT_WORDS) a c1 → IsWritten c1 c2 a first second (k + OBJECT_WORDS) (k + OBJECT_WORDS) → c3 ≡ with_made c2 t (made + 1) → IsPushed c3 d t w r → (r ≡ reply.Ok) × Turned m c d t (call.New k) reply.Ok
 make_turns m c c1 c2 c3 d t k made a first second w r areas ht few room is_made left shape long pool1 cur1 ef es ew placed written hm pushed = ⊎_elim
     (λ (p : (length (stack_of c3 t) < STACK_SLOTS) × (r ≡ reply.Ok) × (d ≡ with_stack c3 t (stack_of c3 t ++ w ∷ []))).
-    subst (λ (q : Reply). Turned m c d t (call.New k) q) (sym p.1) (made_turns m c c1 c2 c3 d t k made a first second w r areas ht few room is_made left shape long pool1 cur1 ef es ew placed written hm p.2))
+    (p.1, made_turns m c c1 c2 c3 d t k made a first second w r areas ht few room is_made left shape long pool1 cur1 ef es ew placed written hm p.2))
     (λ (p : (length (stack_of c3 t) ≡ STACK_SLOTS) × (r ≡ reply.Refused refusal.StackFull) × (d ≡ c3)).
     let stacks : c3.stacks ≡ c.stacks = ap (λ (x : Contents). x.stacks) hm ∙ ap (λ (x : Contents). x.stacks) written.rest ∙ placed-stacks m c c1 t (inner_of t (depth_of c t)) (k + OBJECT_WORDS) a placed in
     let same : length (stack_of c3 t) ≡ length (stack_of c t) = ap (λ (ss : List (List ℕ)). length (get_or ss (t - 1) [])) stacks in

@@ -27,7 +27,7 @@ abbrev pub SomeStands : Areas → Contents → Type 0
 SomeStands m c = ∥ ((s : SpaceState) × Stands m c s) ∥₁
 
 -- a number is in a list, or isn't
-find_in : (xs : List ℕ) (p : ℕ) → Contains xs p ⊎ (Contains xs p → ⊥)
+pub find_in : (xs : List ℕ) (p : ℕ) → Contains xs p ⊎ (Contains xs p → ⊥)
 find_in [] p = inr (λ h. let lt : h.0 < 0 = h.1 in omega (arith, lt))
 find_in (x ∷ xs) p = ⊎_elim
     (λ (e : x ≡ p). inl (subst (Contains (x ∷ xs)) e (Contains-front xs x)))

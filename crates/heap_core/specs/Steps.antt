@@ -1,7 +1,6 @@
 -- What a step of a thread does to the heap.
-use Rattle.std.specs.Prelude.{◌≡◌, ◌⊎◌, ℕ, ◌<◌, List, [], ◌∷◌, ◌++◌, length, cond}
+use Rattle.std.specs.Prelude.{◌≡◌, ◌⊎◌, ℕ, ◌<◌, List, [], ◌∷◌, ◌++◌, length, cond, false, None}
 use Rattle.object_layout.specs.declared.calls.Call.{Call}
-use Rattle.object_layout.specs.declared.calls.Call.TheVariants.{Int, Null, Dup, Pop, New, Load, Store, Get, Same, Begin, End, Collect, Census}
 use Rattle.object_layout.specs.declared.replies.Reply.{Reply}
 use Rattle.object_layout.specs.declared.replies.Reply.TheVariants.{Ok, Refused}
 use Rattle.object_layout.specs.declared.replies.Refusal.TheVariants.{StackFull}
@@ -16,21 +15,9 @@ use Rattle.heap_core.specs.declared.owned.Stepped.{Stepped}
 use Rattle.heap_core.specs.Room.{TakesRoom}
 use Rattle.heap_core.specs.Records.{Records}
 
--- The calls that the heap answers.
-abbrev pub IsBuilt : Call → Type 0
-IsBuilt (Int i) = Unit {0}
-IsBuilt Null = Unit {0}
-IsBuilt (Dup s) = Unit {0}
-IsBuilt Pop = Unit {0}
-IsBuilt (New k) = Unit {0}
-IsBuilt (Load s f) = Unit {0}
-IsBuilt (Store s f x) = Unit {0}
-IsBuilt (Get s) = Unit {0}
-IsBuilt (Same s x) = Unit {0}
-IsBuilt Begin = Unit {0}
-IsBuilt End = ⊥
-IsBuilt Collect = ⊥
-IsBuilt Census = ⊥
+-- A step that says no more than its reply.
+abbrev pub plain : Reply → Stepped
+plain said = record { reply = said; collected = false; full = None; shortage = None }
 
 -- The entries of a step in the history: the call with its reply, after the collection that it made.
 abbrev pub entries : ℕ → Call → Stepped → List Entry

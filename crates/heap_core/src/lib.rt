@@ -2,15 +2,19 @@
 #![tactic(auto)]
 
 mod barriers;
+mod caller;
 mod calls;
+mod collections;
+mod endings;
 mod epochs;
 mod fields;
 mod made;
 mod objects;
 mod owned;
 mod slots;
+mod stub;
 
-pub use calls::is_built;
+pub use caller::CoreCaller;
 pub use owned::{Core, Stepped};
 
 /// The fields of the root object.
@@ -22,7 +26,7 @@ pub const ROOT_WORDS: u64 = 19;
 mod tests {
     use super::*;
     use heap_words::{Image, buffer_length};
-    use object_layout::{Call, Refusal, Reply};
+    use object_layout::{Call, Census, Refusal, Reply, Shortage};
     use remember_sets::entries;
     use std::test::Fail;
 
@@ -79,12 +83,67 @@ mod tests {
         };
         assert_eq!(rt; core.step(2, Call::New(0)).reply, Reply::Ok);
         assert_eq!(rt; core.step(1, Call::New(234)).reply, Reply::Ok);
-        assert_eq!(rt; core.step(1, Call::New(0)).reply, Reply::OutOfHeap);
+        let made = core.step(1, Call::New(0));
+        assert_eq!(rt; made.reply, Reply::Ok);
+        assert_eq!(rt; made.collected, true);
         assert_eq!(rt; core.step(2, Call::Dup(1)).reply, Reply::Ok);
         assert_eq!(rt; core.step(2, Call::Same(1, 2)).reply, Reply::Yes);
         assert_eq!(rt;
             core.step(2, Call::Store(1, 0, 0)).reply,
             Reply::Refused(Refusal::BadField)
+        );
+        Ok(())
+    }
+
+    #[test]
+    fn a_full_heap_says_so(rt: HostRuntime) -> Result<(), Fail> {
+        let mut core = match Core::new(rt.alloc(), 1, 1) {
+            Ok(core) => core,
+            Err(error) => panic!(rt; "no heap: {error}"),
+        };
+        assert_eq!(rt; core.step(1, Call::New(234)).reply, Reply::Ok);
+        let full = core.step(1, Call::New(0));
+        assert_eq!(rt; full.reply, Reply::OutOfHeap);
+        assert_eq!(rt;
+            full.full,
+            Some(Census {
+                free: 0,
+                region: 0,
+                control: 1
+            })
+        );
+        assert_eq!(rt; core.step(1, Call::Pop).reply, Reply::Ok);
+        assert_eq!(rt; core.step(1, Call::New(0)).reply, Reply::Ok);
+        Ok(())
+    }
+
+    #[test]
+    fn an_end_may_be_tight(rt: HostRuntime) -> Result<(), Fail> {
+        let mut core = match Core::new(rt.alloc(), 2, 1) {
+            Ok(core) => core,
+            Err(error) => panic!(rt; "no heap: {error}"),
+        };
+        assert_eq!(rt; core.step(1, Call::New(234)).reply, Reply::Ok);
+        assert_eq!(rt; core.step(1, Call::Begin).reply, Reply::Ok);
+        assert_eq!(rt; core.step(1, Call::New(10)).reply, Reply::Ok);
+        assert_eq!(rt; core.step(1, Call::Store(0, 0, 2)).reply, Reply::Ok);
+        let ended = core.step(1, Call::End);
+        assert_eq!(rt;
+            ended.reply,
+            Reply::Ended {
+                moved: 1,
+                tight: true
+            }
+        );
+        assert_eq!(rt; ended.collected, true);
+        assert_eq!(rt; ended.shortage, Some(Shortage { needed: 1, free: 0 }));
+        assert_eq!(rt;
+            core.step(1, Call::Census).reply,
+            Reply::Pages {
+                free: 0,
+                region: 0,
+                control: 2
+            }
         );
         Ok(())
     }

@@ -1,6 +1,6 @@
 //! The making of objects.
 
-ghost use Rattle.std.specs.Prelude.{◌≡◌, ◌≤◌, ◌<◌, ◌+◌, ◌*◌, ℕ, [], length, IfOk, IfErr};
+ghost use Rattle.std.specs.Prelude.{◌≡◌, ◌≤◌, ◌<◌, ◌+◌, ◌*◌, ℕ, ◌⊎◌, [], length, IfOk, IfErr};
 ghost use Rattle.object_layout.specs.Layout.{header_word, name_word};
 ghost use Rattle.object_layout.specs.declared.TheConstants.{MAX_FIELDS, MAX_SERIAL, OBJECT_WORDS};
 ghost use Rattle.heap_words.specs.declared.TheConstants.{STACK_SLOTS};
@@ -11,9 +11,16 @@ ghost use Rattle.yak_model.specs.Spaces.{SpaceState};
 ghost use Rattle.yak_model.specs.Stands.{CurrentsStand, PoolStands, Stands, free_pages};
 ghost use Rattle.region_pages.specs.Placement.{IsPlaced, words_left_at};
 ghost use Rattle.heap_core.specs.Steps.{Turned};
+ghost use Rattle.heap_core.specs.Room.{HasNoRoom};
+ghost use Rattle.heap_core.specs.Makings.{MadeAfter, FullAfter, IsMade};
+ghost use Rattle.heap_core.specs.Records.{SomeRecorded};
+ghost use Rattle.object_layout.specs.declared.replies.Reply.TheVariants as reply;
 ghost use Rattle.heap_core.specs.Objects.{IsWritten};
 
+use crate::calls::plain_step;
+use crate::owned::Stepped;
 use crate::slots::push_word;
+use crate::stub::collect;
 use epoch_lattice::{index_of, inner};
 use heap_words::{
     Areas, STACK_SLOTS, Words, get_depth, get_made, set_heap, set_made, stack_length,
@@ -22,7 +29,7 @@ use object_layout::{
     Addr, Call, Header, MAX_FIELDS, MAX_SERIAL, Name, NoPage, OBJECT_WORDS, Refusal, Reply, Value,
     encode_header, encode_name, encode_value,
 };
-use region_pages::place;
+use region_pages::{census, place};
 
 /// Writes an object of so many words with null fields: its header, its name and words of 0.
 fn write_object<W: Words>(words: &mut W, map: Areas, a: usize, header: u64, name: u64, size: u16)
@@ -76,7 +83,17 @@ fn new_place<W: Words>(words: &mut W, map: Areas, thread: u8, size: u16) -> Resu
 }
 
 /// Makes an object of so many null fields, where nothing refuses it, and pushes a reference to it.
-fn make<W: Words>(words: &mut W, map: Areas, thread: u8, fields: u16, made: u64) -> Reply
+///
+/// # Errors
+///
+/// `NoPage` where the current page has too few words left and no page is free: then nothing changes.
+fn make<W: Words>(
+    words: &mut W,
+    map: Areas,
+    thread: u8,
+    fields: u16,
+    made: u64,
+) -> Result<Reply, NoPage>
     requires sound { Sound map (W.words words.old) }
     requires thread { HasThread map thread }
     requires stands { ∥ ((state : SpaceState) × Stands map (contents map (W.words words.old)) state) ∥₁ }
@@ -84,13 +101,14 @@ fn make<W: Words>(words: &mut W, map: Areas, thread: u8, fields: u16, made: u64)
     requires slot { length (stack_of (contents map (W.words words.old)) thread) < STACK_SLOTS }
     requires made { made ≡ made_of (contents map (W.words words.old)) thread }
     requires unspent { made < MAX_SERIAL }
-    ensures turns { Turned map (contents map (W.words words.old)) (contents map (W.words words.new)) thread (Call.New fields) result }
+    ensures made { IfOk result (λ said. (said ≡ reply.Ok) × Turned map (contents map (W.words words.old)) (contents map (W.words words.new)) thread (Call.New fields) reply.Ok) }
+    ensures none { IfErr result (λ _. HasNoRoom map (contents map (W.words words.old)) thread (fields + OBJECT_WORDS) × (W.words words.new ≡ W.words words.old)) }
     ensures sound { Sound map (W.words words.new) }
     ensures base { W.base words.new ≡ W.base words.old }
 {
     let header = new_header(words, map, thread, fields);
     let Ok(a) = new_place(words, map, thread, fields + OBJECT_WORDS) else {
-        return Reply::OutOfHeap;
+        return Err(NoPage);
     };
     let name = encode_name(Name {
         thread,
@@ -105,28 +123,68 @@ fn make<W: Words>(words: &mut W, map: Areas, thread: u8, fields: u16, made: u64)
         fields + OBJECT_WORDS,
     );
     set_made(words, map, thread, made + 1);
-    push_word(words, map, thread, encode_value(Value::Ref(a)))
+    Ok(push_word(words, map, thread, encode_value(Value::Ref(a))))
 }
 
-/// Makes an object of so many null fields in a thread's innermost space, and pushes a reference to it.
-pub fn new_object<W: Words>(words: &mut W, map: Areas, thread: u8, k: u32) -> Reply
+/// Makes an object after a collection of the control space, or says that the heap is full for it then.
+fn make_collected<W: Words>(
+    words: &mut W,
+    map: Areas,
+    thread: u8,
+    fields: u16,
+    made: u64,
+) -> Stepped
     requires sound { Sound map (W.words words.old) }
     requires thread { HasThread map thread }
-    requires stands { ∥ ((state : SpaceState) × Stands map (contents map (W.words words.old)) state) ∥₁ }
-    ensures turns { Turned map (contents map (W.words words.old)) (contents map (W.words words.new)) thread (Call.New k) result }
+    requires recorded { SomeRecorded map (contents map (W.words words.old)) }
+    requires few { fields ≤ MAX_FIELDS }
+    requires slot { length (stack_of (contents map (W.words words.old)) thread) < STACK_SLOTS }
+    requires made { made ≡ made_of (contents map (W.words words.old)) thread }
+    requires unspent { made < MAX_SERIAL }
+    ensures made { MadeAfter map (contents map (W.words words.old)) (contents map (W.words words.new)) thread fields result ⊎ FullAfter map (contents map (W.words words.old)) (contents map (W.words words.new)) thread fields result }
+    ensures sound { Sound map (W.words words.new) }
+    ensures base { W.base words.new ≡ W.base words.old }
+{
+    collect(words, map, thread);
+    match make(words, map, thread, fields, made) {
+        Ok(reply) => Stepped {
+            reply,
+            collected: true,
+            full: None,
+            shortage: None,
+        },
+        Err(_) => Stepped {
+            reply: Reply::OutOfHeap,
+            collected: true,
+            full: Some(census(words, map)),
+            shortage: None,
+        },
+    }
+}
+
+/// Makes an object of so many null fields in a thread's innermost space, and pushes a reference to it. Where the object doesn't
+/// fit the current page and no page is free, the control space is collected first.
+pub fn new_object<W: Words>(words: &mut W, map: Areas, thread: u8, k: u32) -> Stepped
+    requires sound { Sound map (W.words words.old) }
+    requires thread { HasThread map thread }
+    requires recorded { SomeRecorded map (contents map (W.words words.old)) }
+    ensures made { IsMade map (contents map (W.words words.old)) (contents map (W.words words.new)) thread k result }
     ensures sound { Sound map (W.words words.new) }
     ensures base { W.base words.new ≡ W.base words.old }
 {
     if k > MAX_FIELDS as u32 {
-        return Reply::Refused(Refusal::TooLong);
+        return plain_step(Reply::Refused(Refusal::TooLong));
     }
     let count = stack_length(words, map, thread);
     if count >= STACK_SLOTS {
-        return Reply::Refused(Refusal::StackFull);
+        return plain_step(Reply::Refused(Refusal::StackFull));
     }
     let made = get_made(words, map, thread);
     if made >= MAX_SERIAL {
-        return Reply::Refused(Refusal::NamesSpent);
+        return plain_step(Reply::Refused(Refusal::NamesSpent));
     }
-    make(words, map, thread, k as u16, made)
+    match make(words, map, thread, k as u16, made) {
+        Ok(reply) => plain_step(reply),
+        Err(_) => make_collected(words, map, thread, k as u16, made),
+    }
 }

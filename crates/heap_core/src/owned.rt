@@ -1,20 +1,26 @@
 //! A heap that is owned, with its words.
 
-ghost use Rattle.std.specs.Prelude.{◌≡◌, ◌≤◌, ◌<◌, ◌+◌, ◌-◌, ◌↔◌, ℕ, false, IfOk, IfErr, None};
+ghost use Rattle.std.specs.Prelude.{◌≡◌, ◌≤◌, ◌<◌, ◌+◌, ◌-◌, ◌↔◌, ℕ, List, IfOk, IfErr};
 ghost use Rattle.object_layout.specs.Calls.{IsCall};
 ghost use Rattle.heap_words.specs.Map.{HasThread, IsAreas};
-ghost use Rattle.heap_words.specs.Contents.{contents, Sound};
+ghost use Rattle.heap_words.specs.Contents.{contents, depth_of, Sound};
 ghost use Rattle.yak_model.specs.Graph.{standard_limits};
 ghost use Rattle.yak_model.specs.Spaces.{SpaceState, TurnsAll, opening_spaces};
 ghost use Rattle.yak_model.specs.Stands.{Stands};
 ghost use Rattle.yak_model.specs.Recorded.{Recorded};
-ghost use Rattle.heap_core.specs.Records.{Records, SomeRecorded, StandsRecorded};
-ghost use Rattle.heap_core.specs.Room.{TakesRoom};
-ghost use Rattle.heap_core.specs.Steps.{IsBuilt, entries};
+ghost use Rattle.yak_model.specs.History.{Entry};
+ghost use Rattle.yak_model.specs.Lawful.{present_words};
+ghost use Rattle.heap_core.specs.Callers.{words_used};
+ghost use Rattle.heap_core.specs.Done.{CollectsWhere, EndsSo, FillsHeap, PacksControl, StepRecords, StepRoom, TellsFull, TellsPages, TellsShortage};
+ghost use Rattle.heap_core.specs.EpochEnds.{ReadsFew};
+ghost use Rattle.heap_core.specs.Lawful.{AreLawful, PackedIfAsked};
+ghost use Rattle.heap_core.specs.Records.{SomeRecorded, StandsRecorded};
+ghost use Rattle.heap_core.specs.Steps.{entries};
 
 use crate::calls::answer;
+use crate::caller::words_in_use;
 use crate::made::open_words;
-use heap_words::{Areas, Image, MakeError, Words};
+use heap_words::{Areas, Image, MakeError, Words, get_depth};
 use object_layout::{Call, Census, Reply, Shortage};
 use std::alloc::Global;
 
@@ -69,23 +75,22 @@ impl<W: Words> Core<W> {
     pub fn step(&mut self, thread: u8, call: Call) -> Stepped
         requires thread { HasThread self.old.map thread }
         requires number { IsCall call }
-        requires built { IsBuilt call }
         ensures turns { (s : SpaceState) (h : Stands self.old.map (contents self.old.map (W.words self.old.words)) s) → (after : SpaceState) × TurnsAll s (entries thread call result) after × (later : Stands self.new.map (contents self.new.map (W.words self.new.words)) after) × (Recorded self.old.map (contents self.old.map (W.words self.old.words)) s h → Recorded self.new.map (contents self.new.map (W.words self.new.words)) after later) }
-        ensures records { (s : SpaceState) (h : Stands self.old.map (contents self.old.map (W.words self.old.words)) s) → Records self.old.map s h.places.at (contents self.old.map (W.words self.old.words)) (contents self.new.map (W.words self.new.words)) thread call result.reply }
-        ensures room { TakesRoom self.old.map (contents self.old.map (W.words self.old.words)) (contents self.new.map (W.words self.new.words)) thread call result.reply }
-        ensures collected { result.collected ≡ false }
-        ensures full { result.full ≡ None }
-        ensures shortage { result.shortage ≡ None }
+        ensures lawful { (s : SpaceState) (h : Stands self.old.map (contents self.old.map (W.words self.old.words)) s) → Recorded self.old.map (contents self.old.map (W.words self.old.words)) s h → (before : List Entry) → PackedIfAsked self.old.map (contents self.old.map (W.words self.old.words)) s h before → AreLawful self.old.map.pages before s (entries thread call result) }
+        ensures collected { (s : SpaceState) (h : Stands self.old.map (contents self.old.map (W.words self.old.words)) s) → CollectsWhere self.old.map (contents self.old.map (W.words self.old.words)) s h thread call result.reply result.collected }
+        ensures full { TellsFull (contents self.new.map (W.words self.new.words)) result.reply result.full }
+        ensures filled { (s : SpaceState) (h : Stands self.new.map (contents self.new.map (W.words self.new.words)) s) → FillsHeap self.new.map (contents self.new.map (W.words self.new.words)) s h thread call result.reply }
+        ensures shortage { (s : SpaceState) → Stands self.old.map (contents self.old.map (W.words self.old.words)) s → TellsShortage self.old.map s thread result.reply result.shortage }
+        ensures ended { EndsSo self.old.map (contents self.old.map (W.words self.old.words)) (contents self.new.map (W.words self.new.words)) thread call result }
+        ensures census { TellsPages (contents self.old.map (W.words self.old.words)) call result.reply }
+        ensures packed { (s : SpaceState) (h : Stands self.new.map (contents self.new.map (W.words self.new.words)) s) → PacksControl self.new.map (contents self.new.map (W.words self.new.words)) s h call }
+        ensures records { (s : SpaceState) (h : Stands self.old.map (contents self.old.map (W.words self.old.words)) s) → StepRecords self.old.map s h.places.at (contents self.old.map (W.words self.old.words)) (contents self.new.map (W.words self.new.words)) thread call result.reply result.collected }
+        ensures room { StepRoom self.old.map (contents self.old.map (W.words self.old.words)) (contents self.new.map (W.words self.new.words)) thread call result.reply result.collected }
+        ensures reads { (s : SpaceState) (h : Stands self.old.map (contents self.old.map (W.words self.old.words)) s) → ReadsFew self.old.map (contents self.old.map (W.words self.old.words)) s h thread call result (W.reads self.old.words) (W.reads self.new.words) }
         ensures map { self.new.map ≡ self.old.map }
         ensures base { W.base self.new.words ≡ W.base self.old.words }
     {
-        let reply = answer(&mut self.words, self.map, thread, call);
-        Stepped {
-            reply,
-            collected: false,
-            full: None,
-            shortage: None,
-        }
+        answer(&mut self.words, self.map, thread, call)
     }
 
     /// The number of threads.
@@ -100,6 +105,28 @@ impl<W: Words> Core<W> {
         ensures { result ≡ self.now.map.pages }
     {
         self.map.pages
+    }
+
+    /// The depth of a thread: how many epochs it has open.
+    pub fn depth(&mut self, thread: u8) -> u8
+        requires thread { HasThread self.old.map thread }
+        ensures depth { result ≡ depth_of (contents self.old.map (W.words self.old.words)) thread }
+        ensures words { W.words self.new.words ≡ W.words self.old.words }
+        ensures map { self.new.map ≡ self.old.map }
+        ensures base { W.base self.new.words ≡ W.base self.old.words }
+    {
+        get_depth(&mut self.words, self.map, thread)
+    }
+
+    /// The words of all objects that are present.
+    pub fn present_words(&mut self) -> u64
+        ensures present { (s : SpaceState) → Stands self.old.map (contents self.old.map (W.words self.old.words)) s → result ≡ present_words s }
+        ensures used { result ≡ words_used (contents self.old.map (W.words self.old.words)).table }
+        ensures words { W.words self.new.words ≡ W.words self.old.words }
+        ensures map { self.new.map ≡ self.old.map }
+        ensures base { W.base self.new.words ≡ W.base self.old.words }
+    {
+        words_in_use(&mut self.words, self.map)
     }
 
     /// The words of the heap.

@@ -1,7 +1,8 @@
+use Rattle.std.proofs.Common.{◌∙◌}
 use Rattle.heap_words.specs.Contents.{contents}
 use Rattle.heap_words.proofs.Contents.{length-made}
 use Rattle.region_pages.proofs.Shapes.{shape}
-use Rattle.heap_core.proofs.Makes.{make_turns, out_of_heap}
+use Rattle.heap_core.proofs.Makes.{make_turns}
 use Rattle.heap_core.proofs.objects.make.Goals as goal
 
 pub new_place-requires-clause-stands : goal.new_place-requires-clause-stands
@@ -10,14 +11,13 @@ new_place-requires-clause-stands g c = rw c.new_header-header.ensures.words c.re
 pub write_object-requires-clause-within : goal.write_object-requires-clause-within
 write_object-requires-clause-within g c = c.in-Ok.ensures.within
 
-pub returns-in_default-clause-turns : goal.returns-in_default-clause-turns
-returns-in_default-clause-turns g c =
-    let left = rw c.requires.made at c.requires.unspent in
+pub returns-in_default-clause-none : goal.returns-in_default-clause-none
+returns-in_default-clause-none g c =
     let none = rw c.new_header-header.ensures.words at c.in_default.ensures.none in
-    rw (c.in_default.ensures.none.2, c.new_header-header.ensures.words) (out_of_heap c.args.map (contents c.args.map (g.W.Words.words c.args.words.now)) c.args.thread c.args.fields c.requires.thread c.requires.few c.requires.slot left (record { few_left = none.0; none_free = none.1 }))
+    (record { few_left = none.0; none_free = none.1 }, c.in_default.ensures.none.2 ∙ c.new_header-header.ensures.words)
 
-pub returns-clause-turns : goal.returns-clause-turns
-returns-clause-turns g c =
+pub returns-clause-made : goal.returns-clause-made
+returns-clause-made g c =
     let m = c.args.map in
     let words = g.W.Words.words c.args.words.now in
     let placed = rw c.new_header-header.ensures.words at c.in-Ok.ensures.placed in

@@ -1,0 +1,97 @@
+-- A step as a call of a caller, over the words before it and after it.
+use Rattle.std.proofs.Common.{◌≡◌, ◌≢◌, ℕ, ◌+◌, ◌≤◌, List, length, min, ◌-◌, ◌^◌, refl, ◌∙◌, ap, sym, subst, Option, Some, None, MatchOption, arith}
+use Rattle.std.proofs.Math.Logic.{∥∥₁_elim, ∥∥₁_map}
+use Rattle.std.proofs.Props.{props}
+use Rattle.object_layout.specs.declared.calls.Call.{Call}
+use Rattle.object_layout.specs.declared.replies.Census.{Census}
+use Rattle.object_layout.specs.declared.replies.Reply.TheVariants as reply
+use Rattle.heap_words.specs.declared.map.Areas.{Areas}
+use Rattle.heap_words.specs.Map.{HasThread, IsAreas, total_of}
+use Rattle.heap_words.specs.Contents.{contents, depth_of}
+use Rattle.yak_model.specs.Recorded.{Recorded}
+use Rattle.yak_model.specs.Spaces.{SpaceState, TurnsAll}
+use Rattle.yak_model.specs.Standing.{Counted, MovesKnown, counted_on, words_made}
+use Rattle.yak_model.specs.Stands.{Stands}
+use Rattle.region_pages.proofs.Shapes.{shape}
+use Rattle.heap_core.specs.declared.owned.Stepped.{Stepped}
+use Rattle.heap_core.specs.Callers.{FillsPages, KnowsAlone, TellsKnown, TellsThread, standing_told, thread_told, words_asked, words_used}
+use Rattle.heap_core.specs.Collecting.{CountsFull}
+use Rattle.heap_core.specs.Done.{FillsHeap, TellsFull}
+use Rattle.heap_core.specs.Records.{SomeRecorded}
+use Rattle.heap_core.specs.Steps.{entries}
+use Rattle.heap_core.proofs.Calling.{moves-known}
+use Rattle.heap_core.proofs.Filling.{Steps, counted-full, fills-pages, holds-after, tells-after, tells_known-after, used-after, used-within}
+use Rattle.heap_core.proofs.Sound.{sound-from}
+
+long-table : (m : Areas) (ws : List ℕ) → IsAreas m → length ws ≡ total_of m → SomeRecorded m (contents m ws) → length (contents m ws).table ≡ m.pages
+long-table m ws areas whole some = (shape m ws (sound-from m ws areas whole (∥∥₁_map some (λ q. (q.0, q.1))))).table
+
+-- what a step says of the words before it and after it
+pub record Called (m : Areas) (before later : List ℕ) (t : ℕ) (asked : Call) (stepped : Stepped) : Type 0 where
+  pub areas : IsAreas m
+  pub thread : HasThread m t
+  pub steps : Steps m (contents m before) (contents m later) t asked stepped
+  pub some : SomeRecorded m (contents m before)
+  pub some_now : SomeRecorded m (contents m later)
+  pub long : length (contents m before).table ≡ m.pages
+  pub longer : length (contents m later).table ≡ m.pages
+  pub fills : (s : SpaceState) (h : Stands m (contents m later) s) → FillsHeap m (contents m later) s h t asked stepped.reply
+  pub tells : TellsFull (contents m later) stepped.reply stepped.full
+
+pub called : (m m' : Areas) → m' ≡ m → (before later : List ℕ) (t : ℕ) (asked : Call) (stepped : Stepped) → IsAreas m → HasThread m t → length before ≡ total_of m → length later ≡ total_of m'
+    → SomeRecorded m (contents m before) → SomeRecorded m' (contents m' later)
+    → ((s : SpaceState) (h : Stands m (contents m before) s) → (after : SpaceState) × TurnsAll s (entries t asked stepped) after × (stands : Stands m' (contents m' later) after) × (Recorded m (contents m before) s h → Recorded m' (contents m' later) after stands))
+    → ((s : SpaceState) (h : Stands m' (contents m' later) s) → FillsHeap m' (contents m' later) s h t asked stepped.reply)
+    → TellsFull (contents m' later) stepped.reply stepped.full → Called m before later t asked stepped
+called m m' e before later t asked stepped areas thread whole whole' some some' turns fills tells =
+    let whole_now : length later ≡ total_of m = subst (λ (x : Areas). length later ≡ total_of x) e whole' in
+    let some_now : SomeRecorded m (contents m later) = subst (λ (x : Areas). SomeRecorded x (contents x later)) e some' in
+    record {
+      areas = areas;
+      thread = thread;
+      steps = subst (λ (x : Areas). (s : SpaceState) (h : Stands m (contents m before) s) → (after : SpaceState) × TurnsAll s (entries t asked stepped) after × (stands : Stands x (contents x later) after) × (Recorded m (contents m before) s h → Recorded x (contents x later) after stands)) e turns;
+      some = some;
+      some_now = some_now;
+      long = long-table m before areas whole some;
+      longer = long-table m later areas whole_now some_now;
+      fills = subst (λ (x : Areas). (s : SpaceState) (h : Stands x (contents x later) s) → FillsHeap x (contents x later) s h t asked stepped.reply) e fills;
+      tells = subst (λ (x : Areas). TellsFull (contents x later) stepped.reply stepped.full) e tells;
+    }
+
+module _ (m : Areas) (before later : List ℕ) (t : ℕ) (asked : Call) (stepped : Stepped) (k : Called m before later t asked stepped) where
+  pub call-tells : (u : ℕ) (own : _) → TellsThread m (contents m before) t u own → TellsThread m (contents m later) t u own
+  call-tells = tells-after m (contents m before) (contents m later) t asked stepped k.steps k.thread k.some
+
+  pub call-tells_known : (u : ℕ) (known : _) → TellsKnown m (contents m before) t u known → TellsKnown m (contents m later) t u known
+  call-tells_known = tells_known-after m (contents m before) (contents m later) t asked stepped k.steps k.thread
+
+  pub call-knows : (made refusals : ℕ) (last : Option (Census × ℕ × ℕ)) (known : _) → KnowsAlone m (contents m before) t known → MovesKnown (standing_told (contents m before) t made refusals last) known asked stepped.reply (thread_told (contents m later) t) (KnowsAlone m (contents m later) t)
+  call-knows made refusals last known knows =
+      let turn = k.steps knows.state knows.stands in
+      moves-known m (contents m before) knows.state knows.stands (contents m later) t known knows.made knows.private asked stepped turn.0 turn.1 turn.2 made refusals last
+
+  pub call-holds : (present made made' more : ℕ) → words_used (contents m before).table ≤ present + made → more ≡ words_made asked stepped.reply → made' ≡ counted_on made more → words_used (contents m later).table ≤ present + made'
+  call-holds present made made' more holds same count =
+      let grows = used-after m (contents m before) (contents m later) t asked stepped k.steps k.thread k.some k.long k.longer in
+      let within = ∥∥₁_elim k.some_now (hlevel props) (λ q. used-within m (contents m later) q.0 q.1 k.longer) in
+      let after = holds-after m (words_used (contents m before).table) (words_used (contents m later).table) present made more k.areas holds (omega (arith, grows, same)) within in
+      omega (arith, after, count)
+
+  -- where the counts of the pages are told, the heap was full
+  is-full : (census : Census) → stepped.full ≡ Some census → (stepped.reply ≡ reply.OutOfHeap) × CountsFull (contents m later) census
+  is-full census e = subst (λ o. MatchOption o (stepped.reply ≢ reply.OutOfHeap) (λ counts. (stepped.reply ≡ reply.OutOfHeap) × CountsFull (contents m later) counts)) e k.tells
+
+  pub call-fills : (census : Census) → stepped.full ≡ Some census → (words : ℕ) → words_used (contents m later).table ≤ words → FillsPages m words (depth_of (contents m later) t)
+  call-fills census e = fills-pages m (contents m before) (contents m later) t asked stepped k.steps k.thread k.some k.some_now k.fills (is-full census e).0 k.areas k.longer
+
+  pub call-counted : (made made' refusals refusals' depth words : ℕ) (last : Option (Census × ℕ × ℕ)) (census : Census) → stepped.full ≡ Some census → made' ≡ counted_on made (words_made asked stepped.reply) → refusals' ≡ counted_on refusals 1 → depth ≡ depth_of (contents m later) t → words ≡ min (words_asked asked) (2 ^ 16 - 1)
+      → Counted (standing_told (contents m before) t made refusals last) asked stepped.reply (standing_told (contents m later) t made' refusals' (Some (census, depth, words)))
+  call-counted made made' refusals refusals' depth words last census e =
+      counted-full m (contents m before) (contents m later) t asked stepped k.steps k.thread k.some k.some_now k.fills (is-full census e).0 made made' refusals refusals' depth words last census (is-full census e).1
+
+  -- the same over other names of the words after the call
+  pub call-knows-as : (m' : Areas) (now : List ℕ) → m' ≡ m → now ≡ later → (made refusals : ℕ) (last : Option (Census × ℕ × ℕ)) (known : _) → KnowsAlone m (contents m before) t known → MovesKnown (standing_told (contents m before) t made refusals last) known asked stepped.reply (thread_told (contents m' now) t) (KnowsAlone m' (contents m' now) t)
+  call-knows-as m' now same words made refusals last known knows =
+      subst (λ (x : Areas). MovesKnown (standing_told (contents m before) t made refusals last) known asked stepped.reply (thread_told (contents x now) t) (KnowsAlone x (contents x now) t)) (sym same)
+      (subst (λ (ws : List ℕ). MovesKnown (standing_told (contents m before) t made refusals last) known asked stepped.reply (thread_told (contents m ws) t) (KnowsAlone m (contents m ws) t)) (sym words)
+      (call-knows made refusals last known knows))

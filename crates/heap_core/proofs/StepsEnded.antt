@@ -1,0 +1,177 @@
+-- What steps do that end an epoch.
+use Rattle.std.proofs.Common.{◌≡◌, ◌≢◌, ◌⊎◌, ℕ, ◌+◌, ◌*◌, ◌≤◌, ◌<◌, Bool, true, false, cond, Option, None, Some, List, [], ◌∷◌, ◌++◌, leb, length, refl, sym, ap, subst, ◌∙◌, arith, inl, inr}
+use Rattle.std.proofs.Props.{props}
+use Rattle.std.proofs.Math.Logic.{⊎_elim, ∥∥₁_elim}
+use Rattle.object_layout.specs.declared.calls.Call.TheVariants as call
+use Rattle.object_layout.specs.declared.replies.Reply.{Reply}
+use Rattle.object_layout.specs.declared.replies.Reply.TheVariants as reply
+use Rattle.object_layout.specs.declared.replies.Refusal.TheVariants as refusal
+use Rattle.object_layout.specs.declared.replies.Shortage.{Shortage}
+use Rattle.heap_words.specs.declared.map.Areas.{Areas}
+use Rattle.heap_words.specs.Map.{HasThread, IsAreas}
+use Rattle.heap_words.specs.Contents.{Contents, depth_of}
+use Rattle.yak_model.specs.Graph.{thread_of}
+use Rattle.yak_model.specs.History.{Entry, Said, Collected}
+use Rattle.yak_model.specs.Lawful.{HasWords, open_regions, present_words}
+use Rattle.yak_model.specs.Spaces.{Escapes, SpaceState, innermost}
+use Rattle.yak_model.specs.Stands.{Stands}
+use Rattle.yak_model.specs.Recorded.{Recorded}
+use Rattle.escape_closure.specs.Ends.{RegionEnded}
+use Rattle.heap_core.specs.declared.owned.Stepped.{Stepped}
+use Rattle.heap_core.specs.Done.{CollectsForEnd, Done, RecordsEnd, TellsShortage}
+use Rattle.heap_core.specs.EpochEnds.{CollectedAs, EndedAfter, EndsAs, IsEnd, TightAfter}
+use Rattle.heap_core.specs.EpochEnds as ends
+use Rattle.heap_core.specs.Lawful.{AreLawful, PackedIfAsked}
+use Rattle.heap_core.specs.Records.{SomeRecorded}
+use Rattle.heap_core.specs.Steps.{Turned, TurnsTo, plain}
+use Rattle.heap_core.proofs.Bounds.{tight-bound}
+use Rattle.heap_core.proofs.Begins.{depth_words}
+use Rattle.heap_core.proofs.Recorded.{same_records}
+use Rattle.heap_core.proofs.Steps.{beyond, same_room, thread_in}
+use Rattle.heap_core.proofs.StepsMade.{only-collected}
+
+-- the three ways in which an end goes
+after-cases : (m : Areas) (was now : Contents) (s : SpaceState) (t : ℕ) (P : Reply → Option Shortage → Type 0)
+    → ((moved : ℕ) → EndedAfter m was now s t moved → P (reply.Ended moved false) None)
+    → ((moved : ℕ) (shortage : Shortage) → TightAfter m was now s t moved shortage → P (reply.Ended moved true) (Some shortage))
+    → (said : Reply) (shortage : Option Shortage) → CollectedAs m was now s t said shortage → P said shortage
+after-cases m was now s t P loose tight reply.Ok shortage h = absurd h
+after-cases m was now s t P loose tight reply.Null shortage h = absurd h
+after-cases m was now s t P loose tight (reply.Int i) shortage h = absurd h
+after-cases m was now s t P loose tight (reply.Object n) shortage h = absurd h
+after-cases m was now s t P loose tight reply.Yes shortage h = absurd h
+after-cases m was now s t P loose tight reply.No shortage h = absurd h
+after-cases m was now s t P loose tight (reply.Ended moved false) None h = loose moved h
+after-cases m was now s t P loose tight (reply.Ended moved false) (Some shortage) h = absurd h
+after-cases m was now s t P loose tight (reply.Ended moved true) None h = absurd h
+after-cases m was now s t P loose tight (reply.Ended moved true) (Some shortage) h = tight moved shortage h
+after-cases m was now s t P loose tight (reply.Pages a b c) shortage h = absurd h
+after-cases m was now s t P loose tight reply.OutOfHeap shortage h = absurd h
+after-cases m was now s t P loose tight (reply.Refused why) shortage h = absurd h
+
+once-cases : (m : Areas) (was now : Contents) (s : SpaceState) (h : Stands m was s) (t : ℕ) (P : Reply → Option Shortage → Type 0)
+    → ((moved : ℕ) → RegionEnded m was now s h t moved → P (reply.Ended moved false) None)
+    → (said : Reply) (shortage : Option Shortage) → ends.EndsAtOnce m was now s h t said shortage → P said shortage
+once-cases m was now s h t P loose reply.Ok shortage e = absurd e
+once-cases m was now s h t P loose reply.Null shortage e = absurd e
+once-cases m was now s h t P loose (reply.Int i) shortage e = absurd e
+once-cases m was now s h t P loose (reply.Object n) shortage e = absurd e
+once-cases m was now s h t P loose reply.Yes shortage e = absurd e
+once-cases m was now s h t P loose reply.No shortage e = absurd e
+once-cases m was now s h t P loose (reply.Ended moved false) None e = loose moved e
+once-cases m was now s h t P loose (reply.Ended moved false) (Some shortage) e = absurd e
+once-cases m was now s h t P loose (reply.Ended moved true) shortage e = absurd e
+once-cases m was now s h t P loose (reply.Pages a b c) shortage e = absurd e
+once-cases m was now s h t P loose reply.OutOfHeap shortage e = absurd e
+once-cases m was now s h t P loose (reply.Refused why) shortage e = absurd e
+
+-- the entries of an end
+abbrev pub ending : ℕ → Reply → Bool → List Entry
+ending t said collected = cond collected (Collected t ∷ Said t call.End said ∷ []) (Said t call.End said ∷ [])
+
+-- what is told of an end, over one state
+pub record Ending (m : Areas) (was now : Contents) (s : SpaceState) (h : Stands m was s) (t : ℕ) (said : Reply) (collected : Bool) (shortage : Option Shortage) : Type 0 where
+  pub turns : TurnsTo m was now s h (ending t said collected)
+  pub lawful : (before : List Entry) → AreLawful m.pages before s (ending t said collected)
+  pub makes : CollectsForEnd m was s h t said collected
+  pub tells : TellsShortage m s t said shortage
+  pub records : RecordsEnd was now said
+  pub no_fault : said ≢ reply.OutOfHeap
+
+ended-once : (m : Areas) (was now : Contents) (s : SpaceState) (h : Stands m was s) (t moved : ℕ) → HasThread m t → RegionEnded m was now s h t moved → Ending m was now s h t (reply.Ended moved false) false None
+ended-once m was now s h t moved ht e = record {
+  turns = (e.state.after, (e.state.after, (thread_in m was s h t ht, e.state.ends), refl), e.state.stands, λ r. e.state.recorded);
+  lawful = λ before. (tt, λ mid turned. tt);
+  makes = record { count = moved; order = e.order; enough = e.enough };
+  tells = λ other same. cc;
+  records = e.state.filed;
+  no_fault = λ same. cc;
+}
+
+ended-after : (m : Areas) (was first now : Contents) (s : SpaceState) (h : Stands m was s) (t moved : ℕ) → HasThread m t → ends.IsShort m was s h.places t → EndedAfter m first now s t moved → Ending m was now s h t (reply.Ended moved false) true None
+ended-after m was first now s h t moved ht short e = record {
+  turns = (e.ended.state.after, (e.state.after, (thread_in m was s h t ht, e.state.collects), (e.ended.state.after, (thread_in m e.between e.state.after e.state.stands t ht, e.ended.state.ends), refl)), e.ended.state.stands, λ r. e.ended.state.recorded);
+  lawful = λ before. (inr (moved, false, [], refl), λ mid turned. (tt, λ last more. tt));
+  makes = short;
+  tells = λ other same. cc;
+  records = e.ended.state.filed;
+  no_fault = λ same. cc;
+}
+
+tight-after : (m : Areas) (was first now : Contents) (s : SpaceState) (h : Stands m was s) (t moved : ℕ) (shortage : Shortage) → IsAreas m → HasThread m t → ends.IsShort m was s h.places t → TightAfter m first now s t moved shortage → Ending m was now s h t (reply.Ended moved true) true (Some shortage)
+tight-after m was first now s h t moved shortage areas ht short e = record {
+  turns = (e.ended.state.after, (e.state.after, (thread_in m was s h t ht, e.state.collects), (e.ended.state.after, (thread_in m e.between e.state.after e.state.stands t ht, e.ended.state.ends), refl)), e.ended.state.stands, λ r. e.ended.state.recorded);
+  lawful = λ before. (
+    inr (moved, true, [], refl),
+    λ mid turned. (
+      ((before, refl), only-collected m e.between s mid (λ (z : SpaceState). (escaped : ℕ) × HasWords z (Escapes z t (innermost z.graph t)) escaped × (z.graph.limits.page * m.pages < (2 * present_words z + 2 * escaped) + 2 * z.graph.limits.page * (open_regions z + 1))) e.state turned.1 (tight-bound m e.between e.state.after e.state.stands t shortage areas ht e.ended.state.ends.open_epoch e.state.packed e.short.short)),
+      λ last more. tt,
+    ),
+  );
+  makes = short;
+  tells = ((moved, refl), e.short.short.more, record { between = e.between; state = e.state; short = e.short.short });
+  records = e.ended.state.filed;
+  no_fault = λ same. cc;
+}
+
+ending-of : (m : Areas) (was now : Contents) (s : SpaceState) (h : Stands m was s) (t : ℕ) (said : Reply) (collected : Bool) (shortage : Option Shortage) → IsAreas m → HasThread m t → EndsAs m was now s h t said collected shortage → Ending m was now s h t said collected shortage
+ending-of m was now s h t said false shortage areas ht e = once-cases m was now s h t (λ (r : Reply) (o : Option Shortage). Ending m was now s h t r false o) (λ moved x. ended-once m was now s h t moved ht x) said shortage e
+ending-of m was now s h t said true shortage areas ht e = after-cases m e.first now s t (λ (r : Reply) (o : Option Shortage). Ending m was now s h t r true o)
+    (λ moved x. ended-after m was e.first now s h t moved ht (e.found, e.short.short) x)
+    (λ moved numbers x. tight-after m was e.first now s h t moved numbers areas ht (e.found, e.short.short) x)
+    said shortage e.ends
+
+-- an end where no epoch is open
+no_epoch : (m : Areas) (c : Contents) (t : ℕ) → HasThread m t → depth_of c t ≡ 0 → Turned m c c t call.End (reply.Refused refusal.NoEpoch)
+no_epoch m c t ht shallow = record {
+  turns = λ s h.
+      let test : leb (thread_of s.graph t).depth 0 ≡ true = beyond (thread_of s.graph t).depth 0 (omega (arith, shallow, depth_words m c s h t)) in
+      (s, (s, (thread_in m c s h t ht, rw test (refl, refl), refl, tt), refl), h, λ r. r);
+  room = same_room c;
+  records = λ s h. same_records c;
+}
+
+done-none : (m : Areas) (c : Contents) (t : ℕ) → HasThread m t → depth_of c t ≡ 0 → Done m c c t call.End (plain (reply.Refused refusal.NoEpoch))
+done-none m c t ht shallow =
+    let h = no_epoch m c t ht shallow in
+    record {
+      turns = λ s stands r. h.turns s stands;
+      lawful = λ s stands r before packed. (tt, λ mid turned. tt);
+      collected = λ s stands r. refl;
+      full = λ e. cc;
+      filled = λ s stands e. cc;
+      shortage = λ s stands r moved e. cc;
+      ended = inl (shallow, refl, refl);
+      counts = tt;
+      packed = λ s stands. tt;
+      records = λ s stands r. same_records c;
+      room = tt;
+    }
+
+done-some : (m : Areas) (was now : Contents) (t : ℕ) (said : Reply) (collected : Bool) (shortage : Option Shortage) → IsAreas m → HasThread m t → SomeRecorded m was → 0 < depth_of was t
+    → ((s : SpaceState) (h : Stands m was s) → Recorded m was s h → EndsAs m was now s h t said collected shortage)
+    → Done m was now t call.End (record { reply = said; collected = collected; full = None; shortage = shortage })
+done-some m was now t said collected shortage areas ht some deep ends =
+    let each : (s : SpaceState) (h : Stands m was s) → Recorded m was s h → Ending m was now s h t said collected shortage = λ s h r. ending-of m was now s h t said collected shortage areas ht (ends s h r) in
+    let fault : said ≢ reply.OutOfHeap = λ e. ∥∥₁_elim some (hlevel props) (λ q. (each q.0 q.1 q.2).no_fault e) in
+    record {
+      turns = λ s h r. (each s h r).turns;
+      lawful = λ s h r before packed. (each s h r).lawful before;
+      collected = λ s h r. (each s h r).makes;
+      full = fault;
+      filled = λ s h. fault;
+      shortage = λ s h r. (each s h r).tells;
+      ended = inr (deep, refl, ends);
+      counts = tt;
+      packed = λ s h. tt;
+      records = λ s h r. (each s h r).records;
+      room = tt;
+    }
+
+pub done-ended : (m : Areas) (was now : Contents) (t : ℕ) (said : Stepped) → IsAreas m → HasThread m t → SomeRecorded m was → IsEnd m was now t said → Done m was now t call.End said
+done-ended m was now t said areas ht some h = ⊎_elim
+    (λ (o : (depth_of was t ≡ 0) × (said ≡ plain (reply.Refused refusal.NoEpoch)) × (now ≡ was)).
+    subst (λ (q : Stepped). Done m was now t call.End q) (sym o.1) (subst (λ (x : Contents). Done m was x t call.End (plain (reply.Refused refusal.NoEpoch))) (sym o.2) (done-none m was t ht o.0)))
+    (λ (o : (0 < depth_of was t) × (said.full ≡ None) × ((s : SpaceState) (stands : Stands m was s) → Recorded m was s stands → EndsAs m was now s stands t said.reply said.collected said.shortage)).
+    subst (λ f. Done m was now t call.End (record { reply = said.reply; collected = said.collected; full = f; shortage = said.shortage })) (sym o.1) (done-some m was now t said.reply said.collected said.shortage areas ht some o.0 o.2))
+    h

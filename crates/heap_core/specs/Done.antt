@@ -1,0 +1,143 @@
+-- What a step of a thread does and says.
+use Rattle.std.specs.Prelude.{◌≡◌, ◌≢◌, ◌⊎◌, ◌↔◌, ℕ, ◌+◌, ◌<◌, Bool, true, false, List, Option, IsTrue, MatchBool, MatchOption}
+use Rattle.object_layout.specs.declared.names.Name.{Name}
+use Rattle.object_layout.specs.declared.calls.Call.{Call}
+use Rattle.object_layout.specs.declared.calls.Call.TheVariants.{New, End, Collect, Census}
+use Rattle.object_layout.specs.declared.replies.Reply.{Reply}
+use Rattle.object_layout.specs.declared.replies.Reply.TheVariants.{Ended, Ok, OutOfHeap, Refused}
+use Rattle.object_layout.specs.declared.replies.Shortage.{Shortage}
+use Rattle.object_layout.specs.declared.replies.Census as layout
+use Rattle.object_layout.specs.declared.TheConstants.{OBJECT_WORDS}
+use Rattle.heap_words.specs.declared.map.Areas.{Areas}
+use Rattle.heap_words.specs.Contents.{Contents}
+use Rattle.epoch_lattice.specs.declared.Space.TheVariants.{Control}
+use Rattle.yak_model.specs.History.{Entry}
+use Rattle.yak_model.specs.Spaces.{SpaceState}
+use Rattle.yak_model.specs.Stands.{Stands}
+use Rattle.yak_model.specs.Recorded.{Recorded}
+use Rattle.yak_model.specs.Packed.{IsFull, IsPacked}
+use Rattle.mark_compact.specs.Collected.{RoomCollected, StateCollected}
+use Rattle.forwarding.specs.Crossing.{AreFiled}
+use Rattle.escape_closure.specs.Ends.{FallsShort, HasEnough}
+use Rattle.heap_core.specs.declared.owned.Stepped.{Stepped}
+use Rattle.heap_core.specs.Collecting.{CountsFull, counted}
+use Rattle.heap_core.specs.EpochEnds.{IsEnd, IsShort}
+use Rattle.heap_core.specs.Lawful.{AreLawful, PackedIfAsked}
+use Rattle.heap_core.specs.Records.{Records, SameRecords}
+use Rattle.heap_core.specs.Room.{HasNoRoom, SameRoom, TakesPlace, TakesRoom}
+use Rattle.heap_core.specs.Steps.{TurnsTo, entries}
+
+-- ---- when a step collects
+
+-- A collection is made for an object exactly where it doesn't fit the thread's current page and no page is free at the call.
+abbrev pub CollectsForNew : Areas → Contents → ℕ → ℕ → Reply → Bool → Type 0
+CollectsForNew m was t size (Refused why) collected = collected ≡ false
+CollectsForNew m was t size said collected = IsTrue collected ↔ HasNoRoom m was t size
+
+-- A collection is made for an end exactly where the objects that escape need more pages than are free at the call.
+abbrev pub CollectsForEnd : (m : Areas) (was : Contents) (s : SpaceState) → Stands m was s → ℕ → Reply → Bool → Type 0
+CollectsForEnd m was s stands t (Ended moved tight) collected = MatchBool collected (IsShort m was s stands.places t) (HasEnough m was s stands.places t)
+CollectsForEnd m was s stands t said collected = collected ≡ false
+
+-- No other call makes one before it answers.
+abbrev pub CollectsWhere : (m : Areas) (was : Contents) (s : SpaceState) → Stands m was s → ℕ → Call → Reply → Bool → Type 0
+CollectsWhere m was s stands t (New k) said collected = CollectsForNew m was t (k + OBJECT_WORDS) said collected
+CollectsWhere m was s stands t End said collected = CollectsForEnd m was s stands t said collected
+CollectsWhere m was s stands t asked said collected = collected ≡ false
+
+-- ---- what a step says of the pages
+
+-- The counts of the pages are told exactly where the heap is full.
+abbrev pub TellsFull : Contents → Reply → Option layout.Census → Type 0
+TellsFull now said full = MatchOption full (said ≢ OutOfHeap) (λ counts. (said ≡ OutOfHeap) × CountsFull now counts)
+
+-- The heap is full for an object where the reply says so.
+abbrev pub FillsHeap : (m : Areas) (now : Contents) (s : SpaceState) → Stands m now s → ℕ → Call → Reply → Type 0
+FillsHeap m now s stands t (New k) said = said ≡ OutOfHeap → IsFull m now s stands t k
+FillsHeap m now s stands t asked said = said ≢ OutOfHeap
+
+-- After a collection of the state the objects that escape still need more pages than are free, and these are both numbers.
+pub record ShortAfter (m : Areas) (s : SpaceState) (t : ℕ) (shortage : Shortage) : Type 0 where
+  pub between : Contents
+  pub state : StateCollected m between s
+  pub short : FallsShort m between state.after state.stands.places t shortage
+
+-- The shortage is told exactly where an end was tight.
+abbrev pub TellsShortage : Areas → SpaceState → ℕ → Reply → Option Shortage → Type 0
+TellsShortage m s t said shortage =
+    MatchOption shortage ((moved : ℕ) → said ≢ Ended moved true)
+    (λ numbers. ((moved : ℕ) × (said ≡ Ended moved true)) × (numbers.free < numbers.needed) × ShortAfter m s t numbers)
+
+-- A census tells the exact counts.
+abbrev pub TellsPages : Contents → Call → Reply → Type 0
+TellsPages was Census said = said ≡ counted was
+TellsPages was asked said = Unit {0}
+
+-- ---- what a step records, and the room that it takes
+
+-- All store buffers are empty, and the readers of regions are as they were.
+pub record Files (was now : Contents) : Type 0 where
+  pub filed : AreFiled now.buffers
+  pub readers : now.readers ≡ was.readers
+
+-- A collection files what the buffers hold, and then nothing is recorded.
+abbrev pub RecordsNew : Contents → Contents → Bool → Type 0
+RecordsNew was now false = SameRecords was now
+RecordsNew was now true = Files was now
+
+-- An end files it too.
+abbrev pub RecordsEnd : Contents → Contents → Reply → Type 0
+RecordsEnd was now (Ended moved tight) = AreFiled now.buffers
+RecordsEnd was now said = SameRecords was now
+
+-- What a step records, where `at` gives the address of each name. No call but a store makes a buffer longer.
+abbrev pub StepRecords : Areas → SpaceState → (Name → ℕ) → Contents → Contents → ℕ → Call → Reply → Bool → Type 0
+StepRecords m s at was now t (New k) said collected = RecordsNew was now collected
+StepRecords m s at was now t End said collected = RecordsEnd was now said
+StepRecords m s at was now t Collect said collected = Files was now
+StepRecords m s at was now t asked said collected = Records m s at was now t asked said
+
+-- An object had no room, a collection was made, and more holds of the contents that it left.
+pub record MakesRoom (m : Areas) (was : Contents) (t size : ℕ) (more : Contents → Type 0) : Type 0 where
+  pub short : HasNoRoom m was t size
+  pub between : Contents
+  pub room : RoomCollected m was between t
+  pub then : more between
+
+-- An object takes its place, at once or after a collection, or has no room after a collection either.
+abbrev pub RoomForNew : Areas → Contents → Contents → ℕ → ℕ → Reply → Bool → Type 0
+RoomForNew m was now t size Ok false = TakesPlace m was now t size
+RoomForNew m was now t size Ok true = MakesRoom m was t size (λ between. TakesPlace m between now t size)
+RoomForNew m was now t size OutOfHeap collected = MakesRoom m was t size (λ between. HasNoRoom m between t size × SameRoom between now)
+RoomForNew m was now t size said collected = SameRoom was now
+
+-- What a step takes of the room in the pages. What an end takes is told with how it ends.
+abbrev pub StepRoom : Areas → Contents → Contents → ℕ → Call → Reply → Bool → Type 0
+StepRoom m was now t (New k) said collected = RoomForNew m was now t (k + OBJECT_WORDS) said collected
+StepRoom m was now t End said collected = Unit {0}
+StepRoom m was now t Collect said collected = RoomCollected m was now t
+StepRoom m was now t asked said collected = TakesRoom m was now t asked said
+
+-- An end ends the epoch as the rules have it.
+abbrev pub EndsSo : Areas → Contents → Contents → ℕ → Call → Stepped → Type 0
+EndsSo m was now t End said = IsEnd m was now t said
+EndsSo m was now t asked said = Unit {0}
+
+-- Control is packed after a collection that a thread asked for.
+abbrev pub PacksControl : (m : Areas) (now : Contents) (s : SpaceState) → Stands m now s → Call → Type 0
+PacksControl m now s stands Collect = IsPacked m now s stands Control
+PacksControl m now s stands asked = Unit {0}
+
+-- All that a step does and says.
+pub record Done (m : Areas) (was now : Contents) (t : ℕ) (asked : Call) (said : Stepped) : Type 0 where
+  pub turns : (s : SpaceState) (h : Stands m was s) → Recorded m was s h → TurnsTo m was now s h (entries t asked said)
+  pub lawful : (s : SpaceState) (h : Stands m was s) → Recorded m was s h → (before : List Entry) → PackedIfAsked m was s h before → AreLawful m.pages before s (entries t asked said)
+  pub collected : (s : SpaceState) (h : Stands m was s) → Recorded m was s h → CollectsWhere m was s h t asked said.reply said.collected
+  pub full : TellsFull now said.reply said.full
+  pub filled : (s : SpaceState) (h : Stands m now s) → FillsHeap m now s h t asked said.reply
+  pub shortage : (s : SpaceState) (h : Stands m was s) → Recorded m was s h → TellsShortage m s t said.reply said.shortage
+  pub ended : EndsSo m was now t asked said
+  pub counts : TellsPages was asked said.reply
+  pub packed : (s : SpaceState) (h : Stands m now s) → PacksControl m now s h asked
+  pub records : (s : SpaceState) (h : Stands m was s) → Recorded m was s h → StepRecords m s h.places.at was now t asked said.reply said.collected
+  pub room : StepRoom m was now t asked said.reply said.collected

@@ -1,0 +1,145 @@
+//! One thread's way to a heap that is owned.
+
+ghost use Rattle.std.specs.Prelude.{◌≡◌, ◌≤◌, ◌<◌, ◌+◌, ◌-◌, ◌^◌, ℕ, min, None};
+ghost use Rattle.std.specs.Option.{ForSome};
+ghost use Rattle.std.specs.FinMap.{empty};
+ghost use Rattle.object_layout.specs.Calls.{IsCall};
+ghost use Rattle.heap_words.specs.declared.map.Areas.{Areas};
+ghost use Rattle.heap_words.specs.Map.{HasThread, page_words};
+ghost use Rattle.heap_words.specs.Contents.{contents, Sound};
+ghost use Rattle.yak_model.specs.Lawful.{present_words};
+ghost use Rattle.yak_model.specs.Placed.{used_mark};
+ghost use Rattle.yak_model.specs.Spaces.{SpaceState};
+ghost use Rattle.yak_model.specs.Standing.{counted_on, words_made};
+ghost use Rattle.yak_model.specs.Stands.{Stands};
+ghost use Rattle.heap_core.specs.Callers.{FillsPages, KnowsAlone, TellsKnown, TellsThread, standing_told, words_asked, words_used};
+
+use crate::owned::Core;
+use heap_words::{Areas, Words, get_page};
+use object_layout::{Call, Census, OBJECT_WORDS, Reply};
+use region_pages::USED_MARK;
+use yak_model::Caller;
+
+/// One thread's way to a heap that is owned: each of its calls is a step of that thread.
+#[derive(Drop)]
+pub struct CoreCaller<W: Words> {
+    core: Core<W>,
+    thread: u8,
+    /// The words of the objects that were present when it became a caller.
+    present: u64,
+    /// The words of the objects that it made since, or the greatest number where they are more.
+    made: u64,
+    /// How many calls were answered by `OutOfHeap`, or the greatest number where they are more.
+    refusals: u64,
+    last: Option<(Census, u8, u16)>,
+    ghost has_thread: { HasThread core.map thread },
+    ghost holds: { words_used (contents core.map (W.words core.words)).table ≤ present + made },
+    ghost filled: { ForSome last (λ l. FillsPages core.map (present + made) l.1) },
+}
+
+impl<W: Words> Caller for CoreCaller<W> {
+    ghost Base = { Areas × W.Base × ℕ };
+
+    ghost base = { λ s. (s.core.map, W.base s.core.words, s.present) };
+
+    ghost standing = { λ s. standing_told (contents s.core.map (W.words s.core.words)) s.thread s.made s.refusals s.last };
+
+    ghost knows = { λ s known. KnowsAlone s.core.map (contents s.core.map (W.words s.core.words)) s.thread known };
+
+    ghost tells = { λ s t own. TellsThread s.core.map (contents s.core.map (W.words s.core.words)) s.thread t own };
+
+    ghost tells_known = { λ s t known. TellsKnown s.core.map (contents s.core.map (W.words s.core.words)) s.thread t known };
+
+    fn make_call(&mut self, call: Call) -> Reply {
+        let stepped = self.core.step(self.thread, call);
+        self.made = count_up(self.made, words_made(call, stepped.reply));
+        if let Some(census) = stepped.full {
+            self.refusals = count_up(self.refusals, 1);
+            self.last = Some((census, self.core.depth(self.thread), words_asked(call)));
+        }
+        stepped.reply
+    }
+
+    fn full(&self) -> Option<(Census, u8, u16)> {
+        self.last
+    }
+}
+
+impl<W: Words> Core<W> {
+    /// A caller for one of the heap's threads.
+    pub fn as_caller(mut self, thread: u8) -> CoreCaller<W>
+        requires thread { HasThread self.map thread }
+        ensures thread { result.thread ≡ thread }
+        ensures words { W.words result.core.words ≡ W.words self.words }
+        ensures map { result.core.map ≡ self.map }
+        ensures base { W.base result.core.words ≡ W.base self.words }
+        ensures present { (s : SpaceState) → Stands self.map (contents self.map (W.words self.words)) s → result.present ≡ present_words s }
+        ensures fresh { (result.made ≡ 0) × (result.refusals ≡ 0) × (result.last ≡ None) }
+        ensures begins { (s : SpaceState) → Stands self.map (contents self.map (W.words self.words)) s → KnowsAlone result.core.map (contents result.core.map (W.words result.core.words)) result.thread empty }
+    {
+        let present = self.present_words();
+        CoreCaller {
+            core: self,
+            thread,
+            present,
+            made: 0,
+            refusals: 0,
+            last: None,
+        }
+    }
+}
+
+impl<W: Words> CoreCaller<W> {
+    /// The heap, as it is now.
+    pub fn into_core(self) -> Core<W>
+        ensures { result ≡ self.core }
+    {
+        self.core
+    }
+}
+
+/// The words in use in all pages.
+pub(crate) fn words_in_use<W: Words>(words: &mut W, map: Areas) -> u64
+    requires sound { Sound map (W.words words.old) }
+    requires marks { (p : ℕ) → p < map.pages → used_mark (contents map (W.words words.old)).table p ≤ page_words map }
+    ensures used { result ≡ words_used (contents map (W.words words.old)).table }
+    ensures words { W.words words.new ≡ W.words words.old }
+    ensures reads { W.reads words.new ≤ W.reads words.old + map.pages }
+    ensures base { W.base words.new ≡ W.base words.old }
+{
+    let mut used = 0;
+    for page in 0..map.pages {
+        used += get_page(words, map, page, USED_MARK);
+    }
+    used
+}
+
+/// A count after so many more, or the greatest number where that is more.
+fn count_up(count: u64, more: u64) -> u64
+    ensures counted { result ≡ counted_on count more }
+    ensures rises { count ≤ result }
+{
+    count.saturating_add(more)
+}
+
+/// The words of the object that a call makes.
+fn words_made(call: Call, reply: Reply) -> u64
+    ensures { result ≡ words_made call reply }
+{
+    match (call, reply) {
+        (Call::New(fields), Reply::Ok) => u64::from(fields) + u64::from(OBJECT_WORDS),
+        _ => 0,
+    }
+}
+
+/// The words that a call asks for, up to the greatest number.
+fn words_asked(call: Call) -> u16
+    ensures { result ≡ min (words_asked call) (2 ^ 16 - 1) }
+{
+    match call {
+        Call::New(fields) => {
+            u16::try_from(fields.saturating_add(u32::from(OBJECT_WORDS))).unwrap_or(u16::MAX)
+        }
+        _ => 0,
+    }
+}
