@@ -11,13 +11,13 @@ use Rattle.object_layout.specs.declared.names.Name.{Name}
 use Rattle.yak_model.specs.Private.{KnownObjects}
 use Rattle.yak_model.specs.Tables.{bucket_of}
 use Rattle.yak_model.specs.Tables.{WordCounts, HasCount, IsCountTable, IsTable, LacksWord, Link, AreDifferent}
-use Rattle.heap_tables.specs.Adds.{AddsCount, Grows, IsAddedTo, MakesForNew, with_bucket}
+use Rattle.heap_tables.specs.Adds.{AddsCount, Grows, IsAddedTo, IsNoEntry, MakesForNew, with_bucket}
 use Rattle.yak_model.specs.declared.datum.Datum.{Datum}
 use Rattle.yak_model.specs.Standing.{Standing}
-use Rattle.heap_tables.specs.Counted.{MakesUncounted, count_of, or_zero, raised}
+use Rattle.heap_tables.specs.Counted.{KeepsApart, MakesUncounted, count_of, or_zero, raised}
 use Rattle.heap_tables.proofs.Linked.{table_grows}
 use Rattle.heap_tables.proofs.Places.{word_cases}
-use Rattle.heap_tables.proofs.Raised.{distinct_parts, eqb_cases, with_sum}
+use Rattle.heap_tables.proofs.Raised.{distinct_parts, in_bucket, eqb_cases, with_sum}
 
 word_tie : (v w : List ℕ) → v ≢ w → eq_by_cmp (slice_cmp nat_cmp) v w ≡ false
 word_tie v w ne = by_order (slice_cmp nat_cmp v w) refl
@@ -144,6 +144,11 @@ module _ (known : KnownObjects) (name : Name) (counts : WordCounts) (table : IsC
             (λ o. old)
     ];
   }
+
+  pub added_apart : (knows : KnownObjects → Type 0) (added : IsAddedTo known word n name table.buckets knows) → KeepsApart known table.buckets (added_counts knows added).buckets
+  unfolding added_counts
+  added_apart knows added x kx free c h =
+      in_bucket (λ _ ls. IsNoEntry x ls) table.buckets (bucket_of word) added.links (added.apart x kx (free (bucket_of word) bound)) (λ d below _. free d below) c h
 
 pub bucket_small : (word : List ℕ) → bucket_of word < 128
 bucket_small word = small word 0 (omega arith)

@@ -88,6 +88,7 @@ linked_table known name heads buckets table word n b home bound lacks key entry 
       });
       adds = inr (subst (λ i. LacksWord word (buckets i)) (sym home) lacks, (link, refl, refl, ap (λ i. link ∷ buckets i) (sym home)));
       others = λ x kx o no. others_kept x kx o;
+      apart = λ x kx no. (λ e. not_new x kx no_entry (sym e), subst (λ i. IsNoEntry x (buckets i)) home no);
     }
   where
     by_option : (x : Name) (o : Option Content) → get known x ≡ o → IsSome o → x ≢ name
@@ -97,6 +98,13 @@ linked_table known name heads buckets table word n b home bound lacks key entry 
         let g1 = insert_grows known key d no_key x c e in
         let g2 = insert_grows (insert known key d) entry (Fields (get_or heads b datum.Null ∷ datum.Object key ∷ datum.Int n ∷ [])) no_entry x c g1 in
         get-other _ name (Fields (set heads b (datum.Object entry))) x o ∙ g2 ∙ sym e
+
+    new_by_option : (x : Name) (o : Option Content) → get known x ≡ o → IsSome o → get (insert known key d) entry ≡ None → x ≢ entry
+    new_by_option x None e h none = absurd (true≢false (sym h))
+    new_by_option x (Some c) e h none = other_name (insert known key d) x entry c none (insert_grows known key d no_key x c e)
+
+    not_new : (x : Name) → IsKnown known x → get (insert known key d) entry ≡ None → x ≢ entry
+    not_new x h none = new_by_option x (get known x) refl h none
 
     others_kept : (x : Name) → IsKnown known x → x ≢ name
         → get (insert (with_fields (insert known key d) entry (get_or heads b datum.Null) (datum.Object key) n) name (Fields (set heads b (datum.Object entry)))) x ≡ get known x

@@ -56,6 +56,10 @@ no_entry_at : (x : Name) (passed rest : List Link) (link : Link) → IsNoEntry x
 no_entry_at x [] rest link h = h.0
 no_entry_at x (p ∷ passed) rest link h = no_entry_at x passed rest link h.1
 
+no_entry_raised : (x : Name) (passed rest : List Link) (link : Link) (n : ℕ) → IsNoEntry x (passed ++ link ∷ rest) → IsNoEntry x (passed ++ with_sum link n ∷ rest)
+no_entry_raised x [] rest link n h = h
+no_entry_raised x (p ∷ passed) rest link n h = (h.0, no_entry_raised x passed rest link n h.1)
+
 raised_chain : (known after : KnownObjects) (rest : List Link) (link : Link) (next : Datum) (n : ℕ) → Agree known after link.entry → IsEntry known next link → get after link.entry ≡ Some (Fields (entry_fields next link.key (link.count + n)))
     → (passed : List Link) (head : Datum) → LacksWord link.word passed → LacksWord link.word rest → IsChain known head (passed ++ link ∷ rest) → IsChain after head (passed ++ with_sum link n ∷ rest)
 raised_chain known after rest link next n agree entry now [] head lp lr chain =
@@ -114,6 +118,7 @@ raised_table known name heads buckets table word n bound passed rest link parts 
       };
       adds = inl (passed, link, rest, parts, same, refl);
       others = λ x kx o no. agree x (λ e. no_entry_at x passed rest link (subst (IsNoEntry x) parts no) (sym e));
+      apart = λ x kx no. no_entry_raised x passed rest link n (subst (IsNoEntry x) parts no);
     }
 
 pub no_int : (known : KnownObjects) (links : List Link) (head : Datum) → IsChain known head links → (m : ℕ) → head ≡ datum.Int m → ⊥

@@ -6,7 +6,7 @@ use Rattle.yak_model.specs.Standing.{Standing}
 use Rattle.yak_model.specs.Tables.{WordCounts, IsCountTable, bucket_of}
 use Rattle.heap_tables.specs.Adds.{MayAdd, having_made}
 use Rattle.heap_tables.specs.Counted.{MayCount, count_of}
-use Rattle.heap_tables.proofs.Counted.{added_counts, bucket_small, count_found, grown_counts, lacks_none, makes_uncounted}
+use Rattle.heap_tables.proofs.Counted.{added_apart, added_counts, bucket_small, count_found, grown_counts, lacks_none, makes_uncounted}
 use Rattle.heap_tables.proofs.Effects.{value_same}
 use Rattle.heap_tables.proofs.OnResult.{ok_both, ok_map, err_map}
 use Rattle.heap_tables.proofs.RunOn.{ran_more, then_ran, then_out}
@@ -62,7 +62,7 @@ returns-clause-counted g c = ok_map c.add_links.result _ _
       let same = ap (λ (o : Thread). o.made) c.stack_size-top.ensures.own in
       let makes = makes_uncounted (C.standing c.stack_size-top.new.caller) (C.standing c.add_links.new.caller) known name counts table word made in
       ((λ some. makes.0 some ∙ same, λ none. makes.1 none ∙ ap (λ m. m + 2) same),
-        (added.after, added.known_now, added_counts known name counts table word c.args.n (bucket_small word) (C.knows c.add_links.new.caller) added, added.others)))
+        (added.after, added.known_now, added_counts known name counts table word c.args.n (bucket_small word) (C.knows c.add_links.new.caller) added, added.others, added_apart known name counts table word c.args.n (bucket_small word) (C.knows c.add_links.new.caller) added)))
     (ok_both c.add_links.result _ _ c.add_links.ensures.added c.add_links.ensures.made)
 
 pub returns-clause-kept : goal.returns-clause-kept
