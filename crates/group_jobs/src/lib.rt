@@ -2,7 +2,10 @@
 #![tactic(auto)]
 
 mod counted;
+mod epochs;
 mod long_words;
+mod stub;
+mod tallies;
 mod tasks;
 #[cfg(test)]
 mod tests;
@@ -15,3 +18,9 @@ pub use words::Words;
 
 /// The greatest number of bytes of a text that is counted.
 pub const INPUT_LIMIT: usize = 16777216;
+/// The slot of a caller's stack with the table of all that it counted. Below it is the root.
+pub const TOTAL_SLOT: u32 = 1;
+/// The slot with the table of the task at hand.
+pub const PART_SLOT: u32 = 2;
+/// The most objects that are made for a word: a key, two entries, and the tables of its task and its worker.
+pub const OBJECTS_FOR_WORD: usize = 5;
