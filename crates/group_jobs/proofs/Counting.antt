@@ -17,7 +17,7 @@ use Rattle.group_jobs.specs.Counts.{has_word, word_counts}
 use Rattle.group_jobs.specs.LongWords.{is_long}
 use Rattle.group_jobs.proofs.Sorting.{same_word}
 
-same_by_test : (word other : List ℕ) → eq_by_cmp word_cmp word other ≡ true → word ≡ other
+pub same_by_test : (word other : List ℕ) → eq_by_cmp word_cmp word other ≡ true → word ≡ other
 same_by_test word other tie = same_word word other ((Equal-is (word_cmp word other)).0 tie)
 
 find-map : (g : List ℕ → ℕ) (words : List (List ℕ)) (word : List ℕ) → find word_cmp word (map (λ w. (w, g w)) words) ≡ cond (has_word words word) (Some (g word)) None
@@ -49,7 +49,7 @@ turned_test : (word other : List ℕ) → eq_by_cmp word_cmp word other ≡ eq_b
 turned_test = (eq_by_cmp_equiv nat_list_cmp_total).symm
 
 -- whether a word is the only one of a list
-one_place : (word other : List ℕ) → places_of (word ∷ []) other ≡ cond (eq_by_cmp word_cmp other word) 1 0
+pub one_place : (word other : List ℕ) → places_of (word ∷ []) other ≡ cond (eq_by_cmp word_cmp other word) 1 0
 one_place word other = zero-add (cond (eq_by_cmp word_cmp word other) 1 0) ∙ ap (λ (b : Bool). cond {A = ℕ} b 1 0) (turned_test word other)
 
 -- A word that doesn't stand in a list has no place there.

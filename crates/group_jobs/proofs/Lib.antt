@@ -4,3 +4,7 @@ pub mod Tasking
 pub mod LongLines
 pub mod Sorting
 pub mod Counting
+pub mod Joined
+pub mod Tallying
+pub mod Opened
+pub mod Rooms
