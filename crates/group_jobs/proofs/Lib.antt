@@ -8,3 +8,5 @@ pub mod Joined
 pub mod Tallying
 pub mod Opened
 pub mod Rooms
+pub mod Progress
+pub mod Passing

@@ -1,8 +1,9 @@
 -- A new table of a count.
-use Rattle.std.proofs.Common.{zero, suc, ◌≡◌, ◌≢◌, ℕ, ◌+◌, ◌<◌, List, [], ◌∷◌, ◌++◌, All, Option, Some, None, is_some, length, get_or, refl, ◌∙◌, ap, sym, subst, arith}
+use Rattle.std.proofs.Common.{zero, suc, ◌≡◌, ◌≢◌, ℕ, ◌+◌, ◌<◌, ◌≤◌, List, [], ◌∷◌, ◌++◌, All, Option, Some, None, is_some, length, get_or, refl, ◌∙◌, ap, sym, subst, arith}
 use Rattle.std.specs.FinMap.{get, get-empty, insert, empty}
 use Rattle.std.proofs.lemmas.List.Elements.{All-nil, All-cons}
 use Rattle.object_layout.specs.declared.names.Name.{Name}
+use Rattle.object_layout.specs.declared.TheConstants.{WORD_LIMIT}
 use Rattle.yak_model.specs.declared.datum.Datum.{Datum}
 use Rattle.yak_model.specs.declared.datum.Datum.TheVariants as datum
 use Rattle.yak_model.specs.declared.TheConstants.{BUCKETS}
@@ -59,6 +60,7 @@ opened_part s now known knows done own size t k part none =
       };
       other = other_name known t.name (next_of s) _ none ((t.table).table).object;
       apart = λ b h. all_apart (table.buckets b) part.buckets (no_entries (with_new s known BUCKETS) (next_of s) part);
+      short = All-nil (λ w. length w ≤ WORD_LIMIT);
     })
 
 pub opened_total : (s now : Standing) (known : KnownObjects) (knows : KnownObjects → Type 0) (done : List (List ℕ)) → now.own ≡ with_made s → length (s.own).stack ≡ TOTAL_SLOT → done ≡ []
