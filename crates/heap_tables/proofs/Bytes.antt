@@ -16,17 +16,17 @@ digits_mod word start n bytes = let b = bytes (start + n) in omega (arith, b)
 pub digits_last : (word : List ℕ) (start n m : ℕ) → AreBytes word → m ≡ n + 1 → digits word start m % 256 ≡ get_or word (start + n) 0
 digits_last word start n m bytes e = let q : suc n ≡ m = omega (arith, e) in subst (λ k. digits word start k % 256 ≡ get_or word (start + n) 0) q (digits_mod word start n bytes)
 
+pub length_front : (n : ℕ) (xs : List ℕ) → n ≤ length xs → length (take n xs) ≡ n
+length_front zero [] h = refl
+length_front zero (x ∷ xs) h = refl
+length_front (suc n) [] h = absurd (omega (arith, h))
+length_front (suc n) (x ∷ xs) h = ap suc (length_front n xs (omega (arith, h)))
+
 -- the front of a buffer that has the bytes of a word
 pub same_front : (word buffer : List ℕ) (n : ℕ) → n ≡ length word → n ≤ length buffer → ((j : ℕ) → j < n → get_or buffer j 0 ≡ get_or word j 0) → take n buffer ≡ word
 same_front word buffer n size long same =
-    let taken : length (take n buffer) ≡ n = taken_size n buffer long in
+    let taken : length (take n buffer) ≡ n = length_front n buffer long in
     ext_get_or 0 (take n buffer) word (taken ∙ size) (λ i h. let below : i < n = omega (arith, h, taken) in get_or-take n buffer i 0 below ∙ same i below)
-  where
-    taken_size : (n : ℕ) (xs : List ℕ) → n ≤ length xs → length (take n xs) ≡ n
-    taken_size zero [] h = refl
-    taken_size zero (x ∷ xs) h = refl
-    taken_size (suc n) [] h = absurd (omega (arith, h))
-    taken_size (suc n) (x ∷ xs) h = ap suc (taken_size n xs (omega (arith, h)))
 
 pub group_digits : (word : List ℕ) (i : ℕ) → group word i ≡ digits word (7 * i) 7
 unfolding group

@@ -30,13 +30,13 @@ word_tie v w ne = by_order (slice_cmp nat_cmp v w) refl
 count_same : (counts : WordCounts) (w : List ℕ) (n : ℕ) → get (insert counts w n) w ≡ Some n
 count_same counts w n = get-insert nat_list_cmp_total counts w n w ∙ ap (λ b. cond b (Some n) (get counts w)) (ap is_eq (tied_itself nat_list_cmp_total w))
 
-count_other : (counts : WordCounts) (w v : List ℕ) (n : ℕ) → v ≢ w → get (insert counts w n) v ≡ get counts v
+pub count_other : (counts : WordCounts) (w v : List ℕ) (n : ℕ) → v ≢ w → get (insert counts w n) v ≡ get counts v
 count_other counts w v n ne = get-insert nat_list_cmp_total counts w n v ∙ ap (λ b. cond b (Some n) (get counts v)) (word_tie v w ne)
 
-same_some : (a b : ℕ) → Some a ≡ Some b → a ≡ b
+pub same_some : (a b : ℕ) → Some a ≡ Some b → a ≡ b
 same_some a b e = cc
 
-not_none : (a : ℕ) → Some a ≡ None → ⊥
+pub not_none : (a : ℕ) → Some a ≡ None → ⊥
 not_none a e = cc
 
 is_some_none : IsSome {T = ℕ} None → ⊥
@@ -46,7 +46,7 @@ pub lacks_count : (w : List ℕ) (links : List Link) (n : ℕ) → LacksWord w l
 lacks_count w [] n lacks h = h
 lacks_count w (l ∷ links) n lacks h = elim h [ inl here ↦ lacks.0 here.0 | inr later ↦ lacks_count w links n lacks.1 later.1 ]
 
-one_count : (w : List ℕ) (links : List Link) (m n : ℕ) → HasCount w links m → HasCount w links n → m ≡ n
+pub one_count : (w : List ℕ) (links : List Link) (m n : ℕ) → HasCount w links m → HasCount w links n → m ≡ n
 one_count w [] m n a b = absurd a
 one_count w (l ∷ links) m n a b = elim a [
   | inl here ↦ elim b [ inl too ↦ sym here.1 ∙ too.1 | inr other ↦ absurd (other.0 here.0) ]
@@ -118,37 +118,43 @@ module _ (known : KnownObjects) (name : Name) (counts : WordCounts) (table : IsC
     | inr o ↦ subst (λ t. P (cond t links (table.buckets c))) (sym o.0) (old o.1)
   ]
 
-  pub added_counts : (knows : KnownObjects → Type 0) (added : IsAddedTo known word n name table.buckets knows) → IsCountTable added.after name (raised counts word n)
+  pub added_counted : (knows : KnownObjects → Type 0) (added : IsAddedTo known word n name table.buckets knows) (v : List ℕ) (m : ℕ) → get (raised counts word n) v ≡ Some m → HasCount v (with_bucket table.buckets (bucket_of word) added.links (bucket_of v)) m
+  added_counted knows added v m e = elim (word_cases v word) [
+    | inl same ↦
+        let sum : count_of counts word + n ≡ m = same_some _ m (sym (ap (get (raised counts word n)) same ∙ count_same counts word (count_of counts word + n)) ∙ e) in
+        at_bucket (λ ls. HasCount v ls m) added.links (bucket_of v)
+          (λ _. subst (λ k. HasCount v added.links k) sum (subst (λ w. HasCount w added.links (count_of counts word + n)) (sym same) (new_count added.links added.adds)))
+          (λ o. absurd (o (ap bucket_of same)))
+    | inr ne ↦
+        let old = table.counted v m (sym (count_other counts word v (count_of counts word + n) ne) ∙ e) in
+        at_bucket (λ ls. HasCount v ls m) added.links (bucket_of v)
+          (λ s. other_count added.links added.adds v ne m (subst (λ c. HasCount v (table.buckets c) m) s old))
+          (λ o. old)
+  ]
+
+  pub added_absent : (knows : KnownObjects → Type 0) (added : IsAddedTo known word n name table.buckets knows) (v : List ℕ) → get (raised counts word n) v ≡ None → LacksWord v (with_bucket table.buckets (bucket_of word) added.links (bucket_of v))
+  added_absent knows added v e = elim (word_cases v word) [
+    | inl same ↦ absurd (not_none _ (sym (ap (get (raised counts word n)) same ∙ count_same counts word (count_of counts word + n)) ∙ e))
+    | inr ne ↦
+        let old = table.absent v (sym (count_other counts word v (count_of counts word + n) ne) ∙ e) in
+        at_bucket (LacksWord v) added.links (bucket_of v)
+          (λ s. other_lack added.links added.adds v ne (subst (λ c. LacksWord v (table.buckets c)) s old))
+          (λ o. old)
+  ]
+
+  abbrev pub added_counts : (knows : KnownObjects → Type 0) (added : IsAddedTo known word n name table.buckets knows) → IsCountTable added.after name (raised counts word n)
   added_counts knows added = record {
     heads = added.heads;
     buckets = with_bucket table.buckets (bucket_of word) added.links;
     table = added.is_table;
-    counted = λ v m e. elim (word_cases v word) [
-      | inl same ↦
-          let sum : count_of counts word + n ≡ m = same_some _ m (sym (ap (get (raised counts word n)) same ∙ count_same counts word (count_of counts word + n)) ∙ e) in
-          at_bucket (λ ls. HasCount v ls m) added.links (bucket_of v)
-            (λ _. subst (λ k. HasCount v added.links k) sum (subst (λ w. HasCount w added.links (count_of counts word + n)) (sym same) (new_count added.links added.adds)))
-            (λ o. absurd (o (ap bucket_of same)))
-      | inr ne ↦
-          let old = table.counted v m (sym (count_other counts word v (count_of counts word + n) ne) ∙ e) in
-          at_bucket (λ ls. HasCount v ls m) added.links (bucket_of v)
-            (λ s. other_count added.links added.adds v ne m (subst (λ c. HasCount v (table.buckets c) m) s old))
-            (λ o. old)
-    ];
-    absent = λ v e. elim (word_cases v word) [
-      | inl same ↦ absurd (not_none _ (sym (ap (get (raised counts word n)) same ∙ count_same counts word (count_of counts word + n)) ∙ e))
-      | inr ne ↦
-          let old = table.absent v (sym (count_other counts word v (count_of counts word + n) ne) ∙ e) in
-          at_bucket (LacksWord v) added.links (bucket_of v)
-            (λ s. other_lack added.links added.adds v ne (subst (λ c. LacksWord v (table.buckets c)) s old))
-            (λ o. old)
-    ];
+    counted = added_counted knows added;
+    absent = added_absent knows added;
   }
 
   pub added_apart : (knows : KnownObjects → Type 0) (added : IsAddedTo known word n name table.buckets knows) → KeepsApart known table.buckets (added_counts knows added).buckets
   unfolding added_counts
   added_apart knows added x kx free c h =
-      in_bucket (λ _ ls. IsNoEntry x ls) table.buckets (bucket_of word) added.links (added.apart x kx (free (bucket_of word) bound)) (λ d below _. free d below) c h
+      in_bucket (λ _ ls. IsNoEntry x ls) table.buckets (bucket_of word) added.links (added.fresh x kx (free (bucket_of word) bound)) (λ d below _. free d below) c h
 
 pub bucket_small : (word : List ℕ) → bucket_of word < 128
 bucket_small word = small word 0 (omega arith)

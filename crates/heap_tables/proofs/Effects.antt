@@ -274,3 +274,12 @@ pub not_bad : (v : Datum) (said : Reply) → IsShown v said → said ≡ reply.R
 not_bad datum.Null said h e = cc
 not_bad (datum.Int i) said h e = cc
 not_bad (datum.Object name) said h e = let s = h.1 in cc
+
+pub length-take_pop : (xs : List Datum) → length (take (length xs - 1) xs) ≡ length xs - 1
+length-take_pop xs = less (length xs - 1) xs (omega arith)
+  where
+    less : (n : ℕ) (xs : List Datum) → n ≤ length xs → length (take n xs) ≡ n
+    less zero [] h = refl
+    less zero (x ∷ xs) h = refl
+    less (suc n) [] h = absurd (omega (arith, h))
+    less (suc n) (x ∷ xs) h = ap suc (less n xs (omega (arith, h)))

@@ -49,25 +49,33 @@ table_grows m n grows name heads buckets t = record {
   distinct = t.distinct;
 }
 
-pub linked_table : (known : KnownObjects) (name : Name) (heads : List Datum) (buckets : ℕ → List Link) (table : IsTable known name heads buckets) (word : List ℕ) (n b : ℕ) (home : bucket_of word ≡ b) (bound : b < 128) (lacks : LacksWord word (buckets b))
-    (key entry : Name) (d : Content) (no_key : get known key ≡ None) (no_entry : get (insert known key d) entry ≡ None) (is_key : IsKey (insert known key d) key word)
-    → (knows : KnownObjects → Type 0) → knows (insert (with_fields (insert known key d) entry (get_or heads b datum.Null) (datum.Object key) n) name (Fields (set heads b (datum.Object entry))))
+grown_known : (m n : KnownObjects) → Grows m n → (x : Name) → IsKnown m x → (get n x ≡ get m x) × IsKnown n x
+grown_known m n grows x known = by_option (get m x) refl
+  where
+    by_option : (o : Option Content) → get m x ≡ o → (get n x ≡ get m x) × IsKnown n x
+    by_option None e = let h : IsSome {T = Content} None = subst (λ o. IsSome o) e known in absurd (true≢false (sym h))
+    by_option (Some c) e = let there = grows x c e in (there ∙ sym e, ap is_some there)
+
+-- a known object isn't one that isn't
+known_other : (known : KnownObjects) (x y : Name) → IsKnown known x → get known y ≡ None → y ≢ x
+known_other known x y h none e = let q : IsSome {T = Content} None = subst (λ o. IsSome o) (sym (ap (get known) e) ∙ none) h in true≢false (sym q)
+
+-- a new entry at the front of a bucket, whose key is known
+pub shared_table : (known : KnownObjects) (name : Name) (heads : List Datum) (buckets : ℕ → List Link) (table : IsTable known name heads buckets) (word : List ℕ) (n b : ℕ) (home : bucket_of word ≡ b) (bound : b < 128) (lacks : LacksWord word (buckets b))
+    (key entry : Name) (no_entry : get known entry ≡ None) (is_key : IsKey known key word) (name_key : name ≢ key)
+    → (knows : KnownObjects → Type 0) → knows (insert (with_fields known entry (get_or heads b datum.Null) (datum.Object key) n) name (Fields (set heads b (datum.Object entry))))
     → IsAddedTo known word n name buckets knows
-linked_table known name heads buckets table word n b home bound lacks key entry d no_key no_entry is_key knows k =
-    let one : KnownObjects = insert known key d in
-    let two : KnownObjects = with_fields one entry (get_or heads b datum.Null) (datum.Object key) n in
+shared_table known name heads buckets table word n b home bound lacks key entry no_entry is_key name_key knows k =
+    let two : KnownObjects = with_fields known entry (get_or heads b datum.Null) (datum.Object key) n in
     let last : List Datum = set heads b (datum.Object entry) in
     let after : KnownObjects = insert two name (Fields last) in
     let link : Link = record { entry = entry; key = key; word = word; count = n } in
-    let g1 : Grows known one = insert_grows known key d no_key in
-    let g2 : Grows one two = insert_grows one entry (Fields (get_or heads b datum.Null ∷ datum.Object key ∷ datum.Int n ∷ [])) no_entry in
-    let t1 = table_grows known one g1 name heads buckets table in
-    let t2 : IsTable two name heads buckets = table_grows one two g2 name heads buckets t1 in
+    let g2 : Grows known two = insert_grows known entry (Fields (get_or heads b datum.Null ∷ datum.Object key ∷ datum.Int n ∷ [])) no_entry in
+    let t2 : IsTable two name heads buckets = table_grows known two g2 name heads buckets table in
     let agree : Agree two after name = insert_agrees two name (Fields last) in
-    let entry_there : get two entry ≡ Some (Fields (entry_fields (get_or heads b datum.Null) key n)) = get-same one entry (Fields (get_or heads b datum.Null ∷ datum.Object key ∷ datum.Int n ∷ [])) in
+    let entry_there : get two entry ≡ Some (Fields (entry_fields (get_or heads b datum.Null) key n)) = get-same known entry (Fields (get_or heads b datum.Null ∷ datum.Object key ∷ datum.Int n ∷ [])) in
     let key_there : get two key ≡ Some (Fields is_key.0) = g2 key _ is_key.1 in
-    let name_entry : name ≢ entry = other_name one name entry _ no_entry t1.object in
-    let name_key : name ≢ key = other_name known name key _ no_key table.object in
+    let name_entry : name ≢ entry = other_name known name entry _ no_entry table.object in
     let within : b < length heads = omega (arith, bound, table.size) in
     record {
       after = after;
@@ -87,25 +95,35 @@ linked_table known name heads buckets table word n b home bound lacks key entry 
         distinct = in_bucket (λ c ls. AreDifferent ls) buckets b (link ∷ buckets b) (lacks, table.distinct b bound) (λ c h o. table.distinct c h);
       });
       adds = inr (subst (λ i. LacksWord word (buckets i)) (sym home) lacks, (link, refl, refl, ap (λ i. link ∷ buckets i) (sym home)));
-      others = λ x kx o no. others_kept x kx o;
-      apart = λ x kx no. (λ e. not_new x kx no_entry (sym e), subst (λ i. IsNoEntry x (buckets i)) home no);
+      others = λ x kx o no. get-other two name (Fields last) x o ∙ (grown_known known two g2 x kx).0;
+      fresh = λ x kx no. (known_other known x entry kx no_entry, subst (λ i. IsNoEntry x (buckets i)) home no);
     }
-  where
-    by_option : (x : Name) (o : Option Content) → get known x ≡ o → IsSome o → x ≢ name
-        → get (insert (with_fields (insert known key d) entry (get_or heads b datum.Null) (datum.Object key) n) name (Fields (set heads b (datum.Object entry)))) x ≡ get known x
-    by_option x None e h o = absurd (true≢false (sym h))
-    by_option x (Some c) e h o =
-        let g1 = insert_grows known key d no_key x c e in
-        let g2 = insert_grows (insert known key d) entry (Fields (get_or heads b datum.Null ∷ datum.Object key ∷ datum.Int n ∷ [])) no_entry x c g1 in
-        get-other _ name (Fields (set heads b (datum.Object entry))) x o ∙ g2 ∙ sym e
 
-    new_by_option : (x : Name) (o : Option Content) → get known x ≡ o → IsSome o → get (insert known key d) entry ≡ None → x ≢ entry
-    new_by_option x None e h none = absurd (true≢false (sym h))
-    new_by_option x (Some c) e h none = other_name (insert known key d) x entry c none (insert_grows known key d no_key x c e)
+pub linked_table : (known : KnownObjects) (name : Name) (heads : List Datum) (buckets : ℕ → List Link) (table : IsTable known name heads buckets) (word : List ℕ) (n b : ℕ) (home : bucket_of word ≡ b) (bound : b < 128) (lacks : LacksWord word (buckets b))
+    (key entry : Name) (d : Content) (no_key : get known key ≡ None) (no_entry : get (insert known key d) entry ≡ None) (is_key : IsKey (insert known key d) key word)
+    → (knows : KnownObjects → Type 0) → knows (insert (with_fields (insert known key d) entry (get_or heads b datum.Null) (datum.Object key) n) name (Fields (set heads b (datum.Object entry))))
+    → IsAddedTo known word n name buckets knows
+linked_table known name heads buckets table word n b home bound lacks key entry d no_key no_entry is_key knows k =
+    let one : KnownObjects = insert known key d in
+    let g1 : Grows known one = insert_grows known key d no_key in
+    let t1 = table_grows known one g1 name heads buckets table in
+    let a = shared_table one name heads buckets t1 word n b home bound lacks key entry no_entry is_key (other_name known name key _ no_key table.object) knows k in
+    record {
+      after = a.after;
+      heads = a.heads;
+      links = a.links;
+      known_now = a.known_now;
+      is_table = a.is_table;
+      adds = a.adds;
+      others = λ x kx o no. let g = grown_known known one g1 x kx in a.others x g.1 o no ∙ g.0;
+      fresh = λ x kx no. a.fresh x (grown_known known one g1 x kx).1 no;
+    }
 
-    not_new : (x : Name) → IsKnown known x → get (insert known key d) entry ≡ None → x ≢ entry
-    not_new x h none = new_by_option x (get known x) refl h none
-
-    others_kept : (x : Name) → IsKnown known x → x ≢ name
-        → get (insert (with_fields (insert known key d) entry (get_or heads b datum.Null) (datum.Object key) n) name (Fields (set heads b (datum.Object entry)))) x ≡ get known x
-    others_kept x h o = by_option x (get known x) refl h o
+-- the same map by other names
+pub shared_map : (known : KnownObjects) (name : Name) (heads : List Datum) (b n : ℕ) (knows : KnownObjects → Type 0) (entry_was : Name) (front_was key_was : Datum) (front : Datum) (entry : Name) (key : Datum) → entry_was ≡ entry → front_was ≡ front → key_was ≡ key
+    → knows (insert (insert known entry_was (Fields (front_was ∷ key_was ∷ datum.Int n ∷ []))) name (Fields (set heads b (datum.Object entry_was))))
+    → knows (insert (insert known entry (Fields (front ∷ key ∷ datum.Int n ∷ []))) name (Fields (set heads b (datum.Object entry))))
+shared_map known name heads b n knows entry_was front_was key_was front entry key e f q k =
+    subst (λ x. knows (insert (insert known x (Fields (front ∷ key ∷ datum.Int n ∷ []))) name (Fields (set heads b (datum.Object x))))) e
+    (subst (λ v. knows (insert (insert known entry_was (Fields (v ∷ key ∷ datum.Int n ∷ []))) name (Fields (set heads b (datum.Object entry_was))))) f
+      (subst (λ v. knows (insert (insert known entry_was (Fields (front_was ∷ v ∷ datum.Int n ∷ []))) name (Fields (set heads b (datum.Object entry_was))))) q k))

@@ -13,3 +13,15 @@ err_map (Err e) P Q f h = f h
 pub ok_both : {A B : Type 0} (r : Result A B) (P Q : Type 0) → OnOk r P → OnOk r Q → OnOk r (P × Q)
 ok_both (Ok x) P Q h k = (h, k)
 ok_both (Err e) P Q h k = tt
+
+pub either : {A B : Type 0} (r : Result A B) (P : Type 0) → OnOk r P → OnErr r P → P
+either (Ok x) P h k = h
+either (Err e) P h k = k
+
+pub err_both : {A B : Type 0} (r : Result A B) (P Q : Type 0) → OnErr r P → OnErr r Q → OnErr r (P × Q)
+err_both (Ok x) P Q h k = tt
+err_both (Err e) P Q h k = (h, k)
+
+pub on_err : {A B : Type 0} (r : Result A B) (P : Type 0) → P → OnErr r P
+on_err (Ok x) P h = tt
+on_err (Err e) P h = h

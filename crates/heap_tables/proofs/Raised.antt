@@ -36,7 +36,7 @@ homes_raised : (b : ℕ) (passed rest : List Link) (link : Link) (n : ℕ) → A
 homes_raised b [] rest link n h = h
 homes_raised b (p ∷ passed) rest link n h = (h.0, homes_raised b passed rest link n h.1)
 
-lacks_at : (w : List ℕ) (passed rest : List Link) (link : Link) → LacksWord w (passed ++ link ∷ rest) → link.word ≢ w
+pub lacks_at : (w : List ℕ) (passed rest : List Link) (link : Link) → LacksWord w (passed ++ link ∷ rest) → link.word ≢ w
 lacks_at w [] rest link h = h.0
 lacks_at w (p ∷ passed) rest link h = lacks_at w passed rest link h.1
 
@@ -44,11 +44,11 @@ pub distinct_parts : (passed rest : List Link) (link : Link) → AreDifferent (p
 distinct_parts [] rest link h = (tt, h.0)
 distinct_parts (p ∷ passed) rest link h = let r = distinct_parts passed rest link h.1 in ((λ e. lacks_at p.word passed rest link h.0 (sym e), r.0), r.1)
 
-other_bucket : (b c : ℕ) (w : List ℕ) → bucket_of w ≡ b → b ≢ c → (links : List Link) → AreInBucket c links → LacksWord w links
+pub other_bucket : (b c : ℕ) (w : List ℕ) → bucket_of w ≡ b → b ≢ c → (links : List Link) → AreInBucket c links → LacksWord w links
 other_bucket b c w h o [] homes = tt
 other_bucket b c w h o (l ∷ links) homes = (λ e. o (sym h ∙ sym (ap bucket_of e) ∙ homes.0), other_bucket b c w h o links homes.1)
 
-home_at : (b : ℕ) (passed rest : List Link) (link : Link) → AreInBucket b (passed ++ link ∷ rest) → bucket_of link.word ≡ b
+pub home_at : (b : ℕ) (passed rest : List Link) (link : Link) → AreInBucket b (passed ++ link ∷ rest) → bucket_of link.word ≡ b
 home_at b [] rest link h = h.0
 home_at b (p ∷ passed) rest link h = home_at b passed rest link h.1
 
@@ -118,7 +118,7 @@ raised_table known name heads buckets table word n bound passed rest link parts 
       };
       adds = inl (passed, link, rest, parts, same, refl);
       others = λ x kx o no. agree x (λ e. no_entry_at x passed rest link (subst (IsNoEntry x) parts no) (sym e));
-      apart = λ x kx no. no_entry_raised x passed rest link n (subst (IsNoEntry x) parts no);
+      fresh = λ x kx no. no_entry_raised x passed rest link n (subst (IsNoEntry x) parts no);
     }
 
 pub no_int : (known : KnownObjects) (links : List Link) (head : Datum) → IsChain known head links → (m : ℕ) → head ≡ datum.Int m → ⊥

@@ -7,7 +7,7 @@ use Rattle.yak_model.specs.Graph.{Thread}
 use Rattle.yak_model.specs.History.{Entry}
 use Rattle.yak_model.specs.Private.{KnownObjects}
 use Rattle.yak_model.specs.Standing.{Standing, Stays, counted_on}
-use Rattle.heap_tables.specs.Runs.{GrowsPlainly, IsPlainEntry, IsQuiet, IsRefused, Ran, RanOut, Since}
+use Rattle.heap_tables.specs.Runs.{next_of, GrowsPlainly, IsPlainEntry, IsQuiet, IsRefused, Ran, RanOut, Since}
 
 counted-cases : (a b c v w M : ℕ) → min (b + 0) M ≡ min (a + v) M → min (c + 0) M ≡ min (b + w) M → min (c + 0) M ≡ min (a + (v + w)) M
 counted-cases a b c v w M r q = omega (arith, r, q)
@@ -101,3 +101,7 @@ module _ {S B : Type 0} (base : S → B) (tells : S → ℕ → Thread → Type 
     since = record { thread = refl; limits = refl; depth = refl; words_made = refl; list = plain-none (standing a).thread (standing a).list };
     quiet = record { refusals = refl; last = refl };
   }
+
+-- the next object is the same after calls that made none
+pub next_same : (a b : Standing) → b.thread ≡ a.thread → b.own.made ≡ a.own.made → next_of b ≡ next_of a
+next_same a b e f = ap (λ t. record { thread = t; serial = b.own.made + 1 }) e ∙ ap (λ n. record { thread = a.thread; serial = n + 1 }) f

@@ -148,3 +148,9 @@ took_none (l ∷ ls) buffer e = cc
 pub took_some : (ls rest : List Link) (link : Link) (size count : ℕ) (buffer : List ℕ) → ls ≡ link ∷ rest → IsCopied link.word size buffer → count ≡ link.count → Took ls (Some (size, count)) buffer
 took_some ls rest link size count buffer e copied same =
     subst (λ l. Took l (Some (size, count)) buffer) (sym e) (size, ap (λ n. Some (size, n)) same, copied)
+
+pub entry_drop : (known : KnownObjects) (head : Datum) (links rest : List Link) (link : Link) (n : ℕ) → IsChain known head links → drop n links ≡ link ∷ rest → (next : Datum) × IsEntry known next link
+entry_drop known head [] rest link zero chain e = cc
+entry_drop known head [] rest link (suc n) chain e = cc
+entry_drop known head (l ∷ links) rest link zero chain e = let q : l ≡ link = cc in (chain.1.0, subst (λ m. IsEntry known chain.1.0 m) q chain.1.1)
+entry_drop known head (l ∷ links) rest link (suc n) chain e = entry_drop known chain.1.0 links rest link n chain.1.2 e

@@ -33,10 +33,6 @@ abbrev pub IsNoEntry : Name → List Link → Type 0
 IsNoEntry name [] = Unit {0}
 IsNoEntry name (link ∷ links) = (link.entry ≢ name) × IsNoEntry name links
 
--- A known object that was no entry of the chain is none of what the chain is now.
-abbrev pub KeepsNoEntry : KnownObjects → List Link → List Link → Type 0
-KeepsNoEntry known links after = (other : Name) → IsKnown known other → IsNoEntry other links → IsNoEntry other after
-
 -- Known objects but the table and the entries of one chain stay as they were.
 abbrev pub KeepsOthers : KnownObjects → Name → List Link → KnownObjects → Type 0
 KeepsOthers known name links after =
@@ -63,7 +59,7 @@ pub record IsAddedTo (known : KnownObjects) (word : List ℕ) (n : ℕ) (name : 
   pub is_table : IsTable after name heads (with_bucket buckets (bucket_of word) links)
   pub adds : AddsCount word n (buckets (bucket_of word)) links
   pub others : KeepsOthers known name (buckets (bucket_of word)) after
-  pub apart : KeepsNoEntry known (buckets (bucket_of word)) links
+  pub fresh : (other : Name) → IsKnown known other → IsNoEntry other (buckets (bucket_of word)) → IsNoEntry other links
 
 -- An entry of a known map whose count may rise by n.
 abbrev pub MayRaise : Standing → (KnownObjects → Type 0) → ℕ → ℕ → Type 0

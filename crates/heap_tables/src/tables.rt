@@ -53,7 +53,7 @@ pub fn make<C: Caller>(caller: &mut C) -> Result<(), OutOfHeap>
 }
 
 /// Adds to the count of a word that is in the table, and tells whether it is.
-fn add_present<C: Caller>(caller: &mut C, table: u32, word: &[u8], n: u64, top: u32) -> bool
+pub(crate) fn add_present<C: Caller>(caller: &mut C, table: u32, word: &[u8], n: u64, top: u32) -> bool
     requires table { HasTable (C.standing caller.old) (C.knows caller.old) table word.now n }
     requires word { length word.now ≤ WORD_LIMIT }
     requires room { length (stack_in (C.standing caller.old)) + 3 < STACK_SLOTS }
@@ -92,7 +92,7 @@ fn fill_entry<C: Caller>(caller: &mut C, entry: u32, next: u32, key: u32, n: u64
 }
 
 /// Makes an entry for the key in the top slot, and puts it at the front of a bucket, which the slot below has.
-fn link_new<C: Caller>(caller: &mut C, table: u32, bucket: u32, n: u64, front: u32) -> Result<(), OutOfHeap>
+pub(crate) fn link_new<C: Caller>(caller: &mut C, table: u32, bucket: u32, n: u64, front: u32) -> Result<(), OutOfHeap>
     requires number { n ≤ MAX_INT }
     requires table { HasField (C.standing caller.old) (C.knows caller.old) table bucket }
     requires page { PAGE_WORDS ≤ (C.standing caller.old).limits.page }

@@ -186,7 +186,7 @@ returns-in-Ok-clause-added g c known name heads buckets k may =
     let still = c.load.ensures.keeps known missing.1 in
     let size = size_after (g.C.Caller.standing c.args.caller.now).own _ (get_or heads c.bucket_of-bucket.result datum.Null) loaded in
     let added = c.in-Ok.ensures.added known name heads buckets still there.0 t (top_after (g.C.Caller.standing c.args.caller.now).own _ (get_or heads c.bucket_of-bucket.result datum.Null) c.args.top loaded c.requires.top) (sym e) small (subst (λ i. LacksWord c.args.word.now (buckets i)) (sym e) missing.0) in
-    record { after = added.after; heads = added.heads; links = added.links; known_now = c.pop.ensures.keeps _ added.known_now; is_table = added.is_table; adds = added.adds; others = added.others; apart = added.apart }
+    record { after = added.after; heads = added.heads; links = added.links; known_now = c.pop.ensures.keeps _ added.known_now; is_table = added.is_table; adds = added.adds; others = added.others; fresh = added.fresh }
 
 pub returns-in-Err-clause-stack : goal.returns-in-Err-clause-stack
 returns-in-Err-clause-stack g c =
