@@ -29,7 +29,7 @@ find-map g (first ∷ words) word =
     ] refl
 
 -- what a list tells of a word: the number of its places, if it has one
-abbrev told_of : List (List ℕ) → List ℕ → Option ℕ
+abbrev pub told_of : List (List ℕ) → List ℕ → Option ℕ
 told_of words word = cond (has_word words word) (Some (places_of words word)) None
 
 pub get-word_counts : (words : List (List ℕ)) (word : List ℕ) → finite.get (word_counts words) word ≡ told_of words word

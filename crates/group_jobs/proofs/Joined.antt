@@ -3,7 +3,8 @@ use Rattle.std.proofs.Common.{◌≡◌, ℕ, ◌+◌, ◌-◌, ◌*◌, ◌^◌
 use Rattle.yak_model.specs.Graph.{Thread}
 use Rattle.yak_model.specs.Private.{KnownObjects}
 use Rattle.yak_model.specs.Standing.{Standing, Stays, counted_on}
-use Rattle.heap_tables.specs.Runs.{IsQuiet, Ran}
+use Rattle.object_layout.specs.declared.TheConstants.{OBJECT_WORDS}
+use Rattle.heap_tables.specs.Runs.{IsQuiet, Ran, RanOut}
 use Rattle.group_jobs.specs.Goings.{Lacked, Makes, Went, WentOut}
 
 counted-cases : (a b c v w M : ℕ) → min (b + 0) M ≡ min (a + v) M → min (c + 0) M ≡ min (b + w) M → min (c + 0) M ≡ min (a + (v + w)) M
@@ -77,4 +78,25 @@ module _ {S B : Type 0} (base : S → B) (tells : S → ℕ → Thread → Type 
     stays = (refl, λ _ _ h. h, λ _ _ h. h);
     makes = record { thread = refl; limits = refl; counted = refl; within = omega arith };
     quiet = record { refusals = refl; last = refl };
+  }
+
+  -- a run that begins and ends no epoch
+  pub went_ran : (a b : S) (w most : ℕ) → w ≤ most → Ran base tells tells_known standing a b w → Went base tells tells_known standing a b most
+  went_ran a b w most le r = record {
+    words = w;
+    stays = r.stays;
+    makes = record { thread = (r.since).thread; limits = (r.since).limits; counted = (r.since).words_made; within = le };
+    quiet = r.quiet;
+  }
+
+  pub out_ran : (a b : S) (w k most : ℕ) → w + (k + OBJECT_WORDS) ≤ most → RanOut base tells tells_known standing a b w k → WentOut base tells tells_known standing a b (standing a).own.depth most
+  out_ran a b w k most le r = record {
+    words = w;
+    asked = k + OBJECT_WORDS;
+    depth = (standing a).own.depth;
+    stays = r.stays;
+    makes = record { thread = (r.since).thread; limits = (r.since).limits; counted = (r.since).words_made; within = omega (arith, le) };
+    within = le;
+    deep = omega arith;
+    lacked = record { refusals = (r.refused).refusals; census = (r.refused).census; none_free = (r.refused).none_free; last = (r.refused).last };
   }

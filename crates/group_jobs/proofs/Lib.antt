@@ -10,3 +10,4 @@ pub mod Opened
 pub mod Rooms
 pub mod Progress
 pub mod Passing
+pub mod Merging

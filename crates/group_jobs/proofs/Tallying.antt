@@ -46,7 +46,7 @@ few_places (first ∷ words) word = omega (arith, few_places words word, one_or_
 
 -- ---- no more links than words
 
-abbrev AreOf : List (List ℕ) → List Link → Type 0
+abbrev pub AreOf : List (List ℕ) → List Link → Type 0
 AreOf words links = All (λ l. has_word words l.word ≡ true) links
 
 among_rest : (first word : List ℕ) (words : List (List ℕ)) → has_word (first ∷ words) word ≡ true → word ≢ first → has_word words word ≡ true
@@ -92,7 +92,7 @@ remove word (l ∷ links) d = elim (word_cases l.word word) [
       }
 ]
 
-few_links : (words : List (List ℕ)) (links : List Link) → AreDifferent links → AreOf words links → length links ≤ length words
+pub few_links : (words : List (List ℕ)) (links : List Link) → AreDifferent links → AreOf words links → length links ≤ length words
 few_links [] [] d all = omega arith
 few_links [] (l ∷ links) d all = absurd (true≢false (sym (All-head (λ k. has_word [] k.word ≡ true) l links all)))
 few_links (first ∷ words) links d all =
@@ -104,7 +104,7 @@ few_links (first ∷ words) links d all =
 not_there : (words : List (List ℕ)) (word : List ℕ) → has_word words word ≡ false → get (word_counts words) word ≡ None
 not_there words word none = get-word_counts words word ∙ ap (λ b. cond b (Some (places_of words word)) None) none
 
-are_of : (words : List (List ℕ)) (known : KnownObjects) (name : Name) (table : IsCountTable known name (word_counts words)) (b : ℕ) (links : List Link) → AreInBucket b links → ((v : List ℕ) → LacksWord v (table.buckets b) → LacksWord v links) → AreOf words links
+pub are_of : (words : List (List ℕ)) (known : KnownObjects) (name : Name) (table : IsCountTable known name (word_counts words)) (b : ℕ) (links : List Link) → AreInBucket b links → ((v : List ℕ) → LacksWord v (table.buckets b) → LacksWord v links) → AreOf words links
 are_of words known name table b [] homes lacks = All-nil (λ l. has_word words l.word ≡ true)
 are_of words known name table b (l ∷ links) homes lacks =
     All-cons (λ k. has_word words k.word ≡ true) l links

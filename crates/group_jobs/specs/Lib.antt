@@ -4,4 +4,3 @@ pub mod LongWords
 pub mod Counts
 pub mod Goings
 pub mod Tallies
-pub mod Stub

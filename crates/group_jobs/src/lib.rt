@@ -4,7 +4,6 @@
 mod counted;
 mod epochs;
 mod long_words;
-mod stub;
 mod tallies;
 mod tasks;
 #[cfg(test)]

@@ -14,11 +14,10 @@ ghost use Rattle.group_jobs.specs.Tasks.{task_bytes};
 ghost use Rattle.group_jobs.specs.declared.TheConstants.{INPUT_LIMIT, OBJECTS_FOR_WORD, PART_SLOT, TOTAL_SLOT};
 
 use crate::epochs::{begin, end};
-use crate::stub::merge;
 use crate::tasks::Task;
 use crate::words::Words;
 use crate::{PART_SLOT, TOTAL_SLOT};
-use heap_tables::{add, make};
+use heap_tables::{add, make, merge};
 use heap_tables::steps::pop;
 use object_layout::OutOfHeap;
 use yak_model::Caller;
