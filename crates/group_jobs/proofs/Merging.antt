@@ -37,11 +37,11 @@ not_rest x xs (y ∷ ys) all =
     let P = λ (k : Link). IsNoEntry k.entry (x ∷ xs) in
     All-cons (λ k. IsNoEntry k.entry xs) y ys ((All-head P y ys all).1) (not_rest x xs ys (All-tail P y ys all))
 
-shares_none : (xs ys : List Link) → All (λ y. IsNoEntry y.entry xs) ys → SharesNone xs ys
+pub shares_none : (xs ys : List Link) → All (λ y. IsNoEntry y.entry xs) ys → SharesNone xs ys
 shares_none [] ys all = tt
 shares_none (x ∷ xs) ys all = (not_among x xs ys all, shares_none xs ys (not_rest x xs ys all))
 
-at_one : (ys : List Link) (buckets : ℕ → List Link) (b : ℕ) → b < BUCKETS → All (λ y. (c : ℕ) → c < BUCKETS → IsNoEntry y.entry (buckets c)) ys → All (λ y. IsNoEntry y.entry (buckets b)) ys
+pub at_one : (ys : List Link) (buckets : ℕ → List Link) (b : ℕ) → b < BUCKETS → All (λ y. (c : ℕ) → c < BUCKETS → IsNoEntry y.entry (buckets c)) ys → All (λ y. IsNoEntry y.entry (buckets b)) ys
 at_one [] buckets b bound all = All-nil (λ y. IsNoEntry y.entry (buckets b))
 at_one (y ∷ ys) buckets b bound all =
     let P = λ (k : Link). (c : ℕ) → c < BUCKETS → IsNoEntry k.entry (buckets c) in
@@ -66,7 +66,7 @@ short_count words short word some = elim (has_word words word) as (λ b. has_wor
 
 -- ---- what may be merged
 
-pub may_merge : (s : Standing) (known : KnownObjects) (done doing : List (List ℕ)) (t : Tallies s known done doing) → length done + length doing ≤ INPUT_LIMIT
+abbrev pub may_merge : (s : Standing) (known : KnownObjects) (done doing : List (List ℕ)) (t : Tallies s known done doing) → length done + length doing ≤ INPUT_LIMIT
     → MayMerge s known PART_SLOT TOTAL_SLOT t.name (t.total).name (word_counts doing) (word_counts done)
 may_merge s known done doing t few = record {
   from_slot = t.slot;

@@ -4,6 +4,7 @@
 mod counted;
 mod epochs;
 mod long_words;
+mod stub;
 mod tallies;
 mod tasks;
 #[cfg(test)]
