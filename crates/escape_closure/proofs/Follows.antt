@@ -26,11 +26,11 @@ pub room_is : (m : Areas) (c : Contents) (t : ℕ) (x : Space) → room_in m c t
 room_is m c t Control = refl
 room_is m c t (Region u d) = refl
 
-has_owner : (m : Areas) (t : ℕ) (x : Space) → HasThread m t → IsSpaceOf m x → HasThread m (owner t x)
+pub has_owner : (m : Areas) (t : ℕ) (x : Space) → HasThread m t → IsSpaceOf m x → HasThread m (owner t x)
 has_owner m t Control has of = has
 has_owner m t (Region u d) has of = (of.0, of.1)
 
-same_space : (m : Areas) (t : ℕ) (x y : Space) → IsSpaceOf m x → IsSpaceOf m y → owner t y ≡ owner t x → depth_in y ≡ depth_in x → y ≡ x
+pub same_space : (m : Areas) (t : ℕ) (x y : Space) → IsSpaceOf m x → IsSpaceOf m y → owner t y ≡ owner t x → depth_in y ≡ depth_in x → y ≡ x
 same_space m t Control Control hx hy o d = refl
 same_space m t Control (Region v e) hx hy o d = absurd (omega (arith, hy, d))
 same_space m t (Region u d') Control hx hy o d = absurd (omega (arith, hx, d))
@@ -40,10 +40,10 @@ pub is_valid : (m : Areas) (x : Space) → IsAreas m → IsSpaceOf m x → IsVal
 is_valid m Control areas of = tt
 is_valid m (Region u d) areas of = (of.0, omega (arith, of, areas), of.2, of.3)
 
-left_none : (m : Areas) (c : Contents) (t d : ℕ) → current c.currents t d ≡ 0 → words_left_at m c t d ≡ 0
+pub left_none : (m : Areas) (c : Contents) (t d : ℕ) → current c.currents t d ≡ 0 → words_left_at m c t d ≡ 0
 left_none m c t d e = same_is (current c.currents t d) 0 0 (page_words m - used_mark c.table (current c.currents t d - 1)) e
 
-left_some : (m : Areas) (c : Contents) (t d page : ℕ) → current c.currents t d ≡ page + 1 → words_left_at m c t d ≡ page_words m - used_mark c.table page
+pub left_some : (m : Areas) (c : Contents) (t d page : ℕ) → current c.currents t d ≡ page + 1 → words_left_at m c t d ≡ page_words m - used_mark c.table page
 left_some m c t d page e =
     let at : current c.currents t d - 1 ≡ page = omega (arith, e) in
     other_is (current c.currents t d) 0 0 (page_words m - used_mark c.table (current c.currents t d - 1)) (λ z. omega (arith, z, e)) ∙ ap (λ q. page_words m - used_mark c.table q) at

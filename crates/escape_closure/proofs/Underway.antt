@@ -59,7 +59,7 @@ module _ (m : Areas) (q : Aimed) (t : ℕ) (c : Contents) (count : ℕ) (r : Rol
         }
 
     target : (x : Space) × IsSpaceOf m x × (work_of q.laid q.words (r.name k) ≡ space_index x + 1)
-    target = let a = r.aimed k lt in exist (r.name k) a.0 a.1 a.2
+    target = let a = r.aimed k lt in let x = exist (r.name k) a.0 a.1 a.2 in (x.0, x.1, x.2)
 
     index_is : index_on q c (heap_length m) count r k ≡ space_index target.0
     index_is = let w = target.2 in omega (arith, w)

@@ -1,5 +1,5 @@
 -- The escaping objects and the pages that they need, in a space state.
-use Rattle.std.proofs.Common.{◌≡◌, ◌⊎◌, ℕ, ◌+◌, ◌≤◌, ◌<◌, true, false, Some, length, refl, sym, ap, subst, ◌∙◌, arith, inl, inr, zero, suc}
+use Rattle.std.proofs.Common.{◌≡◌, ◌⊎◌, ℕ, ◌≤◌, ◌<◌, true, false, Some, length, refl, sym, ap, subst, ◌∙◌, arith, inl, inr, zero, suc}
 use Rattle.std.specs.Prelude.{unwrap_or, Result}
 use Rattle.std.specs.FinSet as names
 use Rattle.object_layout.specs.declared.names.Name.{Name}
@@ -14,13 +14,13 @@ use Rattle.heap_words.specs.Map.{HasThread, IsAreas, heap_length, scratch_length
 use Rattle.heap_words.specs.Contents.{Contents}
 use Rattle.yak_model.specs.Spaces.{IsReachedFor, SpaceState, innermost}
 use Rattle.yak_model.specs.State.{Thing, object_of, view}
-use Rattle.yak_model.specs.Stands.{Stands, free_pages}
+use Rattle.yak_model.specs.Stands.{Stands}
 use Rattle.heap_walks.proofs.Objects.{same_thing}
 use Rattle.heap_walks.proofs.Seen.{present_home, present_of, seen, shown}
 use Rattle.escape_closure.specs.Targets.{IsEscaping, IsTargetAt, TargetsWritten}
 use Rattle.escape_closure.specs.Rolls.{Aimed, AimsInside, IsAimed}
-use Rattle.escape_closure.specs.Placing.{Filling, filled, filling, index_on, rooms_at, size_on}
-use Rattle.escape_closure.specs.Needs.{EscapeWeighed, InOrder, IsWeighed, RollWeighed}
+use Rattle.escape_closure.specs.Placing.{Filling, filled, filling, index_on, rooms_at, size_on, target_on}
+use Rattle.escape_closure.specs.Needs.{InOrder, RollWeighed, pages_needed}
 use Rattle.escape_closure.proofs.Reaches.{reached_here}
 
 -- what is placed the same is filled the same
@@ -79,23 +79,26 @@ module _ (m : Areas) (b c : Contents) (s : SpaceState) (st : Stands m b s) (t de
     inside = λ n o present some. here n o present (escapes n o present some);
   }
 
-  module _ (now : Contents) (first before after : ℕ) (read : before ≤ first + 1) (result : Result ℕ Shortage) (w : RollWeighed m q t before now after result) where
-    target : ℕ → Space
-    target k = unwrap_or (space_of (index_on q now (heap_length m) w.count w.roll k)) Control
+  -- the objects of a roll that was weighed
+  module _ (now : Contents) (before after : ℕ) (result : Result ℕ Shortage) (w : RollWeighed m q t before now after result) where
+    abbrev pub target : ℕ → Space
+    target = target_on q now (heap_length m) w.count w.roll
 
-    escaping_at : (k : ℕ) → k < w.count → IsEscaping s t (w.roll.name k)
+    pub escaping_at : (k : ℕ) → k < w.count → IsEscaping s t (w.roll.name k)
     escaping_at k lt = let a = w.roll.aimed k lt in escapes (w.roll.name k) a.0 a.1 a.2
 
-    index_is : (k : ℕ) (lt : k < w.count) → index_on q now (heap_length m) w.count w.roll k ≡ space_index (written.targets (w.roll.name k) (escaping_at k lt)).0
-    index_is k lt = let x = written.targets (w.roll.name k) (escaping_at k lt) in omega (arith, x.3)
+    index_at : (k : ℕ) (lt : k < w.count) → index_on q now (heap_length m) w.count w.roll k ≡ space_index (written.targets (w.roll.name k) (escaping_at k lt)).0
+    index_at k lt = let x = written.targets (w.roll.name k) (escaping_at k lt) in omega (arith, x.3)
 
-    target_is : (k : ℕ) (lt : k < w.count) → target k ≡ (written.targets (w.roll.name k) (escaping_at k lt)).0
-    unfolding target
+    pub target_is : (k : ℕ) (lt : k < w.count) → target k ≡ (written.targets (w.roll.name k) (escaping_at k lt)).0
     target_is k lt =
         let x = written.targets (w.roll.name k) (escaping_at k lt) in
-        ap (λ i. unwrap_or (space_of i) Control) (index_is k lt) ∙ ap (λ y. unwrap_or y Control) (number-reads_back x.0 x.1)
+        ap (λ i. unwrap_or (space_of i) Control) (index_at k lt) ∙ ap (λ y. unwrap_or y Control) (number-reads_back x.0 x.1)
 
-    order : InOrder s st.places t w.count
+    pub index_is : (k : ℕ) (lt : k < w.count) → index_on q now (heap_length m) w.count w.roll k ≡ space_index (target k)
+    index_is k lt = index_at k lt ∙ ap space_index (sym (target_is k lt))
+
+    abbrev pub order : InOrder s st.places t w.count
     order = record {
       name = w.roll.name;
       target = target;
@@ -107,13 +110,5 @@ module _ (m : Areas) (b c : Contents) (s : SpaceState) (st : Stands m b s) (t de
       targets = λ k lt. let x = written.targets (w.roll.name k) (escaping_at k lt) in subst (λ y. IsValid MAX_DEPTH y × IsTargetAt s t (w.roll.name k) y) (sym (target_is k lt)) (x.1, x.2);
     }
 
-    pub escape_weighed : EscapeWeighed m c s st.places t first after result
-    unfolding order
-    escape_weighed = record {
-      count = w.count;
-      order = order;
-      weighed =
-          let same = filling_same m (rooms_at m c t) (index_on q now (heap_length m) w.count w.roll) (λ k. space_index (target k)) (size_on q now (heap_length m) w.count w.roll) w.count (λ j lt. index_is j lt ∙ ap space_index (sym (target_is j lt))) in
-          subst (λ (f : Filling). IsWeighed w.count f.claimed (length (free_pages c.heads c.pool)) result) same w.weighed;
-      reads = rw region (let r = w.reads in omega (arith, r, read));
-    }
+    pub needed_is : (filling m (rooms_at m c t) (index_on q now (heap_length m) w.count w.roll) (size_on q now (heap_length m) w.count w.roll) w.count).claimed ≡ pages_needed m c s st.places t w.count order
+    needed_is = ap (λ (f : Filling). f.claimed) (filling_same m (rooms_at m c t) (index_on q now (heap_length m) w.count w.roll) (λ k. space_index (target k)) (size_on q now (heap_length m) w.count w.roll) w.count index_is)

@@ -33,7 +33,7 @@ use Rattle.escape_closure.specs.Targets.{IsEscaping, TargetsWritten}
 use Rattle.escape_closure.proofs.Counted.{counts_as, counts_none}
 use Rattle.escape_closure.proofs.Reaches.{inner_region, reached_here, reached_in, reached_of, target_of_least}
 
-none_filed : (buffers : List (List ℕ)) → AreFiled buffers → flat_map (λ (b : List ℕ). b) buffers ≡ []
+pub none_filed : (buffers : List (List ℕ)) → AreFiled buffers → flat_map (λ (b : List ℕ). b) buffers ≡ []
 none_filed [] h = refl
 none_filed (b ∷ bs) h =
     let first : b ≡ [] = h 0 [] (omega arith) in

@@ -63,6 +63,7 @@ pub record EndPlanned (m : Areas) (c d : Contents) (s : SpaceState) (l : Places)
   pub placed : (k : ℕ) → k < count → PlacedAt m c d (move_at d.scratch) k
   pub marks : (p : ℕ) → p < m.pages → used_mark d.table p ≡ used_mark c.table p + brought m c.heap count (move_at d.scratch) p
   pub kept : (p : ℕ) → p < m.pages → space_word c.table p ≢ 0 → space_word d.table p ≡ space_word c.table p
+  pub entered : (p : ℕ) → p < m.pages → space_word c.table p ≡ 0 → space_word d.table p ≢ 0 → (k : ℕ) × (k < count) × (space_word d.table p ≡ space_index (move_at d.scratch k).space + 1)
   pub claimed : List ℕ
   pub free : free_pages c.heads c.pool ≡ claimed ++ free_pages d.heads d.pool
   pub claims : length claimed ≡ pages_needed m c s l t count order

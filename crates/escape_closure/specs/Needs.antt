@@ -8,7 +8,7 @@ use Rattle.epoch_lattice.specs.Lattice.{IsValid, space_index}
 use Rattle.heap_words.specs.declared.map.Areas.{Areas}
 use Rattle.heap_words.specs.Map.{heap_length}
 use Rattle.heap_words.specs.Contents.{Contents}
-use Rattle.yak_model.specs.Spaces.{SpaceState, innermost}
+use Rattle.yak_model.specs.Spaces.{SpaceState}
 use Rattle.yak_model.specs.State.{Thing, object_of}
 use Rattle.yak_model.specs.Placed.{Places, size_by}
 use Rattle.yak_model.specs.Stands.{free_pages}
@@ -43,10 +43,3 @@ pub record RollWeighed (m : Areas) (q : Aimed) (t before : ℕ) (now : Contents)
   pub all : (n : Name) (o : Thing) → IsThing q.laid n o → IsOnRoll q roll.name count n
   pub weighed : IsWeighed count (filling m (rooms_at m q.words t) (index_on q now (heap_length m) count roll) (size_on q now (heap_length m) count roll) count).claimed (length (free_pages q.words.heads q.words.pool)) result
   pub reads : after ≤ before + (2 * m.pages + used_of q.words.table q.region + 4 * count + 2 * (MAX_SPACE + 2))
-
--- The objects that escape, weighed so.
-pub record EscapeWeighed (m : Areas) (c : Contents) (s : SpaceState) (l : Places) (t before after : ℕ) (result : Result ℕ Shortage) : Type 0 where
-  pub count : ℕ
-  pub order : InOrder s l t count
-  pub weighed : IsWeighed count (pages_needed m c s l t count order) (length (free_pages c.heads c.pool)) result
-  pub reads : after ≤ before + (2 * m.pages + used_of c.table (innermost s.graph t) + 4 * count + (1 + 2 * (MAX_SPACE + 2)))

@@ -1,5 +1,5 @@
 -- Objects that are placed one after another, and the pages that this claims.
-use Rattle.std.specs.Prelude.{◌≡◌, ℕ, ◌+◌, ◌-◌, ◌*◌, ◌≤◌, ◌<◌, ◌==◌, nat_le, cond, Option, Some, None, slice_index, zero, suc}
+use Rattle.std.specs.Prelude.{◌≡◌, ℕ, ◌+◌, ◌-◌, ◌*◌, ◌≤◌, ◌<◌, ◌==◌, nat_le, cond, Option, Some, None, slice_index, unwrap_or, zero, suc}
 use Rattle.object_layout.specs.declared.TheConstants.{MAX_SPACE}
 use Rattle.epoch_lattice.specs.declared.Space.{Space}
 use Rattle.epoch_lattice.specs.declared.Space.TheVariants.{Control, Region}
@@ -61,6 +61,10 @@ index_on q now limit count r k = work_of q.laid q.words (r.name k) - 1
 
 abbrev pub size_on : (q : Aimed) (now : Contents) (limit count : ℕ) → Rolled q now limit count → ℕ → ℕ
 size_on q now limit count r k = size_by q.laid.state.objects (r.name k)
+
+-- The target of an object of a roll.
+abbrev pub target_on : (q : Aimed) (now : Contents) (limit count : ℕ) → Rolled q now limit count → ℕ → Space
+target_on q now limit count r k = unwrap_or (space_of (index_on q now limit count r k)) Control
 
 -- An object that has a target is the one of the roll with a number, and its words are as the targets left them.
 pub record EntryAt (m : Areas) (q : Aimed) (now : Contents) (n : Name) (k : ℕ) : Type 0 where

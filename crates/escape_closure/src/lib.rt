@@ -1,15 +1,28 @@
 //! The end of a region: the objects that escape from it, and their targets.
 #![tactic(auto)]
 
+mod beginning;
+mod carrying;
+mod clearing;
+mod closing;
 mod ending;
 mod needing;
 mod planning;
 mod raising;
+mod references;
+mod regional;
 mod rolling;
 mod sources;
+mod tight;
 mod weighing;
 
+pub use clearing::clear_targets;
+pub use closing::close_region;
 pub use ending::targets;
+pub use references::correct_references;
+pub use regional::end_region;
+pub use tight::end_tight;
+pub use planning::plan_moves;
 
 /// What the work word of an object counts more while it waits on the list.
 const WAITING: u64 = 128;

@@ -1,27 +1,34 @@
 //! The plan of an end: where the escaping objects go.
 
-ghost use Rattle.std.specs.Prelude.{◌≡◌, ◌≤◌, ◌<◌, ◌+◌, ◌*◌, ℕ, MatchOption, Option, Some, None, IfSome, ◌⊎◌, length};
-ghost use Rattle.object_layout.specs.declared.TheConstants.{OBJECT_WORDS};
+ghost use Rattle.std.specs.Prelude.{◌≡◌, ◌≤◌, ◌<◌, ◌+◌, ◌*◌, ℕ, MatchOption, MatchResult, Option, Some, None, Err, IfErr, IfOk, IfSome, ◌⊎◌, length};
+ghost use Rattle.object_layout.specs.declared.TheConstants.{MAX_SPACE, OBJECT_WORDS};
 ghost use Rattle.epoch_lattice.specs.declared.TheConstants.{MAX_DEPTH};
-ghost use Rattle.epoch_lattice.specs.Lattice.{IsValid};
+ghost use Rattle.epoch_lattice.specs.Lattice.{IsValid, space_index};
 ghost use Rattle.heap_words.specs.Map.{HasThread, heap_length, page_words};
-ghost use Rattle.heap_words.specs.Contents.{contents, Sound};
-ghost use Rattle.yak_model.specs.Stands.{CurrentsStand, PoolStands, free_pages};
+ghost use Rattle.heap_words.specs.Contents.{Contents, contents, depth_of, Sound};
+ghost use Rattle.yak_model.specs.Spaces.{Counts, SpaceState, innermost};
+ghost use Rattle.yak_model.specs.Stands.{CurrentsStand, PoolStands, Stands, free_pages};
 ghost use Rattle.yak_model.specs.Packed.{IsSpaceOf};
+ghost use Rattle.region_pages.specs.Counts.{used_of};
 ghost use Rattle.region_pages.specs.Pages.{TableFits};
 ghost use Rattle.region_pages.specs.Placement.{IsOwn};
 ghost use Rattle.relocation.specs.declared.plans.TheConstants.{MOVE_WORDS};
 ghost use Rattle.relocation.specs.Moves.{heap_of, move_at, scratch_of, Numbered};
 ghost use Rattle.escape_closure.specs.Placing.{owner};
-ghost use Rattle.escape_closure.specs.Rolls.{Aimed, AimsInside, Rolled};
-ghost use Rattle.escape_closure.specs.Planning.{NotPlaced, PlacedNext, TargetsExist, Underway, filled_by};
+ghost use Rattle.escape_closure.specs.Rolls.{Aimed, AimsInside, OnlyScratch, Rolled};
+ghost use Rattle.escape_closure.specs.Targets.{IsEscaping, TargetsWritten};
+ghost use Rattle.escape_closure.specs.Needs.{RollWeighed};
+ghost use Rattle.escape_closure.specs.Ends.{EndPlanned, FallsShort};
+ghost use Rattle.escape_closure.specs.Planning.{NotPlaced, PlacedNext, PlacedSoFar, RollPlaced, TargetsExist, Underway, filled_by};
 
 use crate::needing::{Entry, read_entry};
-use epoch_lattice::{Space, space_at};
+use crate::weighing::weigh_region;
+use epoch_lattice::{Space, index_of, space_at};
 use heap_words::{Areas, Words};
-use object_layout::Addr;
+use object_layout::{Addr, Shortage};
 use region_pages::place;
 use relocation::{Plan, add_move, empty_plan};
+use thread_stacks::depth;
 
 /// The thread whose current page takes an object in a space, or `None` where the heap has no such space. In Control it is the
 /// thread that ends its region.
@@ -86,7 +93,7 @@ fn place_all<W: Words>(words: &mut W, map: Areas, thread: u8, count: usize) -> P
     requires pool { let c = contents map (W.words words.old) in PoolStands map c.heads c.pool c.table }
     requires currents { let c = contents map (W.words words.old) in CurrentsStand map c.currents c.table }
     requires some { ∥ ((q : Aimed) × AimsInside map q × TargetsExist map q × (r : Rolled q (contents map (W.words words.old)) (heap_length map) count) × ((filled_by map q thread (contents map (W.words words.old)) count r count).claimed ≤ (let c = contents map (W.words words.old) in length (free_pages c.heads c.pool)))) ∥₁ }
-    ensures planned { (q : Aimed) → AimsInside map q → TargetsExist map q → (r : Rolled q (contents map (W.words words.old)) (heap_length map) count) → (filled_by map q thread (contents map (W.words words.old)) count r count).claimed ≤ (let c = contents map (W.words words.old) in length (free_pages c.heads c.pool)) → Underway map q thread (contents map (W.words words.old)) count r (contents map (W.words words.new)) count × (result.count ≡ count) }
+    ensures planned { (q : Aimed) → AimsInside map q → TargetsExist map q → (r : Rolled q (contents map (W.words words.old)) (heap_length map) count) → (filled_by map q thread (contents map (W.words words.old)) count r count).claimed ≤ (let c = contents map (W.words words.old) in length (free_pages c.heads c.pool)) → Underway map q thread (contents map (W.words words.old)) count r (contents map (W.words words.new)) count × PlacedSoFar map q (contents map (W.words words.old)) count r (contents map (W.words words.new)) count × (result.count ≡ count) }
     ensures plan { Numbered map (heap_of map (W.words words.new)) result.count (move_at (scratch_of map (W.words words.new))) }
     ensures sound { Sound map (W.words words.new) }
     ensures table { TableFits map (contents map (W.words words.new)).table }
@@ -104,4 +111,64 @@ fn place_all<W: Words>(words: &mut W, map: Areas, thread: u8, count: usize) -> P
         plan = more;
     }
     plan
+}
+
+/// Puts the objects of a region that have a target on the roll, by ascending address, and plans their moves in this order
+/// where the free pages are enough.
+///
+/// # Errors
+///
+/// `Shortage` exactly where the pages that this claims are more than the free ones, with both numbers. Then only words of the
+/// scratch area have changed.
+fn plan_region<W: Words>(
+    words: &mut W,
+    map: Areas,
+    thread: u8,
+    region: u8,
+) -> Result<Plan, Shortage>
+    requires sound { Sound map (W.words words.old) }
+    requires thread { HasThread map thread }
+    requires table { TableFits map (contents map (W.words words.old)).table }
+    requires pool { let c = contents map (W.words words.old) in PoolStands map c.heads c.pool c.table }
+    requires currents { let c = contents map (W.words words.old) in CurrentsStand map c.currents c.table }
+    requires some { ∥ ((q : Aimed) × (space_index q.region ≡ region) × AimsInside map q × TargetsExist map q × (q.words ≡ contents map (W.words words.old))) ∥₁ }
+    ensures planned { (q : Aimed) → space_index q.region ≡ region → AimsInside map q → TargetsExist map q → q.words ≡ contents map (W.words words.old) → MatchResult result (λ plan. RollPlaced map q thread (W.reads words.old) (contents map (W.words words.new)) (W.reads words.new) plan.count) (λ shortage. RollWeighed map q thread (W.reads words.old) (contents map (W.words words.new)) (W.reads words.new) (Err shortage)) }
+    ensures short { IfErr result (λ shortage. OnlyScratch (contents map (W.words words.old)) (contents map (W.words words.new))) }
+    ensures plan { IfOk result (λ plan. Numbered map (heap_of map (W.words words.new)) plan.count (move_at (scratch_of map (W.words words.new)))) }
+    ensures sound { Sound map (W.words words.new) }
+    ensures table { TableFits map (contents map (W.words words.new)).table }
+    ensures pool { let c = contents map (W.words words.new) in PoolStands map c.heads c.pool c.table }
+    ensures currents { let c = contents map (W.words words.new) in CurrentsStand map c.currents c.table }
+    ensures base { W.base words.new ≡ W.base words.old }
+{
+    let count = weigh_region(words, map, thread, region)?;
+    Ok(place_all(words, map, thread, count))
+}
+
+/// Plans the moves of the objects that escape from the innermost region of a thread, after `targets`: where the free pages are
+/// enough, each is placed in its target, by ascending address. The plan stands in the scratch area, and the work words of the
+/// planned objects tell their moves. All else but the page table, the claim counter and the current pages is as before.
+///
+/// # Errors
+///
+/// `Shortage` exactly where the pages that this claims are more than the free ones, with both numbers. Then only words of the
+/// scratch area have changed.
+pub fn plan_moves<W: Words>(words: &mut W, map: Areas, thread: u8) -> Result<Plan, Shortage>
+    requires sound { Sound map (W.words words.old) }
+    requires thread { HasThread map thread }
+    requires depth { 1 ≤ depth_of (contents map (W.words words.old)) thread }
+    requires aimed { ∥ ((s : SpaceState) × (before : Contents) × (stands : Stands map before s) × (escaping : ℕ) × TargetsWritten map s stands.places thread before (contents map (W.words words.old)) escaping) ∥₁ }
+    ensures planned { let c = contents map (W.words words.old) in let d = contents map (W.words words.new) in (s : SpaceState) (before : Contents) (stands : Stands map before s) (escaping : ℕ) → TargetsWritten map s stands.places thread before c escaping → MatchResult result (λ plan. (plan.count ≡ escaping) × EndPlanned map c d s stands.places thread plan.count) (λ shortage. FallsShort map c s stands.places thread shortage × OnlyScratch c d) }
+    ensures counted { (s : SpaceState) (before : Contents) (stands : Stands map before s) (escaping : ℕ) → TargetsWritten map s stands.places thread before (contents map (W.words words.old)) escaping → IfOk result (λ plan. Counts (IsEscaping s thread) plan.count) }
+    ensures numbered { IfOk result (λ plan. Numbered map (heap_of map (W.words words.new)) plan.count (move_at (scratch_of map (W.words words.new)))) }
+    ensures reads { let c = contents map (W.words words.old) in (s : SpaceState) (before : Contents) (stands : Stands map before s) (escaping : ℕ) → TargetsWritten map s stands.places thread before c escaping → W.reads words.new ≤ W.reads words.old + (2 * map.pages + used_of c.table (innermost s.graph thread) + 12 * escaping + (1 + 2 * (MAX_SPACE + 2))) }
+    ensures sound { Sound map (W.words words.new) }
+    ensures base { W.base words.new ≡ W.base words.old }
+{
+    let innermost = depth(words, map, thread);
+    let region = index_of(Space::Region {
+        thread,
+        depth: innermost,
+    });
+    plan_region(words, map, thread, region)
 }

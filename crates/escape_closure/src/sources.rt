@@ -44,7 +44,7 @@ pub(crate) fn raise_stack<W: Words>(
 }
 
 /// The page in which a heap word stands.
-fn page_of(map: Areas, a: usize) -> u32
+pub(crate) fn page_of(map: Areas, a: usize) -> u32
     requires areas { IsAreas map }
     requires within { a < heap_length map }
     ensures { result ≡ a / page_words map }

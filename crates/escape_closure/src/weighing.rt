@@ -3,24 +3,24 @@
 ghost use Rattle.std.specs.Prelude.{◌≡◌, ◌≤◌, ℕ};
 ghost use Rattle.epoch_lattice.specs.Lattice.{space_index};
 ghost use Rattle.heap_words.specs.Map.{HasThread};
-ghost use Rattle.heap_words.specs.Contents.{Contents, contents, depth_of, Sound};
-ghost use Rattle.yak_model.specs.Spaces.{SpaceState};
-ghost use Rattle.yak_model.specs.Stands.{CurrentsStand, PoolStands, Stands};
+ghost use Rattle.heap_words.specs.Contents.{contents, Sound};
+ghost use Rattle.yak_model.specs.Stands.{CurrentsStand, PoolStands};
 ghost use Rattle.escape_closure.specs.Rolls.{Aimed, AimsInside, OnlyScratch};
-ghost use Rattle.escape_closure.specs.Targets.{TargetsWritten};
-ghost use Rattle.escape_closure.specs.Needs.{EscapeWeighed, RollWeighed};
+ghost use Rattle.escape_closure.specs.Needs.{RollWeighed};
 
 use crate::needing::needed_pages;
 use crate::rolling::roll_region;
-use epoch_lattice::{Space, index_of};
 use heap_words::{Areas, Words};
 use object_layout::Shortage;
 use region_pages::free_count;
-use thread_stacks::depth;
 
 /// Puts the objects of a region that have a target on the roll, by ascending address, and answers how many these are where the
-/// free pages are enough to place them in this order.
-fn weigh_region<W: Words>(
+/// free pages are enough to place them in this order. Only words of the scratch area are changed.
+///
+/// # Errors
+///
+/// `Shortage` exactly where the pages that this claims are more than the free ones, with both numbers.
+pub(crate) fn weigh_region<W: Words>(
     words: &mut W,
     map: Areas,
     thread: u8,
@@ -43,31 +43,4 @@ fn weigh_region<W: Words>(
         return Err(Shortage { needed, free });
     }
     Ok(count)
-}
-
-/// Weighs the objects that escape from the innermost region of a thread, after `targets`: where the free pages are enough to
-/// place them by ascending address, each in its target, they stand on the roll in the scratch area, and it answers how many
-/// they are. Only words of the scratch area are changed.
-///
-/// # Errors
-///
-/// `Shortage` exactly where the pages that this claims are more than the free ones, with both numbers.
-pub(crate) fn weigh<W: Words>(words: &mut W, map: Areas, thread: u8) -> Result<usize, Shortage>
-    requires sound { Sound map (W.words words.old) }
-    requires thread { HasThread map thread }
-    requires depth { 1 ≤ depth_of (contents map (W.words words.old)) thread }
-    requires pool { let c = contents map (W.words words.old) in PoolStands map c.heads c.pool c.table }
-    requires currents { let c = contents map (W.words words.old) in CurrentsStand map c.currents c.table }
-    requires aimed { ∥ ((s : SpaceState) × (before : Contents) × (stands : Stands map before s) × (escaping : ℕ) × TargetsWritten map s stands.places thread before (contents map (W.words words.old)) escaping) ∥₁ }
-    ensures weighed { (s : SpaceState) (before : Contents) (stands : Stands map before s) (escaping : ℕ) → TargetsWritten map s stands.places thread before (contents map (W.words words.old)) escaping → EscapeWeighed map (contents map (W.words words.old)) s stands.places thread (W.reads words.old) (W.reads words.new) result }
-    ensures frame { OnlyScratch (contents map (W.words words.old)) (contents map (W.words words.new)) }
-    ensures sound { Sound map (W.words words.new) }
-    ensures base { W.base words.new ≡ W.base words.old }
-{
-    let innermost = depth(words, map, thread);
-    let region = index_of(Space::Region {
-        thread,
-        depth: innermost,
-    });
-    weigh_region(words, map, thread, region)
 }

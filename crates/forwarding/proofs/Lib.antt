@@ -1,0 +1,5 @@
+pub mod Entries
+pub mod RegionSteps
+pub mod Reshaping
+pub mod StackSteps
+pub mod TableSteps

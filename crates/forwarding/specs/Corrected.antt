@@ -1,5 +1,5 @@
--- The fields of the objects of regions, corrected.
-use Rattle.std.specs.Prelude.{◌≡◌, ℕ, ◌+◌, ◌*◌, ◌≤◌, ◌<◌, ◌⊎◌, List, slice_index, length}
+-- The slots of stacks and the fields of the objects of regions, corrected.
+use Rattle.std.specs.Prelude.{◌≡◌, ℕ, ◌+◌, ◌*◌, ◌≤◌, ◌<◌, ◌⊎◌, List, slice_index, length, map}
 use Rattle.heap_words.specs.declared.map.Areas.{Areas}
 use Rattle.heap_words.specs.Map.{heap_length, page_words}
 use Rattle.heap_words.specs.Contents.{Contents}
@@ -7,6 +7,14 @@ use Rattle.yak_model.specs.Placed.{space_word}
 use Rattle.yak_model.specs.Plans.{Move}
 use Rattle.relocation.specs.Moves.{corrected_word, size_at}
 use Rattle.relocation.specs.Slide.{PageRun, object_at}
+
+-- The slots of a stack, corrected.
+abbrev pub corrected_stack : (ℕ → ℕ) → List ℕ → List ℕ
+corrected_stack f slots = map (corrected_word f) slots
+
+-- The slots of all stacks, corrected.
+abbrev pub corrected_stacks : (ℕ → ℕ) → List (List ℕ) → List (List ℕ)
+corrected_stacks f stacks = map (corrected_stack f) stacks
 
 -- A page belongs to a region: its word in the page table is past that of Control, which is 1.
 abbrev pub IsRegional : Contents → ℕ → Type 0

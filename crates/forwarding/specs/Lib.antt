@@ -1,3 +1,6 @@
 pub mod Corrected
 pub mod Crossing
+pub mod Entering
 pub mod Reshaped
+pub mod Row
+pub mod Settled

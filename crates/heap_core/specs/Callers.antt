@@ -87,6 +87,7 @@ abbrev pub words_asked : Call → ℕ
 words_asked (New k) = k + OBJECT_WORDS
 words_asked asked = 0
 
--- Where the heap has one thread, its pages hold so many words at most, with the thread at a depth.
+-- Where the heap has one thread, its pages have at most twice so many words, and one page more for each space that is open
+-- with the thread at this depth.
 abbrev pub FillsPages : Areas → ℕ → ℕ → Type 0
 FillsPages m words depth = m.threads ≡ 1 → page_words m * m.pages ≤ 2 * words + page_words m * (depth + 1)

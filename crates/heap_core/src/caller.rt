@@ -7,12 +7,13 @@ ghost use Rattle.object_layout.specs.Calls.{IsCall};
 ghost use Rattle.heap_words.specs.declared.map.Areas.{Areas};
 ghost use Rattle.heap_words.specs.Map.{HasThread, page_words};
 ghost use Rattle.heap_words.specs.Contents.{contents, Sound};
+ghost use Rattle.yak_model.specs.Graph.{thread_of};
 ghost use Rattle.yak_model.specs.Lawful.{present_words};
 ghost use Rattle.yak_model.specs.Placed.{used_mark};
 ghost use Rattle.yak_model.specs.Spaces.{SpaceState};
 ghost use Rattle.yak_model.specs.Standing.{counted_on, words_made};
 ghost use Rattle.yak_model.specs.Stands.{Stands};
-ghost use Rattle.heap_core.specs.Callers.{FillsPages, KnowsAlone, TellsKnown, TellsThread, standing_told, words_asked, words_used};
+ghost use Rattle.heap_core.specs.Callers.{FillsPages, KnowsAlone, TellsKnown, TellsThread, standing_told, thread_told, words_asked, words_used};
 
 use crate::owned::Core;
 use heap_words::{Areas, Words, get_page};
@@ -31,10 +32,14 @@ pub struct CoreCaller<W: Words> {
     made: u64,
     /// How many calls were answered by `OutOfHeap`, or the greatest number where they are more.
     refusals: u64,
+    /// The pages, the thread's depth and the words asked for at the last of them.
     last: Option<(Census, u8, u16)>,
-    ghost has_thread: { HasThread core.map thread },
-    ghost holds: { words_used (contents core.map (W.words core.words)).table ≤ present + made },
-    ghost filled: { ForSome last (λ l. FillsPages core.map (present + made) l.1) },
+    // the thread is one of the heap's
+    pub ghost has_thread: { HasThread core.map thread },
+    // the present objects have at most the words of those that were present and those that were made
+    pub ghost holds: { words_used (contents core.map (W.words core.words)).table ≤ present + made },
+    // where there was no room and the heap has one thread, those words fill its pages
+    pub ghost filled: { ForSome last (λ l. FillsPages core.map (present + made) l.1) },
 }
 
 impl<W: Words> Caller for CoreCaller<W> {
@@ -75,6 +80,7 @@ impl<W: Words> Core<W> {
         ensures base { W.base result.core.words ≡ W.base self.words }
         ensures present { (s : SpaceState) → Stands self.map (contents self.map (W.words self.words)) s → result.present ≡ present_words s }
         ensures fresh { (result.made ≡ 0) × (result.refusals ≡ 0) × (result.last ≡ None) }
+        ensures told { (s : SpaceState) → Stands self.map (contents self.map (W.words self.words)) s → (t : ℕ) → thread_told (contents result.core.map (W.words result.core.words)) t ≡ thread_of s.graph t }
         ensures begins { (s : SpaceState) → Stands self.map (contents self.map (W.words self.words)) s → KnowsAlone result.core.map (contents result.core.map (W.words result.core.words)) result.thread empty }
     {
         let present = self.present_words();
@@ -92,7 +98,9 @@ impl<W: Words> Core<W> {
 impl<W: Words> CoreCaller<W> {
     /// The heap, as it is now.
     pub fn into_core(self) -> Core<W>
-        ensures { result ≡ self.core }
+        ensures core { result ≡ self.core }
+        ensures told { (s : SpaceState) → Stands result.map (contents result.map (W.words result.words)) s → thread_told (contents self.core.map (W.words self.core.words)) self.thread ≡ thread_of s.graph self.thread }
+        ensures filled { ForSome self.last (λ l. FillsPages result.map (self.present + self.made) l.1) }
     {
         self.core
     }
@@ -141,5 +149,40 @@ fn words_asked(call: Call) -> u16
             u16::try_from(fields.saturating_add(u32::from(OBJECT_WORDS))).unwrap_or(u16::MAX)
         }
         _ => 0,
+    }
+}
+
+#[cfg(test)]
+mod tests {
+    use crate::Core;
+    use object_layout::{Call, Census, Reply};
+    use std::test::Fail;
+    use yak_model::Caller;
+
+    // The replies to two calls for objects, of which the first fills a page.
+    fn fill<C: Caller>(caller: &mut C) -> (Reply, Reply) {
+        let first = caller.make_call(Call::New(234));
+        let second = caller.make_call(Call::New(0));
+        (first, second)
+    }
+
+    #[test]
+    fn a_caller_tells_that_the_heap_is_full(rt: HostRuntime) -> Result<(), Fail> {
+        let core = match Core::new(rt.alloc(), 1, 1) {
+            Ok(core) => core,
+            Err(error) => panic!(rt; "no heap: {error}"),
+        };
+        let mut caller = core.as_caller(1);
+        assert_eq!(rt; caller.full(), None);
+        assert_eq!(rt; fill(&mut caller), (Reply::Ok, Reply::OutOfHeap));
+        let pages = Census {
+            free: 0,
+            region: 0,
+            control: 1,
+        };
+        assert_eq!(rt; caller.full(), Some((pages, 0, 3)));
+        let mut core = caller.into_core();
+        assert_eq!(rt; core.step(1, Call::Get(1)).reply, Reply::Object(234));
+        Ok(())
     }
 }

@@ -10,8 +10,8 @@ ghost use Rattle.object_layout.specs.declared.replies.Reply.TheVariants as reply
 
 use crate::calls::plain_step;
 use crate::owned::Stepped;
-use crate::stub::collect;
 use heap_words::{Areas, Words};
+use mark_compact::collect;
 use object_layout::Reply;
 use region_pages::census;
 

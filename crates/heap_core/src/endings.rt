@@ -11,8 +11,9 @@ ghost use Rattle.heap_core.specs.Records.{SomeRecorded};
 
 use crate::calls::plain_step;
 use crate::owned::Stepped;
-use crate::stub::{collect, end_region, end_tight};
+use crate::stub::{end_region, end_tight};
 use heap_words::{Areas, Words};
+use mark_compact::collect;
 use object_layout::{Call, Refusal, Reply};
 use thread_stacks::depth;
 

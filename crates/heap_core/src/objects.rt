@@ -20,11 +20,11 @@ ghost use Rattle.heap_core.specs.Objects.{IsWritten};
 use crate::calls::plain_step;
 use crate::owned::Stepped;
 use crate::slots::push_word;
-use crate::stub::collect;
 use epoch_lattice::{index_of, inner};
 use heap_words::{
     Areas, STACK_SLOTS, Words, get_depth, get_made, set_heap, set_made, stack_length,
 };
+use mark_compact::collect;
 use object_layout::{
     Addr, Call, Header, MAX_FIELDS, MAX_SERIAL, Name, NoPage, OBJECT_WORDS, Refusal, Reply, Value,
     encode_header, encode_name, encode_value,

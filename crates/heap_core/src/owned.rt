@@ -3,22 +3,22 @@
 ghost use Rattle.std.specs.Prelude.{◌≡◌, ◌≤◌, ◌<◌, ◌+◌, ◌-◌, ◌↔◌, ℕ, List, IfOk, IfErr};
 ghost use Rattle.object_layout.specs.Calls.{IsCall};
 ghost use Rattle.heap_words.specs.Map.{HasThread, IsAreas};
-ghost use Rattle.heap_words.specs.Contents.{contents, depth_of, Sound};
+ghost use Rattle.heap_words.specs.Contents.{contents, Sound};
 ghost use Rattle.yak_model.specs.Graph.{standard_limits};
 ghost use Rattle.yak_model.specs.Spaces.{SpaceState, TurnsAll, opening_spaces};
 ghost use Rattle.yak_model.specs.Stands.{Stands};
 ghost use Rattle.yak_model.specs.Recorded.{Recorded};
+ghost use Rattle.epoch_lattice.specs.declared.Space.TheVariants.{Control};
 ghost use Rattle.yak_model.specs.History.{Entry};
-ghost use Rattle.yak_model.specs.Lawful.{present_words};
-ghost use Rattle.heap_core.specs.Callers.{words_used};
-ghost use Rattle.heap_core.specs.Done.{CollectsWhere, EndsSo, FillsHeap, PacksControl, StepRecords, StepRoom, TellsFull, TellsPages, TellsShortage};
+ghost use Rattle.yak_model.specs.Packed.{IsPacked};
+ghost use Rattle.heap_core.specs.Done.{CollectsWhere, EndsSo, FillsHeap, StepRecords, StepRoom, TellsFull, TellsPages, TellsShortage};
 ghost use Rattle.heap_core.specs.EpochEnds.{ReadsFew};
 ghost use Rattle.heap_core.specs.Lawful.{AreLawful, PackedIfAsked};
 ghost use Rattle.heap_core.specs.Records.{SomeRecorded, StandsRecorded};
 ghost use Rattle.heap_core.specs.Steps.{entries};
 
-use crate::calls::answer;
 use crate::caller::words_in_use;
+use crate::calls::answer;
 use crate::made::open_words;
 use heap_words::{Areas, Image, MakeError, Words, get_depth};
 use object_layout::{Call, Census, Reply, Shortage};
@@ -71,7 +71,8 @@ impl<W: Words> Core<W> {
         Core { words, map }
     }
 
-    /// Makes a call of a thread.
+    /// Makes a call of a thread. Where a new object doesn't fit the thread's current page and no page is free, and where an end
+    /// needs more pages than are free, one collection of the control space comes first.
     pub fn step(&mut self, thread: u8, call: Call) -> Stepped
         requires thread { HasThread self.old.map thread }
         requires number { IsCall call }
@@ -83,7 +84,7 @@ impl<W: Words> Core<W> {
         ensures shortage { (s : SpaceState) → Stands self.old.map (contents self.old.map (W.words self.old.words)) s → TellsShortage self.old.map s thread result.reply result.shortage }
         ensures ended { EndsSo self.old.map (contents self.old.map (W.words self.old.words)) (contents self.new.map (W.words self.new.words)) thread call result }
         ensures census { TellsPages (contents self.old.map (W.words self.old.words)) call result.reply }
-        ensures packed { (s : SpaceState) (h : Stands self.new.map (contents self.new.map (W.words self.new.words)) s) → PacksControl self.new.map (contents self.new.map (W.words self.new.words)) s h call }
+        ensures packed { call ≡ Call.Collect → (s : SpaceState) (h : Stands self.new.map (contents self.new.map (W.words self.new.words)) s) → IsPacked self.new.map (contents self.new.map (W.words self.new.words)) s h Control }
         ensures records { (s : SpaceState) (h : Stands self.old.map (contents self.old.map (W.words self.old.words)) s) → StepRecords self.old.map s h.places.at (contents self.old.map (W.words self.old.words)) (contents self.new.map (W.words self.new.words)) thread call result.reply result.collected }
         ensures room { StepRoom self.old.map (contents self.old.map (W.words self.old.words)) (contents self.new.map (W.words self.new.words)) thread call result.reply result.collected }
         ensures reads { (s : SpaceState) (h : Stands self.old.map (contents self.old.map (W.words self.old.words)) s) → ReadsFew self.old.map (contents self.old.map (W.words self.old.words)) s h thread call result (W.reads self.old.words) (W.reads self.new.words) }
@@ -107,6 +108,19 @@ impl<W: Words> Core<W> {
         self.map.pages
     }
 
+    /// The words of the heap.
+    pub fn into_words(self) -> W
+        ensures { result ≡ self.words }
+    {
+        self.words
+    }
+}
+
+impl<W: Words> Core<W> {
+    ghost use Rattle.heap_words.specs.Contents.{depth_of};
+    ghost use Rattle.yak_model.specs.Lawful.{present_words};
+    ghost use Rattle.heap_core.specs.Callers.{words_used};
+
     /// The depth of a thread: how many epochs it has open.
     pub fn depth(&mut self, thread: u8) -> u8
         requires thread { HasThread self.old.map thread }
@@ -127,12 +141,5 @@ impl<W: Words> Core<W> {
         ensures base { W.base self.new.words ≡ W.base self.old.words }
     {
         words_in_use(&mut self.words, self.map)
-    }
-
-    /// The words of the heap.
-    pub fn into_words(self) -> W
-        ensures { result ≡ self.words }
-    {
-        self.words
     }
 }

@@ -6,23 +6,11 @@ ghost use Rattle.heap_words.specs.Contents.{contents, depth_of, Sound};
 ghost use Rattle.yak_model.specs.Spaces.{SpaceState};
 ghost use Rattle.yak_model.specs.Stands.{Stands};
 ghost use Rattle.yak_model.specs.Recorded.{Recorded};
-ghost use Rattle.mark_compact.specs.Collected.{StateCollected, RoomCollected};
 ghost use Rattle.heap_core.specs.EpochEnds.{end_reads};
 ghost use Rattle.escape_closure.specs.Ends.{RegionEnded, RegionShort, TightEnded};
 
 use heap_words::{Areas, Words};
 use object_layout::Shortage;
-
-/// Stub.
-pub fn collect<W: Words>(words: &mut W, map: Areas, thread: u8)
-    requires sound { Sound map (W.words words.old) }
-    requires thread { HasThread map thread }
-    requires recorded { ∥ ((s : SpaceState) × (h : Stands map (contents map (W.words words.old)) s) × Recorded map (contents map (W.words words.old)) s h) ∥₁ }
-    ensures state { (s : SpaceState) (h : Stands map (contents map (W.words words.old)) s) → Recorded map (contents map (W.words words.old)) s h → StateCollected map (contents map (W.words words.new)) s }
-    ensures room { RoomCollected map (contents map (W.words words.old)) (contents map (W.words words.new)) thread }
-    ensures sound { Sound map (W.words words.new) }
-    ensures base { W.base words.new ≡ W.base words.old }
-{}
 
 /// Stub.
 pub fn end_region<W: Words>(words: &mut W, map: Areas, thread: u8) -> Result<u64, Shortage>

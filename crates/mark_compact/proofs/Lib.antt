@@ -7,3 +7,13 @@ pub mod Costs
 pub mod Lives
 pub mod Whole
 pub mod Tables
+pub mod Drops
+pub mod RunsTold
+pub mod Slides
+pub mod Leads
+pub mod Lies
+pub mod Currents
+pub mod Logged
+pub mod Rooms
+pub mod After
+pub mod Emptied

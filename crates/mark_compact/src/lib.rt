@@ -1,8 +1,13 @@
 //! The collection of the control space: which of its objects are kept, and where a slide puts them.
 #![tactic(auto)]
 
+mod clearing;
+mod collecting;
 mod marking;
+mod moving;
+mod resetting;
 mod sliding;
 
+pub use collecting::collect;
 pub use marking::mark;
 pub use sliding::plan_slide;

@@ -4,9 +4,10 @@ use Rattle.std.proofs.Common.{◌≡◌, ◌+◌, ℕ, List, sym, ap, ◌∙◌,
 use Rattle.heap_words.specs.Contents.{contents}
 use Rattle.region_pages.proofs.Shapes.{shape}
 use Rattle.relocation.specs.Moves.{heap_of, move_at, scratch_of, Numbered}
-use Rattle.escape_closure.specs.Planning.{NotPlaced, PlacedNext, Underway}
+use Rattle.escape_closure.specs.Planning.{NotPlaced, PlacedNext, PlacedSoFar, Underway}
 use Rattle.relocation.proofs.Planned.{numbered-none}
 use Rattle.escape_closure.proofs.Underway.{entry_now, goes_on, has_place, starts}
+use Rattle.escape_closure.proofs.SoFar.{so_far_first, so_far_more}
 use Rattle.escape_closure.proofs.planning.place_all.Goals as goal
 
 pub loop-k-init : goal.loop-k-init
@@ -22,6 +23,7 @@ loop-k-init g c =
       pool = rw c.empty_plan-plan.ensures.words c.requires.pool;
       currents = rw c.empty_plan-plan.ensures.words c.requires.currents;
       underway = λ q ready exist r. rw c.empty_plan-plan.ensures.words (starts m q c.args.thread (contents m (g.W.Words.words c.args.words.now)) c.args.count r c.requires.sound.areas);
+      so_far = λ q ready exist r. rw c.empty_plan-plan.ensures.words (so_far_first m q (contents m (g.W.Words.words c.args.words.now)) c.args.count r ready);
     }
 
 pub read_entry-entry-requires-clause-some : goal.read_entry-entry-requires-clause-some
@@ -90,6 +92,12 @@ loop-k-preserved g c =
           let told = c.read_entry-entry.ensures.read q ready (r.name k) e in
           let p : PlacedNext m mid new c.args.thread k c.read_entry-entry.result = subst (λ i. PlacedNext m mid new c.args.thread i c.read_entry-entry.result) c.loop-k.invariant.planned (subst (λ (x : List ℕ). PlacedNext m (contents m x) new c.args.thread c.loop-k.plan.count c.read_entry-entry.result) c.read_entry-entry.ensures.words placed.1) in
           goes_on m q c.args.thread old c.args.count r ready exist c.requires.sound.areas c.requires.thread mid k u (omega arith) new c.read_entry-entry.result told.0 told.2 told.1 c.read_entry-entry.ensures.size.0 (shape m (g.W.Words.words c.loop-k.words) c.loop-k.invariant.sound) c.loop-k.invariant.currents c.loop-k.invariant.pool p;
+      so_far = λ q ready exist r.
+          let u = c.loop-k.invariant.underway q ready exist r in
+          let e = entry_now m q c.args.thread old c.args.count r ready exist c.requires.sound.areas c.requires.thread mid k u (omega arith) in
+          let told = c.read_entry-entry.ensures.read q ready (r.name k) e in
+          let p : PlacedNext m mid new c.args.thread k c.read_entry-entry.result = subst (λ i. PlacedNext m mid new c.args.thread i c.read_entry-entry.result) c.loop-k.invariant.planned (subst (λ (x : List ℕ). PlacedNext m (contents m x) new c.args.thread c.loop-k.plan.count c.read_entry-entry.result) c.read_entry-entry.ensures.words placed.1) in
+          so_far_more m q old c.args.count r ready c.args.thread exist c.requires.sound.areas c.requires.thread mid new k (omega arith) (c.loop-k.invariant.so_far q ready exist r) c.read_entry-entry.result told.0 told.2 told.1 c.read_entry-entry.ensures.size.0 (shape m (g.W.Words.words c.loop-k.words) c.loop-k.invariant.sound) c.loop-k.invariant.currents c.loop-k.invariant.pool c.in-Some.ensures.table p;
     }
 
 pub returns-clause-planned : goal.returns-clause-planned
@@ -98,4 +106,4 @@ returns-clause-planned g c q ready exist r enough =
     let old = contents m (g.W.Words.words c.args.words.now) in
     let now = contents m (g.W.Words.words c.loop-k.words) in
     let ends : c.loop-k.k ≡ c.args.count = omega arith in
-    (subst (λ k. Underway m q c.args.thread old c.args.count r now k) ends (c.loop-k.invariant.underway q ready exist r), c.loop-k.invariant.planned ∙ ends)
+    (subst (λ k. Underway m q c.args.thread old c.args.count r now k) ends (c.loop-k.invariant.underway q ready exist r), subst (λ k. PlacedSoFar m q old c.args.count r now k) ends (c.loop-k.invariant.so_far q ready exist r), c.loop-k.invariant.planned ∙ ends)

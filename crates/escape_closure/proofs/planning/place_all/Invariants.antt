@@ -5,7 +5,7 @@ use Rattle.yak_model.specs.Stands.{CurrentsStand, PoolStands}
 use Rattle.region_pages.specs.Pages.{TableFits}
 use Rattle.relocation.specs.Moves.{heap_of, move_at, scratch_of, Numbered}
 use Rattle.escape_closure.specs.Rolls.{Aimed, AimsInside, Rolled}
-use Rattle.escape_closure.specs.Planning.{TargetsExist, Underway}
+use Rattle.escape_closure.specs.Planning.{PlacedSoFar, TargetsExist, Underway}
 use Rattle.escape_closure.proofs.planning.place_all.Given as goal
 
 abbrev pub invariant-loop-k : goal.invariant-loop-k
@@ -19,4 +19,5 @@ invariant-loop-k g l = record {
   pool : PoolStands l.map (contents l.map (g.W.Words.words l.words)).heads (contents l.map (g.W.Words.words l.words)).pool (contents l.map (g.W.Words.words l.words)).table;
   currents : CurrentsStand l.map (contents l.map (g.W.Words.words l.words)).currents (contents l.map (g.W.Words.words l.words)).table;
   underway : (q : Aimed) → AimsInside l.map q → TargetsExist l.map q → (r : Rolled q (contents l.map (g.W.Words.words l.fn.words)) (heap_length l.map) l.count) → Underway l.map q l.thread (contents l.map (g.W.Words.words l.fn.words)) l.count r (contents l.map (g.W.Words.words l.words)) l.k;
+  so_far : (q : Aimed) → AimsInside l.map q → TargetsExist l.map q → (r : Rolled q (contents l.map (g.W.Words.words l.fn.words)) (heap_length l.map) l.count) → PlacedSoFar l.map q (contents l.map (g.W.Words.words l.fn.words)) l.count r (contents l.map (g.W.Words.words l.words)) l.k;
 }

@@ -104,4 +104,3 @@ returns-in-Some-clause-counted g c =
     let deep : c.depth.result ≡ depth_of (contents core.map w1) s.thread = c.depth.ensures.depth ∙ ap (λ m. depth_of (contents m w1) s.thread) step.ensures.map in
     let more = c.count_up-self.ensures.counted ∙ ap (counted_on s.made) c.words_made.ensures in
     rw (c.depth.ensures.words, c.depth.ensures.map, step.ensures.map) (call-counted core.map w0 w1 s.thread c.args.call step.result k s.made c.count_up-self.result s.refusals c.count_up-self-in-Some.result c.depth.result c.words_asked.result s.last c.in-Some.census c.in-Some.is more c.count_up-self-in-Some.ensures.counted deep c.words_asked.ensures)
-

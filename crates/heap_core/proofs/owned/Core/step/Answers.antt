@@ -1,7 +1,9 @@
-use Rattle.std.proofs.Common.{sym, ◌∙◌, ap}
+use Rattle.std.proofs.Common.{sym, ◌∙◌, ap, subst}
 use Rattle.std.proofs.Math.Logic.{∥∥₁_map}
 use Rattle.heap_words.specs.Map.{IsAreas}
 use Rattle.heap_words.specs.Contents.{contents}
+use Rattle.object_layout.specs.declared.calls.Call.{Call}
+use Rattle.heap_core.specs.Done.{PacksControl}
 use Rattle.heap_core.proofs.Recognized.{recorded-told}
 use Rattle.heap_core.proofs.Sound.{sound-from}
 use Rattle.heap_core.proofs.owned.Core.step.Goals as goal
@@ -49,7 +51,9 @@ pub returns-clause-census : goal.returns-clause-census
 returns-clause-census g c = c.answer.ensures.done.counts
 
 pub returns-clause-packed : goal.returns-clause-packed
-returns-clause-packed g c = c.answer.ensures.done.packed
+returns-clause-packed g c =
+    let core = c.args.self.now in
+    λ asked s h. subst (λ (x : Call). PacksControl core.map (contents core.map (g.W.Words.words c.answer.new.words)) s h x) asked (c.answer.ensures.done.packed s h)
 
 pub returns-clause-records : goal.returns-clause-records
 returns-clause-records g c =

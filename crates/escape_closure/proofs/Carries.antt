@@ -1,0 +1,102 @@
+-- A plan of an end that is carried out.
+use Rattle.std.proofs.Props.{props}
+use Rattle.std.proofs.Math.Logic.{∥∥₁_elim, ∥∥₁_map, ⊎_elim}
+use Rattle.std.proofs.Common.{◌≡◌, ◌≢◌, ◌⊎◌, ◌↔◌, ℕ, ◌+◌, ◌-◌, ◌*◌, ◌/◌, ◌%◌, ◌≤◌, ◌<◌, Bool, Some, List, length, get_or, map, set, refl, sym, ap, subst, ◌∙◌, arith, inl, inr, get_or-set_other}
+use Rattle.std.proofs.lemmas.Bool.{cases_lt}
+use Rattle.object_layout.specs.declared.names.Name.{Name}
+use Rattle.object_layout.specs.declared.TheConstants.{HEADER_BASE, MAX_FIELDS, MAX_SPACE, OBJECT_WORDS, SPACE_UNIT}
+use Rattle.heap_words.specs.declared.map.Areas.{Areas}
+use Rattle.heap_words.specs.Map.{HasThread, IsAreas, heap_length, max_depth}
+use Rattle.heap_words.specs.Contents.{Contents, depth_of}
+use Rattle.epoch_lattice.specs.declared.Space.{Space}
+use Rattle.epoch_lattice.specs.declared.Space.TheVariants.{Control, Region}
+use Rattle.epoch_lattice.specs.declared.TheConstants.{MAX_DEPTH}
+use Rattle.epoch_lattice.specs.Lattice.{IsValid}
+use Rattle.yak_model.specs.Spaces.{SpaceState, innermost}
+use Rattle.yak_model.specs.State.{State, Thing, object_of, view}
+use Rattle.yak_model.specs.Placed.{Holds}
+use Rattle.yak_model.specs.Plans.{AreApart, IsLawfulPlan, Move, after_moves, cleared, forwarded, without}
+use Rattle.yak_model.specs.Stands.{Stands, set_entries}
+use Rattle.yak_model.proofs.Stacks.{all-at}
+use Rattle.relocation.specs.Moves.{AllMovable, HasHeader, Movable, Moved, move_at, size_at}
+use Rattle.relocation.proofs.Lawful.{lawful-movable}
+use Rattle.remember_sets.specs.Filed.{IsFiled, LiesIn, SetsHold, with_sets}
+use Rattle.escape_closure.specs.Ends.{DropsRest, References}
+use Rattle.escape_closure.specs.Leaving.{Carried, EndMoves, ReadyToMove, left_behind, objects_left}
+use Rattle.escape_closure.proofs.Fates.{OneEach, drops_rest, one_each}
+use Rattle.escape_closure.proofs.Leads.{IsTold}
+use Rattle.escape_closure.proofs.Written.{depth_is, region_is}
+
+-- ---- moves that can be made, from some proof of it
+
+told_of : (heap : List ℕ) (a : ℕ) → HasHeader heap a → IsTold heap a
+told_of heap a (h, ok, e) = (omega (arith, ok.0, e), omega (arith, ok.0, ok.1, e), omega (arith, e))
+
+of_told : (heap : List ℕ) (a : ℕ) → IsTold heap a → HasHeader heap a
+of_told heap a w = (record { fields = (get_or heap a 0 - HEADER_BASE) % SPACE_UNIT; space = (get_or heap a 0 - HEADER_BASE) / SPACE_UNIT }, (w.0, w.1), omega (arith, w.2))
+
+valid_prop : (x : Space) → IsProp (IsValid MAX_DEPTH x)
+valid_prop Control = hlevel props
+valid_prop (Region t d) = hlevel props
+
+apart_told : (a n b k : ℕ) → ∥ AreApart a n b k ∥₁ → AreApart a n b k
+apart_told a n b k some = ⊎_elim
+    (λ (less : b < a + n). inr (∥∥₁_elim some (hlevel props) (λ q. ⊎_elim (λ (h : a + n ≤ b). absurd (omega (arith, h, less))) (λ (h : b + k ≤ a). h) q)))
+    (λ (le : a + n ≤ b). inl le)
+    (cases_lt b (a + n))
+
+pub movable_told : (m : Areas) (heap : List ℕ) (count : ℕ) (moves : ℕ → Move) → ∥ AllMovable m heap count moves ∥₁ → AllMovable m heap count moves
+movable_told m heap count moves some = record {
+  each = λ k lt. record {
+    header = of_told heap (moves k).old (∥∥₁_elim some (hlevel props) (λ q. told_of heap (moves k).old (q.each k lt).header));
+    space = ∥∥₁_elim some (valid_prop (moves k).space) (λ q. (q.each k lt).space);
+    old = ∥∥₁_elim some (hlevel props) (λ q. (q.each k lt).old);
+    new = ∥∥₁_elim some (hlevel props) (λ q. (q.each k lt).new);
+  };
+  apart = λ j k less lt. apart_told (moves j).new (size_at heap (moves j).old) (moves k).new (size_at heap (moves k).old) (∥∥₁_map some (λ q. q.apart j k less lt));
+  later = λ j k less lt. apart_told (moves j).new (size_at heap (moves j).old) (moves k).old (size_at heap (moves k).old) (∥∥₁_map some (λ q. q.later j k less lt));
+}
+
+-- ---- the region that ends
+
+pub innermost_valid : (m : Areas) (c : Contents) (s : SpaceState) (st : Stands m c s) (t : ℕ) → IsAreas m → HasThread m t → 1 ≤ depth_of c t → IsValid MAX_DEPTH (innermost s.graph t)
+innermost_valid m c s st t areas has low =
+    let deep : depth_of c t ≤ max_depth m = all-at (λ k. k ≤ max_depth m) c.depths (t - 1) 0 (omega arith) st.stands.limits.depths in
+    subst (IsValid MAX_DEPTH) (sym (region_is m c s st t (depth_of c t) has refl low)) (has.0, omega (arith, has, areas.3), low, omega (arith, deep))
+
+module _ (m : Areas) (before c : Contents) (s : SpaceState) (st : Stands m before s) (t count : ℕ) (tight : Bool) (areas : IsAreas m) (has : HasThread m t) (low : 1 ≤ depth_of before t) (r : ReadyToMove m before c s st t count tight) where
+  abbrev moves : ℕ → Move
+  moves = move_at c.scratch
+
+  one : OneEach s st.places
+  one = one_each m before.table before.heap s st.places (λ _. 0) st.stands.heap
+
+  pub rest : DropsRest s t (left_behind s st.places t count moves)
+  rest = drops_rest s st.whole st.places one t count has.0 (innermost_valid m before s st t areas has low) moves tight r.moves
+
+  pub carry_movable : (mid next : Contents) → References m c mid s st.places t count → next.heap ≡ mid.heap → next.scratch ≡ c.scratch → AllMovable m next.heap count (move_at next.scratch)
+  carry_movable mid next refs heap scratch =
+      let plan = r.lawful (left_behind s st.places t count moves) rest in
+      let all : AllMovable m mid.heap count moves = lawful-movable m mid.heap count moves (view s) st.places.at (forwarded count moves st.places.at) (λ n. get_or c.heap (st.places.at n + 2) 0) (left_behind s st.places t count moves) areas plan (refs.holds (left_behind s st.places t count moves) rest) in
+      subst (λ (x : List ℕ). AllMovable m x count (move_at next.scratch)) (sym heap) (subst (λ (x : List ℕ). AllMovable m mid.heap count (move_at x)) (sym scratch) all)
+
+  pub carried : (mid next last : Contents) (depth : ℕ) → depth ≡ depth_of before t → References m c mid s st.places t count → ((a : ℕ) → IsFiled next a ↔ (IsFiled mid a × (LiesIn m mid (Region t depth) a → ⊥))) → SetsHold m next → next ≡ with_sets mid next → ((v : State) (at work : Name → ℕ) (dropped : Name → Bool) → IsLawfulPlan m count (move_at next.scratch) v at dropped → Holds m next.heap at (forwarded count (move_at next.scratch) at) work (without v dropped).objects → Holds m last.heap (forwarded count (move_at next.scratch) at) (forwarded count (move_at next.scratch) at) (cleared count (move_at next.scratch) at work) (after_moves count (move_at next.scratch) at (without v dropped)).objects) → last ≡ record next { heap = last.heap } → Carried m c last s st.places t count
+  carried mid next last depth is refs filed sets others objects only =
+      let region : innermost s.graph t ≡ Region t depth = region_is m before s st t depth has is (omega (arith, is, low)) in
+      let scratch : next.scratch ≡ c.scratch = ap (λ (x : Contents). x.scratch) others ∙ ap (λ (x : Contents). x.scratch) refs.frame in
+      let heap : next.heap ≡ mid.heap = ap (λ (x : Contents). x.heap) others in
+      let plan = r.lawful (left_behind s st.places t count moves) rest in
+      let held = refs.holds (left_behind s st.places t count moves) rest in
+      let told = subst (λ (x : List ℕ). (v : State) (at work : Name → ℕ) (dropped : Name → Bool) → IsLawfulPlan m count (move_at x) v at dropped → Holds m next.heap at (forwarded count (move_at x) at) work (without v dropped).objects → Holds m last.heap (forwarded count (move_at x) at) (forwarded count (move_at x) at) (cleared count (move_at x) at work) (after_moves count (move_at x) at (without v dropped)).objects) scratch objects in
+      let work : Name → ℕ = λ n. get_or c.heap (st.places.at n + 2) 0 in
+      let same_sets : last.sets ≡ next.sets = ap (λ (x : Contents). x.sets) only in
+      let same_entries : set_entries last.heads ≡ set_entries next.heads = ap (λ (x : Contents). set_entries x.heads) only in
+      let same_stacks : last.stacks ≡ mid.stacks = ap (λ (x : Contents). x.stacks) only ∙ ap (λ (x : Contents). x.stacks) others in
+      let shape : ℕ → List (List ℕ) → List ℕ → Contents = λ n ss xs. record c { heads = set c.heads 3 n; stacks = ss; sets = xs; heap = last.heap } in
+      record {
+        holds = told (view s) st.places.at work (left_behind s st.places t count moves) plan (subst (λ (x : List ℕ). Holds m x st.places.at (forwarded count moves st.places.at) work (without (view s) (left_behind s st.places t count moves)).objects) (sym heap) held);
+        stacks = same_stacks ∙ refs.stacks;
+        filed = λ a. subst (λ (x : Contents). IsFiled x a ↔ (IsFiled c a × (LiesIn m c (innermost s.graph t) a → ⊥))) (sym only) (subst (λ (y : Space). IsFiled next a ↔ (IsFiled c a × (LiesIn m c y a → ⊥))) (sym region) (subst (λ (x : Contents). IsFiled next a ↔ (IsFiled x a × (LiesIn m x (Region t depth) a → ⊥))) refs.frame (filed a)));
+        sets = subst (SetsHold m) (sym only) sets;
+        frame = only ∙ ap (λ (x : Contents). record x { heap = last.heap }) others ∙ ap (λ (x : Contents). record (with_sets x next) { heap = last.heap }) refs.frame ∙ ap (λ n. shape n mid.stacks next.sets) (sym same_entries) ∙ ap (λ ss. shape (set_entries last.heads) ss next.sets) (sym same_stacks) ∙ ap (shape (set_entries last.heads) last.stacks) (sym same_sets);
+      }

@@ -1,0 +1,145 @@
+-- What an end tells of the words before its buffers were filed.
+use Rattle.std.proofs.Common.{◌≡◌, ◌≢◌, ◌⊎◌, ◌↔◌, ℕ, ◌+◌, ◌-◌, ◌*◌, ◌/◌, ◌≤◌, ◌<◌, ◌++◌, Some, List, [], length, get_or, set, drop, take, refl, sym, ap, subst, ◌∙◌, arith, inl, inr, get_or-set_other}
+use Rattle.std.specs.List.{Contains}
+use Rattle.object_layout.specs.declared.replies.Shortage.{Shortage}
+use Rattle.heap_words.specs.declared.map.Areas.{Areas}
+use Rattle.heap_words.specs.Map.{HasThread, heap_length}
+use Rattle.heap_words.specs.Contents.{Contents, depth_of}
+use Rattle.epoch_lattice.specs.declared.Space.{Space}
+use Rattle.epoch_lattice.specs.declared.Space.TheVariants.{Region}
+use Rattle.epoch_lattice.specs.Lattice.{space_index}
+use Rattle.relocation.specs.Moves.{move_at}
+use Rattle.relocation.specs.Slide.{Runs, Sliding}
+use Rattle.yak_model.specs.Spaces.{SpaceState}
+use Rattle.yak_model.specs.State.{State, view}
+use Rattle.yak_model.specs.Placed.{Places, space_word}
+use Rattle.yak_model.specs.Stands.{Stands, StandsAs, claim_counter, current, free_pages, pool_length, set_entries}
+use Rattle.yak_model.specs.Recorded.{Recorded, RecordedAs}
+use Rattle.remember_sets.specs.declared.TheConstants.{SET_ENTRIES}
+use Rattle.forwarding.specs.Crossing.{AreFiled}
+use Rattle.escape_closure.specs.Needs.{InOrder, pages_needed}
+use Rattle.escape_closure.specs.Targets.{TargetsWritten}
+use Rattle.escape_closure.specs.Rolls.{OnlyScratch}
+use Rattle.escape_closure.specs.Ends.{EndPlanned, FallsShort, RegionEnded, RegionShort, StateEnded, TightEnded, region_word}
+use Rattle.escape_closure.specs.Leaving.{Begun, Filed, RegionReady, TightReady}
+use Rattle.escape_closure.proofs.Written.{region_is}
+
+-- words of which only the scratch area has changed
+stands_scratch : (m : Areas) (c : Contents) (v : State) (l : Places) (x : List ℕ) → StandsAs m c v l → (let d : Contents = record c { scratch = x } in StandsAs m d v l)
+stands_scratch m c v l x h = record {
+  heap = h.heap;
+  open_spaces = h.open_spaces;
+  closed = h.closed;
+  stacks = h.stacks;
+  depths = h.depths;
+  made = h.made;
+  serials = h.serials;
+  threads = h.threads;
+  names = h.names;
+  limits = record { depths = h.limits.depths; stacks = h.limits.stacks; buffers = h.limits.buffers };
+  zero = h.zero;
+  pool = h.pool;
+  currents = h.currents;
+  sets = h.sets;
+  dense = h.dense;
+}
+
+recorded_scratch : (m : Areas) (c : Contents) (s : SpaceState) (l : Places) (x : List ℕ) → RecordedAs m c (view s) l.at → (let d : Contents = record c { scratch = x } in RecordedAs m d (view s) l.at)
+recorded_scratch m c s l x r = record { crossing = r.crossing; fields = r.fields; read = r.read; closed = r.closed }
+
+module _ (m : Areas) (c : Contents) (s : SpaceState) (st : Stands m c s) (t escaping : ℕ) (mid : Contents) (b : Begun m c mid s st t escaping) where
+  -- the pool is the same
+  free_filing : free_pages b.filing.heads b.filing.pool ≡ free_pages c.heads c.pool
+  free_filing =
+      let n : ℕ = set_entries b.filing.heads in
+      let claims : claim_counter (set c.heads SET_ENTRIES n) ≡ claim_counter c.heads = get_or-set_other c.heads SET_ENTRIES 1 n 0 (omega arith) in
+      let count : pool_length (set c.heads SET_ENTRIES n) ≡ pool_length c.heads = get_or-set_other c.heads SET_ENTRIES 2 n 0 (omega arith) in
+      ap (λ (x : Contents). free_pages x.heads x.pool) b.frame ∙ rw (claims, count) refl
+
+  needed_filing : (l : Places) (count : ℕ) (o : InOrder s l t count) → pages_needed m b.filing s l t count o ≡ pages_needed m c s l t count o
+  needed_filing l count o = ap (λ (x : Contents). pages_needed m x s l t count o) b.frame
+
+  pub region_from : (d : Contents) (count : ℕ) → RegionEnded m b.filing d s b.later t count → RegionEnded m c d s st t count
+  region_from d count r =
+      let told : (o : InOrder s st.places t count) × (pages_needed m b.filing s st.places t count o ≤ length (free_pages b.filing.heads b.filing.pool)) × (length r.claimed ≡ pages_needed m b.filing s st.places t count o) =
+          subst (λ (l : Places). (o : InOrder s l t count) × (pages_needed m b.filing s l t count o ≤ length (free_pages b.filing.heads b.filing.pool)) × (length r.claimed ≡ pages_needed m b.filing s l t count o)) b.places (r.order, r.enough, r.claims) in
+      record {
+        state = r.state;
+        order = told.0;
+        enough = let size : length (free_pages b.filing.heads b.filing.pool) ≡ length (free_pages c.heads c.pool) = ap (λ (xs : List ℕ). length xs) free_filing in omega (arith, told.1, size, needed_filing st.places count told.0);
+        claimed = r.claimed;
+        left = r.left;
+        former = sym free_filing ∙ r.former;
+        claims = told.2 ∙ needed_filing st.places count told.0;
+        free = λ p. subst (λ (x : Contents). Contains (free_pages d.heads d.pool) p ↔ (Contains r.left p ⊎ ((p < m.pages) × (space_word x.table p ≡ region_word s t)))) b.frame (r.free p);
+      }
+
+  pub short_from : (shortage : Shortage) → FallsShort m mid s b.later.places t shortage → FallsShort m c s st.places t shortage
+  short_from shortage f =
+      let told : (o : InOrder s st.places t f.count) × (shortage.needed ≡ pages_needed m mid s st.places t f.count o) = subst (λ (l : Places). (o : InOrder s l t f.count) × (shortage.needed ≡ pages_needed m mid s l t f.count o)) b.places (f.order, f.needed) in
+      let same : pages_needed m mid s st.places t f.count told.0 ≡ pages_needed m b.filing s st.places t f.count told.0 = ap (λ (x : Contents). pages_needed m x s st.places t f.count told.0) b.written.frame in
+      let room : free_pages mid.heads mid.pool ≡ free_pages b.filing.heads b.filing.pool = ap (λ (x : Contents). free_pages x.heads x.pool) b.written.frame in
+      record {
+        count = f.count;
+        order = told.0;
+        needed = told.1 ∙ same ∙ needed_filing st.places f.count told.0;
+        free = f.free ∙ ap (λ (xs : List ℕ). length xs) (room ∙ free_filing);
+        more = f.more;
+      }
+
+  pub region_short : (d : Contents) (shortage : Shortage) → FallsShort m mid s b.later.places t shortage → d ≡ record b.filing { scratch = d.scratch } → RegionShort m c d s st t shortage
+  region_short d shortage f cleared = record {
+    short = short_from shortage f;
+    later = record {
+      whole = b.later.whole;
+      places = b.later.places;
+      stands = subst (λ (x : Contents). StandsAs m x (view s) b.later.places) (sym cleared) (stands_scratch m b.filing (view s) b.later.places d.scratch b.later.stands);
+    };
+    places = b.places;
+    recorded = subst (λ (x : Contents). RecordedAs m x (view s) b.later.places.at) (sym cleared) (recorded_scratch m b.filing s b.later.places d.scratch b.recorded);
+    filed = subst (λ (x : Contents). AreFiled x.buffers) (sym cleared) b.filed;
+    frame =
+        let n : ℕ = set_entries b.filing.heads in
+        let one : d ≡ record c { heads = set c.heads SET_ENTRIES n; sets = b.filing.sets; buffers = b.filing.buffers; scratch = d.scratch } = cleared ∙ ap (λ (x : Contents). record x { scratch = d.scratch }) b.frame in
+        let heads : set c.heads SET_ENTRIES n ≡ d.heads = sym (ap (λ (x : Contents). x.heads) one) in
+        let sets : b.filing.sets ≡ d.sets = sym (ap (λ (x : Contents). x.sets) cleared) in
+        let buffers : b.filing.buffers ≡ d.buffers = sym (ap (λ (x : Contents). x.buffers) cleared) in
+        let heap : c.heap ≡ d.heap = sym (ap (λ (x : Contents). x.heap) one) in
+        one
+        ∙ ap (λ (hs : List ℕ). record c { heads = hs; sets = b.filing.sets; buffers = b.filing.buffers; scratch = d.scratch }) heads
+        ∙ ap (λ (xs : List ℕ). record c { heads = d.heads; sets = xs; buffers = b.filing.buffers; scratch = d.scratch }) sets
+        ∙ ap (λ (bs : List (List ℕ)). record c { heads = d.heads; sets = d.sets; buffers = bs; scratch = d.scratch }) buffers
+        ∙ ap (λ (hp : List ℕ). record c { heads = d.heads; sets = d.sets; buffers = d.buffers; scratch = d.scratch; heap = hp }) heap;
+    room = ap (λ (x : Contents). free_pages x.heads x.pool) cleared ∙ free_filing;
+  }
+
+  -- a plan of the end after its start
+  pub region_readied : (planned : Contents) (count : ℕ) → count ≡ escaping → EndPlanned m mid planned s b.later.places t count → RegionReady m b.filing mid planned s b.later t count
+  region_readied planned count same e = record {
+    filed = record { recorded = b.recorded; filed = b.filed };
+    written = subst (λ i. TargetsWritten m s b.later.places t b.filing mid i) (sym same) b.written;
+    planned = e;
+  }
+
+  pub tight_from : (d : Contents) (count : ℕ) → TightEnded m b.filing d s t count → TightEnded m c d s t count
+  tight_from d count r = record {
+    state = r.state;
+    pages = subst (λ (x : Contents). (p : ℕ) → p < m.pages → space_word x.table p ≢ region_word s t → space_word d.table p ≡ space_word x.table p) b.frame r.pages;
+    region = subst (λ (x : Contents). (p : ℕ) → p < m.pages → space_word x.table p ≡ region_word s t → (space_word d.table p ≡ 0) ⊎ (space_word d.table p ≡ 1)) b.frame r.region;
+    control = subst (λ (x : Contents). (u : ℕ) → current d.currents u 0 ≡ current x.currents u 0) b.frame r.control;
+  }
+
+  -- a plan of a tight end after its start
+  pub tight_readied : HasThread m t → 1 ≤ depth_of c t → (planned : Contents) (count next room : ℕ) → ((slid : ℕ) → slid ≡ space_index (Region t (depth_of mid t)) + 1 → (runs : Runs m slid mid) → Sliding m slid mid runs planned count (move_at planned.scratch) next room (heap_length m)) → TightReady m b.filing mid planned s b.later t count next
+  tight_readied has low planned count next room told =
+      let filing : depth_of b.filing t ≡ depth_of c t = ap (λ (x : Contents). depth_of x t) b.frame in
+      let same : depth_of mid t ≡ depth_of b.filing t = ap (λ (x : Contents). depth_of x t) b.written.frame in
+      let deep : 1 ≤ depth_of b.filing t = omega (arith, filing, low) in
+      record {
+        filed = record { recorded = b.recorded; filed = b.filed };
+        deep = deep;
+        escaping = escaping;
+        written = b.written;
+        room = room;
+        sliding = told (region_word s t) (ap (λ (y : Space). space_index y + 1) (region_is m b.filing s b.later t (depth_of mid t) has same (omega (arith, same, deep))));
+      }

@@ -1,0 +1,452 @@
+-- What a tight end leaves.
+use Rattle.std.proofs.Common.{◌≡◌, ◌≢◌, ◌⊎◌, ◌↔◌, ℕ, ◌+◌, ◌-◌, ◌*◌, ◌/◌, ◌≤◌, ◌<◌, ◌==◌, Bool, true, false, Option, Some, List, [], ◌∷◌, length, get_or, set, take, drop, zero, suc, refl, sym, ap, subst, ◌∙◌, arith, inl, inr, length-set, get_or-set_same, get_or-set_other}
+use Rattle.std.specs.List.{Contains, flat_map}
+use Rattle.std.proofs.lemmas.Bool.{cases_eq, cases_lt, cases_order, eq-eqb, ne_eqb}
+use Rattle.std.proofs.lemmas.List.{drop-set-lt, get_or_past}
+use Rattle.std.proofs.Math.Logic.{⊎_elim}
+use Rattle.object_layout.specs.declared.names.Name.{Name}
+use Rattle.object_layout.specs.declared.TheConstants.{OBJECT_WORDS}
+use Rattle.heap_words.specs.declared.map.Areas.{Areas}
+use Rattle.heap_words.specs.Map.{HasThread, IsAreas, heap_length, max_depth, page_words}
+use Rattle.heap_words.specs.Cells.{row, row_set}
+use Rattle.heap_words.specs.Contents.{Contents, InLimits, depth_of, with_current, with_depth, with_readers}
+use Rattle.epoch_lattice.specs.declared.Space.{Space}
+use Rattle.epoch_lattice.specs.declared.Space.TheVariants.{Control, Region}
+use Rattle.epoch_lattice.specs.declared.TheConstants.{MAX_DEPTH}
+use Rattle.epoch_lattice.specs.Lattice.{IsValid, inner_of, space_index}
+use Rattle.epoch_lattice.proofs.Numbers.{number-own}
+use Rattle.yak_model.specs.Spaces.{SpaceState, innermost}
+use Rattle.yak_model.specs.State.{IsClosed, IsOpen, Thing, object_of, view}
+use Rattle.yak_model.specs.Placed.{HeapStands, Holds, Places, StandsAt, names_of, size_by, space_word, used_mark}
+use Rattle.yak_model.specs.Plans.{Move, cleared, forwarded, without}
+use Rattle.yak_model.specs.Stands.{CurrentsStand, PoolStands, RegionsDense, SetsStand, Stands, claim_counter, current, pages_of, pool_length, set_entries}
+use Rattle.yak_model.specs.Recorded.{IsRecorded}
+use Rattle.region_pages.specs.Freeing.{with_pool_rebuilt}
+use Rattle.region_pages.proofs.Entries.{current-cases}
+use Rattle.region_pages.proofs.Placing.{length-slots_set}
+use Rattle.region_pages.proofs.Released.{inner_region, inner_valid}
+use Rattle.region_pages.proofs.Shapes.{Shape}
+use Rattle.relocation.specs.Moves.{HasHeader, move_at, size_at}
+use Rattle.relocation.specs.Slide.{IsPageOf, brought}
+use Rattle.relocation.specs.Slidden.{names_after}
+use Rattle.relocation.proofs.Lawful.{by_move-at, by_move-other, kept}
+use Rattle.relocation.proofs.Moving.{fields_at-header}
+use Rattle.relocation.proofs.Settled.{TableAfter, slide-stands}
+use Rattle.relocation.proofs.SlidLaid.{places_of}
+use Rattle.remember_sets.specs.declared.TheConstants.{SET_ENTRIES}
+use Rattle.remember_sets.specs.Filed.{IsFiled, LiesIn, SetsHold, with_sets}
+use Rattle.forwarding.specs.Crossing.{AreData, AreFiled, AreMoved, AreValid, IsCrossing}
+use Rattle.escape_closure.specs.Ends.{TightEnded, region_word, words_into}
+use Rattle.escape_closure.specs.Leaving.{Carried, EndMoves, Leaves, TightReady, left_behind, objects_left}
+use Rattle.escape_closure.proofs.Fates.{MovedAs, StaysAs, left_so, moves_so}
+use Rattle.escape_closure.proofs.Leaves.{state_ended}
+use Rattle.escape_closure.proofs.Readies.{sets_same}
+use Rattle.escape_closure.proofs.Records.{data_left, filed_as, iff_then, moved_left, valid_left}
+use Rattle.escape_closure.proofs.RegionLeaves.{not_listed, pool_same}
+use Rattle.escape_closure.proofs.Releases.{inner_is, none_of}
+use Rattle.escape_closure.proofs.Sums.{pages_alike, words_into-none, words_left}
+use Rattle.escape_closure.proofs.TightReadies.{aimless, drops_of, known, laid, name_escapes, name_is, named, one, rest, slide, small, tight_counts, tight_frame, tight_lawful, tight_moves, valid}
+use Rattle.escape_closure.proofs.Written.{none_filed, region_is}
+
+-- other work words, which are the same for the objects that there are
+holds_work : (m : Areas) (heap : List ℕ) (lies leads w w' : Name → ℕ) (objects : Name → Option Thing) → Holds m heap lies leads w objects → ((n : Name) (o : Thing) → objects n ≡ Some o → w n ≡ w' n) → Holds m heap lies leads w' objects
+holds_work m heap lies leads w w' objects h same = record {
+  within = h.within;
+  limits = h.limits;
+  stands = λ n o e. let q = h.stands n o e in record { header = q.header; name = q.name; work_word = q.work_word ∙ same n o e; fields = q.fields };
+}
+
+no_region : (u d : ℕ) → Control ≡ Region u d → ⊥
+no_region u d h = cc
+
+set_past : {X : Type 0} (xs : List X) (i : ℕ) (x : X) → length xs ≤ i → set xs i x ≡ xs
+set_past [] i x le = refl
+set_past (y ∷ ys) zero x le = absurd (omega (arith, le))
+set_past (y ∷ ys) (suc i) x le = ap (λ zs. y ∷ zs) (set_past ys i x (omega (arith, le)))
+
+-- the current pages in Control stay
+first_current : (currents : List (List ℕ)) (t depth u : ℕ) → 1 ≤ depth → current (row_set currents (t - 1) depth 0) u 0 ≡ current currents u 0
+first_current currents t depth u low = ⊎_elim
+    (λ (q : u - 1 ≡ t - 1). ⊎_elim
+    (λ (lt : t - 1 < length currents).
+    ap (λ i. get_or (row (set currents (t - 1) (set (row currents (t - 1)) depth 0)) i) 0 0) q ∙ ap (λ (x : List ℕ). get_or x 0 0) (get_or-set_same currents (t - 1) (set (row currents (t - 1)) depth 0) [] lt) ∙ get_or-set_other (row currents (t - 1)) depth 0 0 0 (omega (arith, low)) ∙ ap (λ i. get_or (row currents i) 0 0) (sym q))
+    (λ (past : length currents ≤ t - 1). ap (λ (x : List (List ℕ)). current x u 0) (set_past currents (t - 1) (set (row currents (t - 1)) depth 0) past))
+    (cases_lt (t - 1) (length currents)))
+    (λ (nq : u - 1 ≢ t - 1). ap (λ (x : List ℕ). get_or x 0 0) (get_or-set_other currents (t - 1) (u - 1) (set (row currents (t - 1)) depth 0) [] nq))
+    (cases_eq (u - 1) (t - 1))
+
+-- the lists of the words before a tight end are as long as those after its plan
+pub shape_before : (m : Areas) (before c : Contents) → c ≡ record before { scratch = c.scratch; heap = c.heap } → Shape m c → Shape m before
+shape_before m before c frame h =
+    let x : Contents = record before { scratch = c.scratch; heap = c.heap } in
+    let q : Shape m x = subst (Shape m) frame h in
+    record { heads = q.heads; pool = q.pool; table = q.table; entries = q.entries; currents = q.currents; slots = q.slots }
+
+-- settling the pages keeps the sets
+pub settled_sets : (m : Areas) (moved settled : Contents) (t depth : ℕ) → settled ≡ with_pool_rebuilt (with_current (record moved { table = settled.table }) t depth 0) → SetsHold m moved → SetsHold m settled
+settled_sets m moved settled t depth frame h =
+    let entries : set_entries settled.heads ≡ set_entries moved.heads = ap (λ (x : Contents). set_entries x.heads) frame ∙ get_or-set_other (set moved.heads 1 0) 2 3 _ 0 (omega arith) ∙ get_or-set_other moved.heads 1 3 0 0 (omega arith) in
+    subst (λ xs. SetsStand m settled.heads xs) (sym (ap (λ (x : Contents). x.sets) frame)) (sets_same m moved.heads settled.heads moved.sets entries h)
+
+module _ (m : Areas) (before mid c : Contents) (s : SpaceState) (st : Stands m before s) (t count next : ℕ) (areas : IsAreas m) (has : HasThread m t) (low : 1 ≤ depth_of before t) (r : TightReady m before mid c s st t count next) (depth : ℕ) (is : depth ≡ depth_of before t) (moved : Contents) (carried : Carried m c moved s st.places t count) where
+  abbrev l : Places
+  l = st.places
+
+  abbrev moves : ℕ → Move
+  moves = move_at c.scratch
+
+  abbrev slid : ℕ
+  slid = region_word s t
+
+  abbrev left : Name → Option Thing
+  left = objects_left s st.places t count (move_at c.scratch)
+
+  abbrev work : Name → ℕ
+  work n = get_or c.heap (st.places.at n + 2) 0
+
+  region_valid : IsValid MAX_DEPTH (innermost s.graph t)
+  region_valid = valid m before mid c s st t count next areas has low r
+
+  abbrev e : EndMoves s st.places t count (move_at c.scratch) true
+  e = tight_moves m before mid c s st t count next areas has low r
+
+  region : innermost s.graph t ≡ Region t depth
+  region = region_is m before s st t depth has is (omega (arith, is, low))
+
+  abbrev names : ℕ → Name
+  names = named m before mid c s st t count next areas has low r
+
+  pub closed : IsClosed (without (view s) (left_behind s st.places t count (move_at c.scratch)))
+  closed = (tight_lawful m before mid c s st t count next areas has low r (left_behind s st.places t count moves) (rest m before mid c s st t count next areas has low r)).closed
+
+  to_control : (k : ℕ) → k < count → (moves k).space ≡ Control
+  to_control k lt = ((slide m before mid c s st t count next areas has low r).control k lt).0
+
+  pub targets_valid : (k : ℕ) → k < count → IsValid MAX_DEPTH (move_at c.scratch k).space
+  targets_valid k lt = subst (IsValid MAX_DEPTH) (sym (to_control k lt)) tt
+
+  pub all_data : AreData left
+  all_data = data_left s st.whole l (one m before mid c s st t count next areas has low r) t count has.0 region_valid moves true e closed
+
+  pub are_moved : AreMoved left (forwarded count (move_at c.scratch) st.places.at) count (move_at c.scratch)
+  are_moved = moved_left s st.whole l (one m before mid c s st t count next areas has low r) t count has.0 region_valid moves true e
+
+  are_valid : AreValid left
+  are_valid = valid_left s st.whole l (one m before mid c s st t count next areas has low r) t count has.0 region_valid moves true e targets_valid
+
+  mid_frame : mid.table ≡ before.table
+  mid_frame = ap (λ (x : Contents). x.table) r.written.frame
+
+  moved_table : moved.table ≡ before.table
+  moved_table = ap (λ (x : Contents). x.table) carried.frame ∙ ap (λ (x : Contents). x.table) (tight_frame m before mid c s st t count next areas has low r)
+
+  moved_scratch : moved.scratch ≡ c.scratch
+  moved_scratch = ap (λ (x : Contents). x.scratch) carried.frame
+
+  -- one address has one move
+  same_move : (j k : ℕ) → j < count → k < count → (moves j).old ≡ (moves k).old → j ≡ k
+  same_move j k lj lk q = ⊎_elim
+      (λ (same : j ≡ k). same)
+      (λ (other : (j < k) ⊎ (k < j)). ⊎_elim
+      (λ (less : j < k). absurd (let up = e.ascending j k less lk in omega (arith, up, q)))
+      (λ (more : k < j). absurd (let up = e.ascending k j more lj in omega (arith, up, q)))
+      other)
+      (cases_order j k)
+
+  -- the object of a move at its new place
+  pub lands : (k : ℕ) → k < count → HasHeader moved.heap (move_at c.scratch k).new × (size_at moved.heap (move_at c.scratch k).new ≡ size_at mid.heap (move_at c.scratch k).old) × ((move_at c.scratch k).new + size_at moved.heap (move_at c.scratch k).new ≤ heap_length m)
+  lands k lt =
+      let x = (known m before mid c s st t count next areas has low r).object k lt in
+      let n : Name = names k in
+      let here : object_of s n ≡ Some x.0 = kept (view s) (left_behind s st.places t count moves) n x.0 x.1 in
+      let w = moves_so s st.whole l (one m before mid c s st t count next areas has low r) t count has.0 region_valid moves true e n x.0 k here lt x.2 in
+      let at : forwarded count moves l.at n ≡ (moves k).new = w.1.leads ∙ ap (λ i. (moves i).new) (same_move w.1.move k w.1.among lt (sym w.1.old ∙ x.2)) in
+      let o : Thing = record x.0 { home = (moves k).space } in
+      let stands = carried.holds.stands n o w.0 in
+      let limits = carried.holds.limits n o w.0 in
+      let within = carried.holds.within n o w.0 in
+      let header = ap (λ a. get_or moved.heap a 0) (sym at) ∙ stands.header in
+      let size : size_at moved.heap (moves k).new ≡ length x.0.fields + 3 = ap (λ i. i + 3) (fields_at-header moved.heap (moves k).new (record { fields = length o.fields; space = space_index o.home }) limits header) in
+      ((record { fields = length o.fields; space = space_index o.home }, limits, header), size ∙ sym x.3, omega (arith, within, at, size))
+
+  -- the page of a move
+  pub target : (k : ℕ) → k < count → (q : ℕ) × (q < m.pages) × IsPageOf (region_word s t) mid.table q × ((move_at c.scratch k).new / page_words m ≡ q) × (q < next)
+  target k lt =
+      let sl = slide m before mid c s st t count next areas has low r in
+      let w = (sl.control k lt).1 in
+      let placed = sl.placed k lt in
+      (w.0, w.1, w.2, (let q : (moves k).new / page_words m ≡ w.0 = omega (arith, w.3, w.4) in q), (let less : w.0 < next = omega (arith, w.3, placed) in less))
+
+  pub in_region : (k : ℕ) → k < count → ((move_at c.scratch k).new / page_words m < next) × IsPageOf (region_word s t) moved.table ((move_at c.scratch k).new / page_words m)
+  in_region k lt =
+      let w = target k lt in
+      (subst (λ i. i < next) (sym w.3) w.4, subst (λ (ts : List (List ℕ)). IsPageOf slid ts ((moves k).new / page_words m)) (mid_frame ∙ sym moved_table) (subst (IsPageOf slid mid.table) (sym w.3) w.2))
+
+  -- the table that settling the pages leaves
+  pub settled_table : (table : List (List ℕ)) → ((was : List ℕ) → ((k : ℕ) → k < count → size_at moved.heap (move_at moved.scratch k).new ≡ size_at was (move_at moved.scratch k).old) → ((k : ℕ) → k < count → (move_at moved.scratch k).new ≡ page_words m * ((move_at moved.scratch k).new / page_words m) + brought m was k (move_at moved.scratch) ((move_at moved.scratch k).new / page_words m)) → ((k : ℕ) → k < count → ((move_at moved.scratch k).new / page_words m < next) × IsPageOf (region_word s t) moved.table ((move_at moved.scratch k).new / page_words m)) → TableAfter m (region_word s t) moved.table was table count (move_at moved.scratch) next) → TableAfter m (region_word s t) mid.table mid.heap table count (move_at c.scratch) next
+  settled_table table told =
+      let at_start = subst (λ (x : List ℕ). (was : List ℕ) → ((k : ℕ) → k < count → size_at moved.heap (move_at x k).new ≡ size_at was (move_at x k).old) → ((k : ℕ) → k < count → (move_at x k).new ≡ page_words m * ((move_at x k).new / page_words m) + brought m was k (move_at x) ((move_at x k).new / page_words m)) → ((k : ℕ) → k < count → ((move_at x k).new / page_words m < next) × IsPageOf (region_word s t) moved.table ((move_at x k).new / page_words m)) → TableAfter m (region_word s t) moved.table was table count (move_at x) next) moved_scratch told in
+      let after = at_start mid.heap (λ k lt. (lands k lt).1) (slide m before mid c s st t count next areas has low r).tight in_region in
+      subst (λ (ts : List (List ℕ)). TableAfter m slid ts mid.heap table count moves next) (moved_table ∙ sym mid_frame) after
+
+  pub moved_is : moved.table ≡ before.table
+  moved_is = moved_table
+
+  abbrev pub later : Places
+  later = places_of m (names_after m (region_word s t) mid.table (names_of st.places) count (move_at c.scratch) (named m before mid c s st t count next areas has low r)) (forwarded count (move_at c.scratch) st.places.at)
+
+  -- the work words that are left
+  same_work : (n : Name) (p : Thing) → left n ≡ Some p → cleared count moves l.at work n ≡ cleared count moves l.at (λ x. get_or mid.heap (st.places.at x + 2) 0) n
+  same_work n p h =
+      let w = left_so s st.whole l (one m before mid c s st t count next areas has low r) t count has.0 region_valid moves true e n p h in
+      elim w.2 [
+        | inl q ↦ by_move-at count moves (λ v. 0) (l.at n) (work n) q.move e.ascending q.among q.old ∙ sym (by_move-at count moves (λ v. 0) (l.at n) (get_or mid.heap (st.places.at n + 2) 0) q.move e.ascending q.among q.old)
+        | inr q ↦ by_move-other count moves (λ v. 0) (l.at n) (work n) q.none ∙ (slide m before mid c s st t count next areas has low r).others (l.at n + 2) (λ k lt z. q.none k lt (omega (arith, z))) ∙ sym (by_move-other count moves (λ v. 0) (l.at n) (get_or mid.heap (st.places.at n + 2) 0) q.none)
+      ]
+
+  pub tight_stands : (table : List (List ℕ)) → TableAfter m (region_word s t) mid.table mid.heap table count (move_at c.scratch) next → HeapStands m table moved.heap left later (λ _. 0)
+  tight_stands table t' = slide-stands m slid mid (view s) l (λ x. get_or mid.heap (st.places.at x + 2) 0) (left_behind s st.places t count moves) c count moves names next r.room table moved.heap (laid m before mid c s st t count next areas has low r) st.stands.closed (small m before mid c s st t count next areas has low r) (drops_of m before mid c s st t count next areas has low r (left_behind s st.places t count moves) (rest m before mid c s st t count next areas has low r))
+      (λ n o present far. aimless m before mid c s st t count next areas has low r n o present (λ q. far (ap (λ (y : Space). space_index y + 1) q)))
+      (known m before mid c s st t count next areas has low r) (slide m before mid c s st t count next areas has low r) t'
+      (holds_work m moved.heap (forwarded count moves l.at) (forwarded count moves l.at) (cleared count moves l.at work) (cleared count moves l.at (λ x. get_or mid.heap (st.places.at x + 2) 0)) left carried.holds same_work)
+
+  -- what the recording of moved objects wants
+  pub held_settled : (settled : Contents) → settled.heap ≡ moved.heap → settled.scratch ≡ moved.scratch → Holds m settled.heap (forwarded count (move_at c.scratch) st.places.at) (forwarded count (move_at c.scratch) st.places.at) (cleared count (move_at c.scratch) st.places.at (λ n. get_or c.heap (st.places.at n + 2) 0)) left × AreMoved left (forwarded count (move_at c.scratch) st.places.at) count (move_at settled.scratch)
+  held_settled settled heap scratch = (subst (λ (h : List ℕ). Holds m h (forwarded count moves l.at) (forwarded count moves l.at) (cleared count moves l.at work) left) (sym heap) carried.holds, subst (λ (x : List ℕ). AreMoved left (forwarded count moves l.at) count (move_at x)) (sym (scratch ∙ moved_scratch)) are_moved)
+
+  -- ---- the page table and the current pages
+  module _ (table : List (List ℕ)) (after : TableAfter m (region_word s t) mid.table mid.heap table count (move_at c.scratch) next) (freed : (p : ℕ) → p < m.pages → IsPageOf (region_word s t) before.table p → next ≤ p → space_word table p ≡ 0) (long : length table ≡ m.pages) (long_before : length before.table ≡ m.pages) where
+    same_row : (p : ℕ) → (IsPageOf slid before.table p → ⊥) → row table p ≡ row before.table p
+    same_row p other = subst (λ (ts : List (List ℕ)). row table p ≡ row ts p) mid_frame (after.others p (λ q. other (subst (λ (ts : List (List ℕ)). IsPageOf slid ts p) mid_frame q)))
+
+    pub own_page : (p : ℕ) → p < m.pages → IsPageOf (region_word s t) before.table p → (space_word table p ≡ 0) ⊎ (space_word table p ≡ 1)
+    own_page p lt own = ⊎_elim
+        (λ (less : p < next). inr (after.filled p lt (subst (λ (ts : List (List ℕ)). IsPageOf slid ts p) (sym mid_frame) own) less).0)
+        (λ (le : next ≤ p). inl (freed p lt own le))
+        (cases_lt p next)
+
+    pub other_page : (p : ℕ) → (IsPageOf (region_word s t) before.table p → ⊥) → space_word table p ≡ space_word before.table p
+    other_page p other = ap (λ (x : List ℕ). get_or x 0 0) (same_row p other)
+
+    no_one : 1 ≢ slid
+    no_one q = let z : space_index (innermost s.graph t) ≡ space_index (Region t depth) = ap space_index region in omega (arith, q, z)
+
+    control_is_not : Control ≢ innermost s.graph t
+    control_is_not q = no_region t depth (q ∙ region)
+
+    spaces_left : (p : ℕ) → p < m.pages → (space_word table p ≡ 0) ⊎ ((x : Space) × (space_word table p ≡ space_index x + 1) × IsOpen (view s).depths x × (x ≢ innermost s.graph t))
+    spaces_left p lt = ⊎_elim
+        (λ (own : space_word before.table p ≡ slid). ⊎_elim (λ (z : space_word table p ≡ 0). inl z) (λ (z : space_word table p ≡ 1). inr (Control, z, tt, control_is_not)) (own_page p lt own))
+        (λ (other : space_word before.table p ≢ slid). ⊎_elim
+        (λ (z : space_word before.table p ≡ 0). inl (other_page p other ∙ z))
+        (λ (x : (x : Space) × (space_word before.table p ≡ space_index x + 1) × IsOpen (view s).depths x). inr (x.0, other_page p other ∙ x.1, x.2, λ q. other (x.1 ∙ ap (λ (y : Space). space_index y + 1) q)))
+        (st.stands.open_spaces p lt))
+        (cases_eq (space_word before.table p) slid)
+
+    module _ (currents : List (List ℕ)) (shape_threads : length before.currents ≡ m.threads) (shape_slots : (u : ℕ) → HasThread m u → length (row before.currents (u - 1)) ≡ max_depth m + 1) (set_is : currents ≡ row_set before.currents (t - 1) depth 0) where
+      inside : t - 1 < length before.currents
+      inside = omega (arith, has, shape_threads)
+
+      slot : depth < length (row before.currents (t - 1))
+      slot =
+          let v = subst (IsValid MAX_DEPTH) region region_valid in
+          omega (arith, shape_slots t has, v.3, areas.3)
+
+      cases_of : (u e : ℕ) → 1 ≤ u → ((u ≡ t) × (e ≡ depth) × (current currents u e ≡ 0)) ⊎ (((u ≡ t) × (e ≡ depth) → ⊥) × (current currents u e ≡ current before.currents u e))
+      cases_of u e hu = subst (λ (x : List (List ℕ)). ((u ≡ t) × (e ≡ depth) × (current x u e ≡ 0)) ⊎ (((u ≡ t) × (e ≡ depth) → ⊥) × (current x u e ≡ current before.currents u e))) (sym set_is) (current-cases before.currents t depth u e 0 has.0 hu inside slot)
+
+      pub currents_stand : CurrentsStand m currents table
+      currents_stand = record {
+        belong = λ u e hu le he some.
+            ⊎_elim (λ (w : (u ≡ t) × (e ≡ depth) × (current currents u e ≡ 0)). absurd (some w.2))
+            (λ (w : ((u ≡ t) × (e ≡ depth) → ⊥) × (current currents u e ≡ current before.currents u e)).
+            let size : length (row currents (u - 1)) ≡ length (row before.currents (u - 1)) = ap (λ (x : List (List ℕ)). length (row x (u - 1))) set_is ∙ length-slots_set before.currents t depth u 0 has.0 hu inside in
+            let inside_old : e < length (row before.currents (u - 1)) = omega (arith, he, size) in
+            let deep : e ≤ max_depth m = omega (arith, inside_old, shape_slots u (hu, le)) in
+            let some_old : current before.currents u e ≢ 0 = λ z. some (w.1 ∙ z) in
+            let b = st.stands.currents.belong u e hu le inside_old some_old in
+            let other : space_word before.table (current before.currents u e - 1) ≢ slid = λ q.
+            (let same : space_index (inner_of u e) ≡ space_index (innermost s.graph t) = omega (arith, sym b.1 ∙ q) in
+            w.0 (inner_region u e t depth (number-own (inner_of u e) (innermost s.graph t) (inner_valid m u e areas (hu, le) deep) region_valid same ∙ region))) in
+            (omega (arith, w.1, b.0), ap (λ (k : ℕ). space_word table (k - 1)) w.1 ∙ other_page (current before.currents u e - 1) other ∙ b.1))
+            (cases_of u e hu);
+        once = λ u e v f hu lu hv lv some same.
+            ⊎_elim (λ (w : (u ≡ t) × (e ≡ depth) × (current currents u e ≡ 0)). absurd (some w.2))
+            (λ (w : ((u ≡ t) × (e ≡ depth) → ⊥) × (current currents u e ≡ current before.currents u e)).
+            ⊎_elim (λ (z : (v ≡ t) × (f ≡ depth) × (current currents v f ≡ 0)). absurd (some (same ∙ z.2)))
+            (λ (z : ((v ≡ t) × (f ≡ depth) → ⊥) × (current currents v f ≡ current before.currents v f)). st.stands.currents.once u e v f hu lu hv lv (λ q. some (w.1 ∙ q)) (sym w.1 ∙ same ∙ z.1))
+            (cases_of v f hv))
+            (cases_of u e hu);
+      }
+
+      same_pages : (x : Space) → space_index x + 1 ≢ slid → space_index x + 1 ≢ 1 → pages_of table x ≡ pages_of before.table x
+      same_pages x ne one_ = pages_alike x before.table table (long ∙ sym long_before) (λ p lt. ⊎_elim
+          (λ (own : space_word before.table p ≡ slid).
+          let gone : space_word table p ≢ space_index x + 1 = λ q. ⊎_elim (λ (z : space_word table p ≡ 0). omega (arith, z, q)) (λ (z : space_word table p ≡ 1). one_ (sym q ∙ z)) (own_page p (omega (arith, lt, long_before)) own) in
+          let a : (space_word table p == space_index x + 1) ≡ false = ne_eqb (space_word table p) (space_index x + 1) gone in
+          let b : (space_word before.table p == space_index x + 1) ≡ false = ne_eqb (space_word before.table p) (space_index x + 1) (λ q. ne (sym q ∙ own)) in
+          a ∙ sym b)
+          (λ (other : space_word before.table p ≢ slid). ap (λ (y : ℕ). y == space_index x + 1) (other_page p other))
+          (cases_eq (space_word before.table p) slid))
+
+      far_word : (p : ℕ) → p < m.pages → space_word table p ≢ slid
+      far_word p lt q = ⊎_elim
+          (λ (own : space_word before.table p ≡ slid). ⊎_elim (λ (z : space_word table p ≡ 0). omega (arith, z, q)) (λ (z : space_word table p ≡ 1). no_one (sym z ∙ q)) (own_page p lt own))
+          (λ (other : space_word before.table p ≢ slid). other (sym (other_page p other) ∙ q))
+          (cases_eq (space_word before.table p) slid)
+
+      no_pages : pages_of table (innermost s.graph t) ≡ 0
+      no_pages = none_of (innermost s.graph t) table (λ p lt q. ⊎_elim
+          (λ (z : space_word table p ≡ 0). omega (arith, z, q))
+          (λ (x : (x : Space) × (space_word table p ≡ space_index x + 1) × IsOpen (view s).depths x × (x ≢ innermost s.graph t)). far_word p (omega (arith, lt, long)) q)
+          (spaces_left p (omega (arith, lt, long))))
+
+      pub tight_dense : RegionsDense m table currents later.pages left
+      tight_dense u e hu mu he me some = ⊎_elim
+          (λ (q : space_index (Region u e) ≡ space_index (innermost s.graph t)).
+          absurd (let own : Region u e ≡ innermost s.graph t = number-own (Region u e) (innermost s.graph t) (hu, omega (arith, mu, areas.3), he, omega (arith, me)) region_valid q in
+          omega (arith, some, no_pages, ap (pages_of table) own)))
+          (λ (ne : space_index (Region u e) ≢ space_index (innermost s.graph t)).
+          let apart : Region u e ≢ innermost s.graph t = λ q. ne (ap space_index q) in
+          let far : space_index (Region u e) + 1 ≢ slid = λ q. ne (omega (arith, q)) in
+          let count_same = same_pages (Region u e) far (omega arith) in
+          let d = st.stands.dense u e hu mu he me (omega (arith, some, count_same)) in
+          let cur : current currents u e ≡ current before.currents u e = ⊎_elim
+          (λ (w : (u ≡ t) × (e ≡ depth) × (current currents u e ≡ 0)). absurd (apart (ap (λ i. Region i e) w.0 ∙ ap (Region t) w.1 ∙ sym region)))
+          (λ (w : ((u ≡ t) × (e ≡ depth) → ⊥) × (current currents u e ≡ current before.currents u e)). w.1)
+          (cases_of u e hu) in
+          let at : ℕ = current before.currents u e - 1 in
+          let b = st.stands.currents.belong u e hu mu (omega (arith, me, shape_slots u (hu, mu))) d.0 in
+          let inner : inner_of u e ≡ Region u e = inner_is u e he in
+          let word : space_word before.table at ≢ slid = λ q. ne (omega (arith, q, b.1, ap space_index inner)) in
+          let mark : used_mark table (current currents u e - 1) ≡ used_mark before.table at = ap (λ i. used_mark table (i - 1)) cur ∙ ap (λ (y : List ℕ). get_or y 1 0) (same_row at word) in
+          let more = words_left m s st.whole st.stands.closed l t count has.0 region_valid moves true (tight_moves m before mid c s st t count next areas has low r) mid (λ x. get_or mid.heap (st.places.at x + 2) 0) (laid m before mid c s st t count next areas has low r) names (name_is m before mid c s st t count next areas has low r) (name_escapes m before mid c s st t count next areas has low r) (λ k lk. let w = target k lk in subst (λ i. i < m.pages) (sym w.3) w.1) (Region u e) ne in
+          let none = words_into-none (λ k. (moves k).space) (λ k. size_by (object_of s) (names k)) (Region u e) count (λ k lk q. let z : 0 ≡ space_index (Region u e) = ap space_index (sym (to_control k lk)) ∙ q in omega (arith, z)) in
+          (λ z. d.0 (sym cur ∙ z), omega (arith, d.1, count_same, mark, more, none)))
+          (cases_eq (space_index (Region u e)) (space_index (innermost s.graph t)))
+
+  -- ---- the words afterwards
+  module _ (settled filed d : Contents) (shape : Shape m before) (after : TableAfter m (region_word s t) mid.table mid.heap settled.table count (move_at c.scratch) next) (freed : (p : ℕ) → p < m.pages → IsPageOf (region_word s t) before.table p → next ≤ p → space_word settled.table p ≡ 0) (long : length settled.table ≡ m.pages) (frame : settled ≡ with_pool_rebuilt (with_current (record moved { table = settled.table }) t depth 0)) (pool : PoolStands m settled.heads settled.pool settled.table) (recording : (objects : Name → Option Thing) (at work' : Name → ℕ) → Holds m settled.heap at at work' objects → AreData objects → AreMoved objects at count (move_at settled.scratch) → AreValid objects → (a : ℕ) → IsFiled filed a ↔ (IsFiled settled a ⊎ IsCrossing objects at count (move_at settled.scratch) a)) (sets : SetsHold m filed) (others : filed ≡ with_sets settled filed) (ends : d ≡ with_depth (with_readers filed t (depth_of filed t) 0) t (depth_of filed t - 1)) (limits : InLimits m d) where
+    base_frame : c ≡ record before { scratch = c.scratch; heap = c.heap }
+    base_frame = tight_frame m before mid c s st t count next areas has low r
+
+    d_table : d.table ≡ settled.table
+    d_table = ap (λ (x : Contents). x.table) ends ∙ ap (λ (x : Contents). x.table) others
+
+    heap_is : d.heap ≡ moved.heap
+    heap_is = ap (λ (x : Contents). x.heap) ends ∙ ap (λ (x : Contents). x.heap) others ∙ ap (λ (x : Contents). x.heap) frame
+
+    settled_heap : settled.heap ≡ moved.heap
+    settled_heap = ap (λ (x : Contents). x.heap) frame
+
+    settled_scratch : settled.scratch ≡ c.scratch
+    settled_scratch = ap (λ (x : Contents). x.scratch) frame ∙ moved_scratch
+
+    currents_is : d.currents ≡ row_set before.currents (t - 1) depth 0
+    currents_is =
+        ap (λ (x : Contents). x.currents) ends ∙ ap (λ (x : Contents). x.currents) others ∙ ap (λ (x : Contents). x.currents) frame
+        ∙ ap (λ (x : Contents). row_set x.currents (t - 1) depth 0) carried.frame ∙ ap (λ (x : Contents). row_set x.currents (t - 1) depth 0) base_frame
+
+    depth_filed : depth_of filed t ≡ depth_of before t
+    depth_filed =
+        ap (λ (x : Contents). depth_of x t) others ∙ ap (λ (x : Contents). depth_of x t) frame ∙ ap (λ (x : Contents). depth_of x t) carried.frame
+        ∙ ap (λ (x : Contents). depth_of x t) base_frame
+
+    depths_is : d.depths ≡ set before.depths (t - 1) (depth_of before t - 1)
+    depths_is =
+        ap (λ (x : Contents). x.depths) ends ∙ ap (λ i. set filed.depths (t - 1) (i - 1)) depth_filed
+        ∙ ap (λ (ds : List ℕ). set ds (t - 1) (depth_of before t - 1)) (ap (λ (x : Contents). x.depths) others ∙ ap (λ (x : Contents). x.depths) frame ∙ ap (λ (x : Contents). x.depths) carried.frame ∙ ap (λ (x : Contents). x.depths) base_frame)
+
+    readers_is : d.readers ≡ row_set before.readers (t - 1) (depth_of before t - 1) 0
+    readers_is =
+        ap (λ (x : Contents). x.readers) ends ∙ ap (λ i. row_set filed.readers (t - 1) (i - 1) 0) depth_filed
+        ∙ ap (λ (rs : List (List ℕ)). row_set rs (t - 1) (depth_of before t - 1) 0) (ap (λ (x : Contents). x.readers) others ∙ ap (λ (x : Contents). x.readers) frame ∙ ap (λ (x : Contents). x.readers) carried.frame ∙ ap (λ (x : Contents). x.readers) base_frame)
+
+    unused_is : drop 4 d.heads ≡ drop 4 before.heads
+    unused_is =
+        ap (λ (x : Contents). drop 4 x.heads) ends ∙ ap (λ (x : Contents). drop 4 x.heads) others
+        ∙ drop-set-lt 4 settled.heads SET_ENTRIES (set_entries filed.heads) (omega arith)
+        ∙ ap (λ (x : Contents). drop 4 x.heads) frame
+        ∙ drop-set-lt 4 (set moved.heads 1 0) 2 _ (omega arith) ∙ drop-set-lt 4 moved.heads 1 0 (omega arith)
+        ∙ ap (λ (x : Contents). drop 4 x.heads) carried.frame ∙ drop-set-lt 4 c.heads SET_ENTRIES (set_entries moved.heads) (omega arith)
+        ∙ ap (λ (x : Contents). drop 4 x.heads) base_frame
+
+    settled_entries : set_entries settled.heads ≡ set_entries moved.heads
+    settled_entries = ap (λ (x : Contents). set_entries x.heads) frame ∙ get_or-set_other (set moved.heads 1 0) 2 3 _ 0 (omega arith) ∙ get_or-set_other moved.heads 1 3 0 0 (omega arith)
+
+    d_claims : claim_counter d.heads ≡ claim_counter settled.heads
+    d_claims = ap (λ (x : Contents). claim_counter x.heads) ends ∙ ap (λ (x : Contents). claim_counter x.heads) others ∙ get_or-set_other settled.heads SET_ENTRIES 1 (set_entries filed.heads) 0 (omega arith)
+
+    d_pooled : pool_length d.heads ≡ pool_length settled.heads
+    d_pooled = ap (λ (x : Contents). pool_length x.heads) ends ∙ ap (λ (x : Contents). pool_length x.heads) others ∙ get_or-set_other settled.heads SET_ENTRIES 2 (set_entries filed.heads) 0 (omega arith)
+
+    d_pool : d.pool ≡ settled.pool
+    d_pool = ap (λ (x : Contents). x.pool) ends ∙ ap (λ (x : Contents). x.pool) others
+
+    settled_filed : (a : ℕ) → IsFiled settled a ↔ IsFiled moved a
+    settled_filed a =
+        let same_sets : settled.sets ≡ moved.sets = ap (λ (x : Contents). x.sets) frame in
+        (filed_as moved settled settled_entries same_sets a, filed_as settled moved (sym settled_entries) (sym same_sets) a)
+
+    before_filed : (a : ℕ) → IsFiled c a ↔ IsRecorded before.heads before.sets before.buffers a
+    before_filed a = (
+      λ h. inl (subst (λ (x : Contents). IsFiled x a) base_frame h),
+      λ h. ⊎_elim
+          (λ (f : IsFiled before a). subst (λ (x : Contents). IsFiled x a) (sym base_frame) f)
+          (λ (f : Contains (flat_map (λ (b : List ℕ). b) before.buffers) a). absurd (not_listed (flat_map (λ (b : List ℕ). b) before.buffers) a (none_filed before.buffers r.filed.filed) f))
+          h,
+    )
+
+    outside_filed : (a : ℕ) → IsFiled moved a ↔ (IsRecorded before.heads before.sets before.buffers a × (LiesIn m before (innermost s.graph t) a → ⊥))
+    outside_filed a =
+        let table : c.table ≡ before.table = ap (λ (x : Contents). x.table) base_frame in (
+          λ h. let w = (carried.filed a).0 h in ((before_filed a).0 w.0, λ z. w.1 (ap (λ (ts : List (List ℕ)). space_word ts (a / page_words m)) table ∙ z)),
+          λ w. (carried.filed a).1 ((before_filed a).1 w.0, λ z. w.1 (ap (λ (ts : List (List ℕ)). space_word ts (a / page_words m)) (sym table) ∙ z)),
+        )
+
+    held : Holds m settled.heap (forwarded count moves l.at) (forwarded count moves l.at) (cleared count moves l.at work) left
+    held = subst (λ (h : List ℕ). Holds m h (forwarded count moves l.at) (forwarded count moves l.at) (cleared count moves l.at work) left) (sym settled_heap) carried.holds
+
+    filed_now : (a : ℕ) → IsFiled filed a ↔ (IsFiled settled a ⊎ IsCrossing left (forwarded count moves l.at) count moves a)
+    filed_now = subst (λ (x : List ℕ). (objects : Name → Option Thing) (at work' : Name → ℕ) → Holds m settled.heap at at work' objects → AreData objects → AreMoved objects at count (move_at x) → AreValid objects → (a : ℕ) → IsFiled filed a ↔ (IsFiled settled a ⊎ IsCrossing objects at count (move_at x) a)) settled_scratch recording left (forwarded count moves l.at) (cleared count moves l.at work) held all_data are_moved are_valid
+
+    d_filed : (a : ℕ) → IsFiled d a ↔ IsFiled filed a
+    d_filed a =
+        let entries = ap (λ (x : Contents). set_entries x.heads) ends in
+        let same = ap (λ (x : Contents). x.sets) ends in
+        (filed_as filed d entries same a, filed_as d filed (sym entries) (sym same) a)
+
+    either : {A B C X : Type 0} → A ↔ B → B ↔ C → (A ⊎ X) ↔ (C ⊎ X)
+    either f g = (
+      λ h. ⊎_elim (λ a. inl (g.0 (f.0 a))) (λ x. inr x) h,
+      λ h. ⊎_elim (λ a. inl (f.1 (g.1 a))) (λ x. inr x) h,
+    )
+
+    pub tight_leaves : Leaves m before d s st.places t count (move_at c.scratch) later
+    tight_leaves = record {
+      at = refl;
+      heap = subst (λ (ts : List (List ℕ)). HeapStands m ts d.heap left later (λ _. 0)) (sym d_table) (subst (λ (h : List ℕ). HeapStands m settled.table h left later (λ _. 0)) (sym heap_is) (tight_stands settled.table after));
+      spaces = subst (λ (ts : List (List ℕ)). (p : ℕ) → p < m.pages → (space_word ts p ≡ 0) ⊎ ((x : Space) × (space_word ts p ≡ space_index x + 1) × IsOpen (view s).depths x × (x ≢ innermost s.graph t))) (sym d_table) (spaces_left settled.table after freed long shape.table);
+      closed = closed;
+      stacks = ap (λ (x : Contents). x.stacks) ends ∙ ap (λ (x : Contents). x.stacks) others ∙ ap (λ (x : Contents). x.stacks) frame ∙ carried.stacks;
+      depths = depths_is;
+      made = ap (λ (x : Contents). x.made) ends ∙ ap (λ (x : Contents). x.made) others ∙ ap (λ (x : Contents). x.made) frame ∙ ap (λ (x : Contents). x.made) carried.frame ∙ ap (λ (x : Contents). x.made) base_frame;
+      rests = ap (λ (x : Contents). x.rests) ends ∙ ap (λ (x : Contents). x.rests) others ∙ ap (λ (x : Contents). x.rests) frame ∙ ap (λ (x : Contents). x.rests) carried.frame ∙ ap (λ (x : Contents). x.rests) base_frame;
+      unused = unused_is;
+      readers = readers_is;
+      buffers = subst AreFiled (sym (ap (λ (x : Contents). x.buffers) ends ∙ ap (λ (x : Contents). x.buffers) others ∙ ap (λ (x : Contents). x.buffers) frame ∙ ap (λ (x : Contents). x.buffers) carried.frame ∙ ap (λ (x : Contents). x.buffers) base_frame)) r.filed.filed;
+      limits = limits;
+      pool = subst (λ (ts : List (List ℕ)). PoolStands m d.heads d.pool ts) (sym d_table) (subst (λ (ps : List ℕ). PoolStands m d.heads ps settled.table) (sym d_pool) (pool_same m settled.heads d.heads settled.pool settled.table d_claims d_pooled pool));
+      currents = subst (λ (ts : List (List ℕ)). CurrentsStand m d.currents ts) (sym d_table) (currents_stand settled.table after freed long shape.table d.currents shape.currents shape.slots currents_is);
+      sets = subst (SetsHold m) (sym ends) sets;
+      dense = subst (λ (ts : List (List ℕ)). RegionsDense m ts d.currents later.pages left) (sym d_table) (tight_dense settled.table after freed long shape.table d.currents shape.currents shape.slots currents_is);
+      filed = λ a. iff_then (d_filed a) (iff_then (filed_now a) (either (settled_filed a) (outside_filed a)));
+    }
+
+    pub tight_ended : TightEnded m before d s t count
+    tight_ended = record {
+      state = state_ended m before s st r.filed.recorded areas t count has low moves true e d later tight_leaves (tight_counts m before mid c s st t count next areas has low r) targets_valid;
+      pages = λ p lt other. ap (λ (ts : List (List ℕ)). space_word ts p) d_table ∙ other_page settled.table after freed long shape.table p other;
+      region = λ p lt own. subst (λ (ts : List (List ℕ)). (space_word ts p ≡ 0) ⊎ (space_word ts p ≡ 1)) (sym d_table) (own_page settled.table after freed long shape.table p lt own);
+      control = λ u. ap (λ (x : List (List ℕ)). current x u 0) currents_is ∙ first_current before.currents t depth u (omega (arith, is, low));
+    }

@@ -1,0 +1,36 @@
+use Rattle.std.proofs.Math.Logic.{∥∥₁_map}
+use Rattle.std.proofs.Common.{◌≡◌, ◌≤◌, ℕ, List, arith, sym, subst, ap}
+use Rattle.heap_words.specs.Contents.{Contents, contents, depth_of}
+use Rattle.escape_closure.proofs.Filing.{begun, buffers_told, filed_recorded, filed_stands, none_logged, sets_told}
+use Rattle.escape_closure.proofs.beginning.begin_end.Goals as goal
+
+pub file_logs-requires-clause-sets : goal.file_logs-requires-clause-sets
+file_logs-requires-clause-sets g c = sets_told c.args.map (contents c.args.map (g.W.Words.words c.args.words.now)) c.requires.recorded
+
+pub file_logs-requires-clause-buffers : goal.file_logs-requires-clause-buffers
+file_logs-requires-clause-buffers g c = buffers_told c.args.map (contents c.args.map (g.W.Words.words c.args.words.now)) c.requires.recorded
+
+pub targets-requires-clause-depth : goal.targets-requires-clause-depth
+targets-requires-clause-depth g c =
+    let same = ap (λ (x : Contents). depth_of x c.args.thread) c.file_logs.ensures.others in
+    omega (arith, c.requires.depth, same)
+
+pub targets-requires-clause-filed : goal.targets-requires-clause-filed
+targets-requires-clause-filed g c = none_logged c.args.map (contents c.args.map (g.W.Words.words c.args.words.now)) (contents c.args.map (g.W.Words.words c.file_logs.new.words)) c.file_logs.ensures.others
+
+pub targets-requires-clause-stands : goal.targets-requires-clause-stands
+targets-requires-clause-stands g c =
+    let m = c.args.map in
+    let old = contents m (g.W.Words.words c.args.words.now) in
+    let mid = contents m (g.W.Words.words c.file_logs.new.words) in
+    let e = c.file_logs.ensures in
+    ∥∥₁_map c.requires.recorded (λ q. (q.0, filed_stands m old mid q.0 q.1 q.2 e.filed e.sets e.others e.sound.limits, filed_recorded m old mid q.0 q.1 q.2 e.filed e.sets e.others e.sound.limits))
+
+pub returns-clause-begun : goal.returns-clause-begun
+returns-clause-begun g c s h recorded =
+    let m = c.args.map in
+    let old = contents m (g.W.Words.words c.args.words.now) in
+    let mid = contents m (g.W.Words.words c.file_logs.new.words) in
+    let d = contents m (g.W.Words.words c.targets.new.words) in
+    let e = c.file_logs.ensures in
+    begun m old mid s h recorded e.filed e.sets e.others e.sound.limits d c.args.thread c.targets.result (c.targets.ensures.targets s (filed_stands m old mid s h recorded e.filed e.sets e.others e.sound.limits) (filed_recorded m old mid s h recorded e.filed e.sets e.others e.sound.limits))

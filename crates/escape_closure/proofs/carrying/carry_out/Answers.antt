@@ -1,0 +1,68 @@
+use Rattle.std.proofs.Props.{props}
+use Rattle.std.proofs.Math.Logic.{∥∥₁_elim, ∥∥₁_map}
+use Rattle.std.proofs.Common.{◌≡◌, ℕ, ◌+◌, ◌*◌, ◌≤◌, List, refl, sym, ap, subst, ◌∙◌, arith}
+use Rattle.epoch_lattice.specs.declared.TheConstants.{MAX_DEPTH}
+use Rattle.heap_words.specs.Map.{heap_length}
+use Rattle.heap_words.specs.Contents.{Contents, contents, depth_of}
+use Rattle.heap_words.specs.declared.map.Areas.{Areas}
+use Rattle.yak_model.specs.Spaces.{SpaceState}
+use Rattle.yak_model.specs.Stands.{Stands}
+use Rattle.remember_sets.specs.Filed.{SetsHold}
+use Rattle.relocation.specs.Moves.{AllMovable, Numbered, move_at}
+use Rattle.escape_closure.specs.Ends.{PlanReady, References}
+use Rattle.escape_closure.proofs.Carries.{carried, carry_movable, movable_told}
+use Rattle.escape_closure.proofs.carrying.carry_out.Goals as goal
+
+pub correct_references-requires-clause-ready : goal.correct_references-requires-clause-ready
+correct_references-requires-clause-ready g c = rw c.depth-innermost.ensures.words (∥∥₁_map c.requires.ready (λ q. (q.0, q.1, q.2, q.4.ready)))
+
+-- what the correcting of references leaves, over the words at the start
+abbrev refer : (m : Areas) (old start mid : Contents) (t count : ℕ) → start ≡ old → ((before : Contents) (s : SpaceState) (stands : Stands m before s) → PlanReady m before start s stands t count → References m start mid s stands.places t count) → (before : Contents) (s : SpaceState) (stands : Stands m before s) → PlanReady m before old s stands t count → References m old mid s stands.places t count
+refer m old start mid t count same told = subst (λ (x : Contents). (before : Contents) (s : SpaceState) (stands : Stands m before s) → PlanReady m before x s stands t count → References m x mid s stands.places t count) same told
+
+pub drop_slots_in-requires-clause-sets : goal.drop_slots_in-requires-clause-sets
+drop_slots_in-requires-clause-sets g c =
+    let m = c.args.map in
+    let t = c.args.thread in
+    let count = c.args.plan.count in
+    let old = contents m (g.W.Words.words c.args.words.now) in
+    let start = contents m (g.W.Words.words c.depth-innermost.new.words) in
+    let mid = contents m (g.W.Words.words c.correct_references.new.words) in
+    let same : start ≡ old = ap (contents m) c.depth-innermost.ensures.words in
+    let told = refer m old start mid t count same c.correct_references.ensures.references in
+    ∥∥₁_elim c.requires.ready (hlevel props) (λ q. subst (SetsHold m) (sym (told q.0 q.1 q.2 q.4.ready).frame) q.4.sets)
+
+pub move_all-requires-clause-within : goal.move_all-requires-clause-within
+move_all-requires-clause-within g c = ∥∥₁_elim c.requires.ready (hlevel props) (λ q. q.4.ready.numbered.room)
+
+pub move_all-requires-clause-movable : goal.move_all-requires-clause-movable
+move_all-requires-clause-movable g c =
+    let m = c.args.map in
+    let t = c.args.thread in
+    let count = c.args.plan.count in
+    let old = contents m (g.W.Words.words c.args.words.now) in
+    let start = contents m (g.W.Words.words c.depth-innermost.new.words) in
+    let mid = contents m (g.W.Words.words c.correct_references.new.words) in
+    let next = contents m (g.W.Words.words c.drop_slots_in.new.words) in
+    let same : start ≡ old = ap (contents m) c.depth-innermost.ensures.words in
+    let told = refer m old start mid t count same c.correct_references.ensures.references in
+    movable_told m next.heap count (move_at next.scratch) (∥∥₁_map c.requires.ready (λ q.
+    let refs = told q.0 q.1 q.2 q.4.ready in
+    let low : 1 ≤ depth_of q.0 t = omega (arith, c.requires.depth, ap (λ (x : Contents). depth_of x t) q.4.ready.frame) in
+    carry_movable m q.0 old q.1 q.2 t count q.3 c.requires.sound.areas c.requires.thread low q.4 mid next refs (ap (λ (x : Contents). x.heap) c.drop_slots_in.ensures.others) (ap (λ (x : Contents). x.scratch) c.drop_slots_in.ensures.others ∙ ap (λ (x : Contents). x.scratch) refs.frame)))
+
+pub returns-clause-carried : goal.returns-clause-carried
+returns-clause-carried g c before s stands tight r =
+    let m = c.args.map in
+    let t = c.args.thread in
+    let count = c.args.plan.count in
+    let old = contents m (g.W.Words.words c.args.words.now) in
+    let start = contents m (g.W.Words.words c.depth-innermost.new.words) in
+    let mid = contents m (g.W.Words.words c.correct_references.new.words) in
+    let next = contents m (g.W.Words.words c.drop_slots_in.new.words) in
+    let last = contents m (g.W.Words.words c.move_all.new.words) in
+    let same : start ≡ old = ap (contents m) c.depth-innermost.ensures.words in
+    let refs = refer m old start mid t count same c.correct_references.ensures.references before s stands r.ready in
+    let from : depth_of old t ≡ depth_of before t = ap (λ (x : Contents). depth_of x t) r.ready.frame in
+    let low : 1 ≤ depth_of before t = omega (arith, c.requires.depth, from) in
+    carried m before old s stands t count tight c.requires.sound.areas c.requires.thread low r mid next last c.depth-innermost.result (c.depth-innermost.ensures.depth ∙ from) refs c.drop_slots_in.ensures.filed c.drop_slots_in.ensures.sets c.drop_slots_in.ensures.others c.move_all.ensures.objects c.move_all.ensures.only_heap

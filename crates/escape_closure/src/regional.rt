@@ -1,0 +1,74 @@
+//! The end of a region into its objects' targets.
+
+ghost use Rattle.std.specs.Prelude.{◌≡◌, ◌≤◌, ◌<◌, ◌+◌, ◌*◌, MatchResult};
+ghost use Rattle.heap_words.specs.Map.{HasThread};
+ghost use Rattle.heap_words.specs.Contents.{Contents, contents, depth_of, Sound};
+ghost use Rattle.yak_model.specs.Spaces.{SpaceState};
+ghost use Rattle.yak_model.specs.Stands.{Stands};
+ghost use Rattle.yak_model.specs.Recorded.{Recorded};
+ghost use Rattle.escape_closure.specs.Ends.{RegionEnded, RegionShort};
+ghost use Rattle.escape_closure.specs.Leaving.{RegionReady};
+
+use crate::beginning::begin_end;
+use crate::carrying::carry_out;
+use crate::clearing::clear_targets;
+use crate::closing::close_region;
+use crate::planning::plan_moves;
+use epoch_lattice::Space;
+use forwarding::record_moved;
+use heap_words::{Areas, Words};
+use object_layout::Shortage;
+use region_pages::release_space;
+use relocation::Plan;
+use thread_stacks::depth;
+
+/// Ends the innermost region of a thread whose escaping objects are planned: references follow the plan, the objects are
+/// moved, the region's pages are given back, and the crossing fields of the moved objects are recorded.
+fn finish_region<W: Words>(words: &mut W, map: Areas, plan: Plan, thread: u8)
+    requires sound { Sound map (W.words words.old) }
+    requires thread { HasThread map thread }
+    requires depth { 1 ≤ depth_of (contents map (W.words words.old)) thread }
+    requires ready { ∥ ((before : Contents) × (mid : Contents) × (s : SpaceState) × (stands : Stands map before s) × RegionReady map before mid (contents map (W.words words.old)) s stands thread plan.count) ∥₁ }
+    ensures ended { (before mid : Contents) (s : SpaceState) (stands : Stands map before s) → RegionReady map before mid (contents map (W.words words.old)) s stands thread plan.count → RegionEnded map before (contents map (W.words words.new)) s stands thread plan.count }
+    ensures sound { Sound map (W.words words.new) }
+    ensures base { W.base words.new ≡ W.base words.old }
+{
+    let innermost = depth(words, map, thread);
+    let region = Space::Region {
+        thread,
+        depth: innermost,
+    };
+    carry_out(words, map, plan, thread);
+    release_space(words, map, region);
+    record_moved(words, map, &plan);
+    close_region(words, map, thread);
+}
+
+/// Ends the innermost epoch of a thread: the objects that escape from its region go to their targets, the other ones are gone,
+/// and the region's pages are given back. Answers how many objects were moved.
+///
+/// # Errors
+///
+/// `Shortage` exactly where the free pages are too few to place the escaping objects, by ascending address, each in its target.
+/// Then the state is as before.
+pub fn end_region<W: Words>(words: &mut W, map: Areas, thread: u8) -> Result<u64, Shortage>
+    requires sound { Sound map (W.words words.old) }
+    requires thread { HasThread map thread }
+    requires depth { 1 ≤ depth_of (contents map (W.words words.old)) thread }
+    requires recorded { ∥ ((s : SpaceState) × (h : Stands map (contents map (W.words words.old)) s) × Recorded map (contents map (W.words words.old)) s h) ∥₁ }
+    ensures ended { let c = contents map (W.words words.old) in let d = contents map (W.words words.new) in (s : SpaceState) (h : Stands map c s) → Recorded map c s h → MatchResult result (λ moved. RegionEnded map c d s h thread moved) (λ shortage. RegionShort map c d s h thread shortage) }
+    ensures sound { Sound map (W.words words.new) }
+    ensures base { W.base words.new ≡ W.base words.old }
+{
+    begin_end(words, map, thread);
+    match plan_moves(words, map, thread) {
+        Err(shortage) => {
+            clear_targets(words, map, thread);
+            Err(shortage)
+        }
+        Ok(plan) => {
+            finish_region(words, map, plan, thread);
+            Ok(u64::from(plan.count))
+        }
+    }
+}

@@ -1,0 +1,107 @@
+-- The room that a collection leaves.
+use Rattle.std.proofs.Common.{◌≡◌, ◌≢◌, ◌⊎◌, ℕ, ◌+◌, ◌-◌, ◌≤◌, ◌<◌, List, [], length, get_or, sym, ap, subst, ◌∙◌, arith, inl, inr}
+use Rattle.std.specs.Prelude.{replicate}
+use Rattle.std.specs.List.{All}
+use Rattle.std.proofs.Props.{props}
+use Rattle.std.proofs.lemmas.Bool.{cases_eq, cases_lt}
+use Rattle.std.proofs.lemmas.List.{get_or_past}
+use Rattle.std.proofs.Math.Logic.{⊎_elim, ∥∥₁_elim}
+use Rattle.heap_words.specs.declared.map.Areas.{Areas}
+use Rattle.heap_words.specs.Map.{HasThread}
+use Rattle.heap_words.specs.Cells.{row}
+use Rattle.heap_words.specs.Contents.{Contents}
+use Rattle.region_pages.specs.Freeing.{with_pool_rebuilt}
+use Rattle.yak_model.specs.Placed.{space_word}
+use Rattle.yak_model.specs.Stands.{PoolStands, current, set_entries}
+use Rattle.remember_sets.specs.Filed.{with_sets}
+use Rattle.relocation.specs.Slide.{IsPageOf}
+use Rattle.mark_compact.specs.Collected.{CurrentsCollected, RoomCollected}
+use Rattle.mark_compact.specs.Collecting.{Cleared, ControlPages, IsLast}
+use Rattle.mark_compact.specs.declared.sliding.TheConstants.{CONTROL_WORD}
+use Rattle.mark_compact.proofs.Logged.{none-long, pool-with_entries}
+
+-- what a slide leaves of other words than those of objects
+pub record Left (m : Areas) (c1 c2 : Contents) : Type 0 where
+  pub frame : c2 ≡ record c1 { stacks = c2.stacks; table = c2.table; scratch = c2.scratch; heap = c2.heap }
+  pub others : (p : ℕ) → (IsPageOf CONTROL_WORD c1.table p → ⊥) → row c2.table p ≡ row c1.table p
+  pub control : (p : ℕ) → p < m.pages → IsPageOf CONTROL_WORD c1.table p → (space_word c2.table p ≡ CONTROL_WORD) ⊎ (space_word c2.table p ≡ 0)
+
+module _ (m : Areas) (c0 c1 c2 c3 c4 : Contents) (t last : ℕ) (ht : HasThread m t) (cleared : Cleared m c0 c1) (some : ∥ Left m c1 c2 ∥₁) (ends : IsLast (with_pool_rebuilt c2).table m.pages last) (pages : ControlPages (with_pool_rebuilt c2) c3 t last m.threads) (pool : PoolStands m c3.heads c3.pool c3.table) (others : c4 ≡ with_sets c3 c4) (long : length c2.table ≡ m.pages) (threads : length c3.currents ≡ m.threads) where
+  table4 : c4.table ≡ c2.table
+  table4 = ap (λ (x : Contents). x.table) others ∙ ap (λ (x : Contents). x.table) pages.frame
+
+  table1 : c1.table ≡ c0.table
+  table1 = ap (λ (x : Contents). x.table) cleared.others
+
+  currents4 : c4.currents ≡ c3.currents
+  currents4 = ap (λ (x : Contents). x.currents) others
+
+  own4 : current c4.currents t 0 ≡ last
+  own4 = ap (λ (cs : List (List ℕ)). current cs t 0) currents4 ∙ pages.own ht.1
+
+  -- a control page is before the last one's end
+  before-last : (p : ℕ) → space_word c4.table p ≡ CONTROL_WORD → p + 1 ≤ last
+  before-last p e =
+      let z : space_word c2.table p ≡ CONTROL_WORD = ap (λ (tb : List (List ℕ)). space_word tb p) (sym table4) ∙ e in
+      ⊎_elim
+      (λ (lt : p < last). omega (arith, lt))
+      (λ (le : last ≤ p). absurd (⊎_elim
+      (λ (lt : p < m.pages). ends.none p lt le z)
+      (λ (past : m.pages ≤ p).
+      let none : space_word c2.table p ≡ 0 = ap (λ (r : List ℕ). get_or r 0 0) (get_or_past c2.table p [] (omega (arith, past, long))) in
+      omega (arith, none, z))
+      (cases_lt p m.pages)))
+      (cases_lt p last)
+
+  pub currents-collected : CurrentsCollected c0 c4 t
+  currents-collected = record {
+    own = ⊎_elim
+        (λ (z : last ≡ 0). inl (own4 ∙ z, λ p e. (let q = before-last p e in omega (arith, q, z))))
+        (λ (ne : last ≢ 0).
+        let one : 1 ≤ last = omega (arith, ne) in
+        inr (
+          rw own4 one,
+          ap (λ i. space_word c4.table (i - 1)) own4 ∙ ap (λ (tb : List (List ℕ)). space_word tb (last - 1)) table4 ∙ ends.control one,
+          λ p e. (let q = before-last p e in omega (arith, q, own4)),
+        ))
+        (cases_eq last 0);
+    others = λ u low ne. ap (λ (cs : List (List ℕ)). current cs u 0) currents4 ∙ ⊎_elim
+        (λ (lt : m.threads < u). ap (λ (r : List ℕ). get_or r 0 0) (get_or_past c3.currents (u - 1) [] (omega (arith, lt, threads))))
+        (λ (le : u ≤ m.threads). pages.others u low le ne)
+        (cases_lt m.threads u);
+    regions = λ u d h.
+        ap (λ (cs : List (List ℕ)). current cs u d) currents4
+        ∙ pages.regions u d h
+        ∙ ∥∥₁_elim some (hlevel props) (λ f. ap (λ (x : Contents). current x.currents u d) f.frame)
+        ∙ ap (λ (x : Contents). current x.currents u d) cleared.others;
+  }
+
+  pages-collected : (p : ℕ) → p < m.pages → (space_word c4.table p ≡ space_word c0.table p) ⊎ ((space_word c0.table p ≡ CONTROL_WORD) × (space_word c4.table p ≡ 0))
+  pages-collected p lt =
+      let now : space_word c4.table p ≡ space_word c2.table p = ap (λ (tb : List (List ℕ)). space_word tb p) table4 in
+      let was : space_word c1.table p ≡ space_word c0.table p = ap (λ (tb : List (List ℕ)). space_word tb p) table1 in
+      ⊎_elim
+      (λ (c : space_word c0.table p ≡ CONTROL_WORD). ⊎_elim
+      (λ (same : space_word c4.table p ≡ CONTROL_WORD). inl (same ∙ sym c))
+      (λ (ne : space_word c4.table p ≡ CONTROL_WORD → ⊥). inr (
+        c,
+        ∥∥₁_elim some (hlevel props) (λ f. elim (f.control p lt (was ∙ c)) [
+          | inl one ↦ absurd (ne (now ∙ one))
+          | inr none ↦ now ∙ none
+        ]),
+      ))
+      (cases_eq (space_word c4.table p) CONTROL_WORD))
+      (λ (o : space_word c0.table p ≡ CONTROL_WORD → ⊥). inl (now ∙ ∥∥₁_elim some (hlevel props) (λ f. ap (λ (r : List ℕ). get_or r 0 0) (f.others p (λ e. o (sym was ∙ e)))) ∙ was))
+      (cases_eq (space_word c0.table p) CONTROL_WORD)
+
+  pub room-collected : RoomCollected m c0 c4 t
+  room-collected =
+      let stand : PoolStands m c4.heads c4.pool c4.table = subst (λ (x : Contents). PoolStands m x.heads x.pool x.table) (sym others) (pool-with_entries m c3.heads c3.pool c3.table (set_entries c4.heads) pool) in
+      let buffers : c4.buffers ≡ replicate m.threads [] = ap (λ (x : Contents). x.buffers) others ∙ ap (λ (x : Contents). x.buffers) pages.frame ∙ ∥∥₁_elim some (hlevel props) (λ f. ap (λ (x : Contents). x.buffers) f.frame) ∙ ap (λ (x : Contents). x.buffers) cleared.others in
+      record {
+        filed = subst (All (λ (es : List ℕ). es ≡ [])) (sym buffers) (none-long m.threads);
+        readers = ap (λ (x : Contents). x.readers) others ∙ ap (λ (x : Contents). x.readers) pages.frame ∙ ∥∥₁_elim some (hlevel props) (λ f. ap (λ (x : Contents). x.readers) f.frame) ∙ ap (λ (x : Contents). x.readers) cleared.others;
+        currents = currents-collected;
+        pages = pages-collected;
+        free = stand.free;
+      }

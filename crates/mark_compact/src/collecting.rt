@@ -1,0 +1,34 @@
+//! The collection of the control space.
+
+ghost use Rattle.std.specs.Prelude.{◌≡◌};
+ghost use Rattle.heap_words.specs.Map.{HasThread};
+ghost use Rattle.heap_words.specs.Contents.{Sound, contents};
+ghost use Rattle.yak_model.specs.Spaces.{SpaceState};
+ghost use Rattle.yak_model.specs.Stands.{Stands};
+ghost use Rattle.yak_model.specs.Recorded.{Recorded};
+ghost use Rattle.mark_compact.specs.Collected.{RoomCollected, StateCollected};
+
+use crate::clearing::clear_slots;
+use crate::moving::slide;
+use crate::resetting::reset_pages;
+use forwarding::record_moved;
+use heap_words::{Areas, Words};
+
+/// Collects the control space. The control objects to which no walk leads from a stack or from an object of a region are
+/// dropped; the others slide to the front of the control pages, and all references follow them. Pages that stay empty are
+/// given back, the last of the others is the thread's current control page, and no other thread keeps one. Objects of regions
+/// stay where they are.
+pub fn collect<W: Words>(words: &mut W, map: Areas, thread: u8)
+    requires sound { Sound map (W.words words.old) }
+    requires thread { HasThread map thread }
+    requires recorded { (let c = contents map (W.words words.old) in ∥ ((s : SpaceState) × (h : Stands map c s) × Recorded map c s h) ∥₁) }
+    ensures state { (let c = contents map (W.words words.old) in let d = contents map (W.words words.new) in (s : SpaceState) (h : Stands map c s) → Recorded map c s h → StateCollected map d s) }
+    ensures room { RoomCollected map (contents map (W.words words.old)) (contents map (W.words words.new)) thread }
+    ensures sound { Sound map (W.words words.new) }
+    ensures base { W.base words.new ≡ W.base words.old }
+{
+    clear_slots(words, map);
+    let plan = slide(words, map);
+    reset_pages(words, map, thread);
+    record_moved(words, map, &plan);
+}
