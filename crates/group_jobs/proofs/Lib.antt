@@ -11,3 +11,4 @@ pub mod Rooms
 pub mod Progress
 pub mod Passing
 pub mod Merging
+pub mod Listed

@@ -4,3 +4,4 @@ pub mod LongWords
 pub mod Counts
 pub mod Goings
 pub mod Tallies
+pub mod Listing

@@ -3,6 +3,7 @@
 
 mod counted;
 mod epochs;
+mod listing;
 mod long_words;
 mod stub;
 mod tallies;
@@ -24,3 +25,5 @@ pub const TOTAL_SLOT: u32 = 1;
 pub const PART_SLOT: u32 = 2;
 /// The most objects that are made for a word: a key, two entries, and the tables of its task and its worker.
 pub const OBJECTS_FOR_WORD: usize = 5;
+/// The thread that counts alone.
+pub const WORKER: u8 = 1;
