@@ -17,6 +17,7 @@ use Rattle.group_jobs.specs.Counts.{has_word, word_counts}
 use Rattle.group_jobs.specs.LongWords.{is_long}
 use Rattle.group_jobs.proofs.Sorting.{same_word}
 
+-- Two words that the test of equality takes for one are one.
 pub same_by_test : (word other : List ℕ) → eq_by_cmp word_cmp word other ≡ true → word ≡ other
 same_by_test word other tie = same_word word other ((Equal-is (word_cmp word other)).0 tie)
 
@@ -90,6 +91,29 @@ word_counts-push words word = same_counts _ (words ++ word ∷ []) (λ other.
       | true ↦ λ tie. ap (λ w. Some (places_of words w + 1)) (sym (same_by_test other word tie)) ∙ sym (ap (λ b. cond b (Some (places_of words other + 1)) None) (or_true (has_word words other)))
       | false ↦ λ _. get-word_counts words other ∙ (λ i. cond (or_false (has_word words other) i) (Some (sym (add-zero (places_of words other)) i)) None)
     ] refl
+
+-- the count of a word in two maps together
+abbrev pub joined_count : Option ℕ → Option ℕ → Option ℕ
+joined_count None other = other
+joined_count (Some m) None = Some m
+joined_count (Some m) (Some n) = Some (m + n)
+
+joined_told : (words others : List (List ℕ)) (word : List ℕ) → joined_count (told_of words word) (told_of others word) ≡ told_of (words ++ others) word
+joined_told words others word = by_cases ∙ sym (λ i. cond (has_word-append words others word i) (Some (places_of-append words others word i)) None)
+  where
+    by_cases : joined_count (told_of words word) (told_of others word) ≡ cond (has_word words word || has_word others word) (Some (places_of words word + places_of others word)) None
+    by_cases = elim (has_word words word) as (λ a. has_word words word ≡ a → joined_count (cond a (Some (places_of words word)) None) (told_of others word) ≡ cond (a || has_word others word) (Some (places_of words word + places_of others word)) None) [
+      | true ↦ λ _. elim (has_word others word) as (λ b. has_word others word ≡ b → joined_count (Some (places_of words word)) (cond b (Some (places_of others word)) None) ≡ Some (places_of words word + places_of others word)) [
+        | true ↦ λ _. refl
+        | false ↦ λ none. ap Some (sym (add-zero (places_of words word)) ∙ ap (λ k. places_of words word + k) (sym (no_place others word none)))
+      ] refl
+      | false ↦ λ none. ap (λ k. cond (has_word others word) (Some k) None) (sym (zero-add (places_of others word)) ∙ ap (λ k. k + places_of others word) (sym (no_place words word none)))
+    ] refl
+
+-- A map that tells of each word what two lists tell together is that of the lists, one after the other.
+pub joined_counts : (after : WordCounts) (words others : List (List ℕ)) → ((word : List ℕ) → finite.get after word ≡ joined_count (finite.get (word_counts words) word) (finite.get (word_counts others) word)) → after ≡ word_counts (words ++ others)
+joined_counts after words others is = same_counts after (words ++ others) (λ word.
+    is word ∙ (λ i. joined_count (get-word_counts words word i) (get-word_counts others word i)) ∙ joined_told words others word)
 
 -- None of the words is long where no test finds one.
 pub none_long : (words : List (List ℕ)) → list_any is_long words ≡ false → All (λ word. length word ≤ WORD_LIMIT) words

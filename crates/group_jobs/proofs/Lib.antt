@@ -12,3 +12,5 @@ pub mod Progress
 pub mod Passing
 pub mod Merging
 pub mod Listed
+pub mod SameTasks
+pub mod Walked

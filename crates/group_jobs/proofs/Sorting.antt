@@ -1,15 +1,15 @@
 -- Entries in ascending order of their words.
-use Rattle.std.proofs.Common.{◌≡◌, ◌≢◌, ℕ, suc, ◌<◌, ◌≤◌, ◌⊎◌, inl, inr, cond, true, false, Bool, ◌||◌, ◌&&◌, T, List, [], ◌∷◌, map, length, get_or, Option, None, Some, is_some, All, AllPairs, refl, sym, ap, subst, ◌∙◌, arith}
+use Rattle.std.proofs.Common.{◌≡◌, ◌≢◌, ℕ, zero, suc, ◌<◌, ◌≤◌, ◌⊎◌, inl, inr, cond, true, false, Bool, ◌||◌, ◌&&◌, T, List, [], ◌∷◌, map, length, get_or, Option, None, Some, is_some, All, AllPairs, is_eq, refl, sym, ap, subst, ◌∙◌, arith}
 use Rattle.std.specs.FinMap as finite
 use Rattle.std.specs.FinMap.{find, is_sorted, slice_cmp-IsAntisymmetric, nat_cmp-IsAntisymmetric, IsAntisymmetric, entries_sorted, get-entries}
-use Rattle.std.specs.FinMap.Entries.{below_all, same_entries}
+use Rattle.std.specs.FinMap.Entries.{below_all, same_entries, is_some-find}
 use Rattle.std.specs.declared.cmp.Ordering.TheVariants.{Less, Equal, Greater}
 use Rattle.std.specs.Ordering.{eq_by_cmp, is_lt, ordering_reverse}
 use Rattle.std.specs.Cmp.{Equal-is}
 use Rattle.std.specs.List.{swap}
 use Rattle.std.specs.List.Sorted.{IsPermutation, IsSortedByKey}
 use Rattle.std.proofs.lemmas.Bool.{cases_eq, cases_lt}
-use Rattle.std.proofs.lemmas.Cmp.{nat_list_cmp_total}
+use Rattle.std.proofs.lemmas.Cmp.{nat_list_cmp_total, tied_itself}
 use Rattle.std.proofs.lemmas.List.Edits.{Swapped, swapped_from_swap, length-swap}
 use Rattle.std.proofs.lemmas.List.Elements.{All-head, All-tail}
 use Rattle.std.proofs.lemmas.List.Sorted.{IsPermutation-keeps, IsPermutation-map, All-permutation, list_any-IsPermutation, sorted_far, ranks_by}
@@ -126,12 +126,31 @@ one_or_none : (o : Option ℕ) → cond (is_some o) o None ≡ o
 one_or_none None = refl
 one_or_none (Some n) = refl
 
+map_passes : (word : List ℕ) (entries : List Pair) → is_some (find word_cmp word entries) ≡ has_word (map (λ entry. entry.0) entries) word
+map_passes word entries = is_some-find word_cmp word entries
+
+tied_self : (word : List ℕ) → eq_by_cmp word_cmp word word ≡ true
+tied_self word = ap is_eq (tied_itself nat_list_cmp_total word)
+
+-- An entry is the first of its word, where each word is told once.
+find_at : (entries : List Pair) → AreApart entries → (k : ℕ) (d : Pair) → k < length entries → find word_cmp (get_or entries k d).0 entries ≡ Some (get_or entries k d).1
+find_at [] apart k d lt = absurd (omega arith)
+find_at (entry ∷ entries) apart zero d lt = ap (λ b. cond b (Some entry.1) (find word_cmp entry.0 entries)) (tied_self entry.0)
+find_at (entry ∷ entries) apart (suc k) d lt =
+    let word : List ℕ = (get_or entries k d).0 in
+    let rest = find_at entries (λ i j e below within. apart (suc i) (suc j) e (omega arith) (omega arith)) k d (omega arith) in
+    elim (eq_by_cmp word_cmp word entry.0) as (λ b. eq_by_cmp word_cmp word entry.0 ≡ b → cond b (Some entry.1) (find word_cmp word entries) ≡ Some (get_or entries k d).1) [
+      | true ↦ λ tie. absurd (apart 0 (suc k) d (omega arith) lt (sym (same_word word entry.0 ((Equal-is (word_cmp word entry.0)).0 tie))))
+      | false ↦ λ _. rest
+    ] refl
+
 -- The entries of a map, put into ascending order, are its entries in order.
 pub sorted_entries : (counts : WordCounts) (before after : List Pair) → IsPermutation before after → IsSortedByKey (λ entry. entry.0) word_cmp after → AreEntries counts before → after ≡ finite.entries counts
 sorted_entries counts before after moved up are =
-    let right : All (λ entry. finite.get counts entry.0 ≡ Some entry.1) after = All-permutation (λ entry. finite.get counts entry.0 ≡ Some entry.1) before after moved are.right in
+    let right : All (λ entry. finite.get counts entry.0 ≡ Some entry.1) after =
+    All-permutation (λ entry. finite.get counts entry.0 ≡ Some entry.1) before after moved (λ k d lt. sym (are.found (get_or before k d).0) ∙ find_at before are.once k d lt) in
     let told : (word : List ℕ) → has_word (map (λ entry. entry.0) after) word ≡ is_some (finite.get counts word) = λ word.
-    sym (list_any-IsPermutation (eq_by_cmp word_cmp word) _ _ (IsPermutation-map (λ entry. entry.0) before after moved)) ∙ are.told word in
+    sym (list_any-IsPermutation (eq_by_cmp word_cmp word) _ _ (IsPermutation-map (λ entry. entry.0) before after moved)) ∙ sym (map_passes word before) ∙ ap is_some (are.found word) in
     let rise : Rise after = record {
       far = sorted_far (λ one other. is_lt (word_cmp one.0 other.0)) (ranks_by nat_list_cmp_total (λ entry. entry.0)) after up;
       apart = apart_moved before after moved are.once;

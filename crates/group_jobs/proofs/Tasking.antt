@@ -1,7 +1,8 @@
 -- Cutting a text into tasks.
-use Rattle.std.proofs.Common.{◌≡◌, ℕ, ◌+◌, ◌-◌, ◌<◌, ◌≤◌, ◌⊎◌, inl, inr, true, false, List, [], ◌∷◌, ◌++◌, length, get_or, take, drop, count_by, refl, sym, ap, ◌∙◌, arith, append_assoc}
+use Rattle.std.proofs.Common.{◌≡◌, ℕ, ◌+◌, ◌-◌, ◌<◌, ◌≤◌, ◌⊎◌, inl, inr, true, false, List, [], ◌∷◌, ◌++◌, length, get_or, take, drop, count_by, All, refl, sym, ap, ◌∙◌, arith, append_assoc}
 use Rattle.std.specs.List.{flat_map}
 use Rattle.std.proofs.lemmas.List.{append-nil, take_all, take-append-drop, drop-drop, drop_all, length-drop, length-take-le, get_or-take}
+use Rattle.std.proofs.lemmas.List.Elements.{All-nil, All-cons}
 use Rattle.std.proofs.lemmas.List.Sums.{count_by_more_yes, count_by_more_no}
 use Rattle.yak_model.specs.Texts.{words_of}
 use Rattle.group_jobs.specs.declared.tasks.Task.{Task}
@@ -111,3 +112,8 @@ words_from bytes lines place (task ∷ tasks) (start, is, are) =
 -- The words of the tasks are those of the text.
 pub words_of_tasks : (bytes : List ℕ) (lines : ℕ) (tasks : List Task) → AreTasks bytes lines tasks → words_in bytes tasks ≡ words_of bytes
 words_of_tasks bytes lines tasks are = words_from bytes lines 0 tasks are
+
+-- Each of the tasks is one.
+pub each_task : (bytes : List ℕ) (lines place : ℕ) (tasks : List Task) → AreTasksFrom bytes lines place tasks → All (IsTask bytes lines) tasks
+each_task bytes lines place [] end = All-nil (IsTask bytes lines)
+each_task bytes lines place (task ∷ tasks) (start, is, are) = All-cons (IsTask bytes lines) task tasks is (each_task bytes lines task.end tasks are)

@@ -1,5 +1,5 @@
 -- The counts of words.
-use Rattle.std.specs.Prelude.{◌≡◌, ◌≢◌, ℕ, Bool, List, Some, map, is_some, AllPairs, All}
+use Rattle.std.specs.Prelude.{◌≡◌, ◌≢◌, ℕ, Bool, List, map, AllPairs}
 use Rattle.std.specs.FinMap as finite
 use Rattle.std.specs.List.{list_any}
 use Rattle.std.specs.Ordering.{eq_by_cmp}
@@ -21,5 +21,4 @@ counts_of words = finite.entries (word_counts words)
 -- The entries, in some order, tell of each word of a map once, with its count, and of no other word.
 pub record AreEntries (counts : WordCounts) (entries : List (List ℕ × ℕ)) : Type 0 where
   pub once : AllPairs (λ one other. one.0 ≢ other.0) entries
-  pub told : (word : List ℕ) → has_word (map (λ entry. entry.0) entries) word ≡ is_some (finite.get counts word)
-  pub right : All (λ entry. finite.get counts entry.0 ≡ Some entry.1) entries
+  pub found : (word : List ℕ) → finite.find word_cmp word entries ≡ finite.get counts word

@@ -5,3 +5,5 @@ pub mod Counts
 pub mod Goings
 pub mod Tallies
 pub mod Listing
+pub mod Printing
+pub mod Room

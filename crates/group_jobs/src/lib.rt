@@ -7,13 +7,17 @@ mod listing;
 mod long_words;
 mod stub;
 mod tallies;
+mod laws;
+mod printing;
 mod tasks;
 #[cfg(test)]
 mod tests;
 mod words;
 
 pub use counted::{Counted, sort_counts};
+pub use laws::law_one_cut;
 pub use long_words::long_word;
+pub use printing::print_counts;
 pub use tasks::{Task, cut_tasks};
 pub use words::Words;
 

@@ -1,6 +1,5 @@
-use crate::{Counted, Words, cut_tasks, long_word, sort_counts};
+use crate::{Counted, Words, cut_tasks, long_word, print_counts, sort_counts};
 use object_layout::WORD_LIMIT;
-use std::alloc::Global;
 use std::test::Fail;
 
 #[test]
@@ -43,11 +42,11 @@ fn tells_the_line_of_a_long_word(rt: HostRuntime) -> Result<(), Fail> {
 }
 
 #[test]
-fn sorts_the_words_of_a_text(rt: HostRuntime) -> Result<(), Fail> {
+fn prints_the_words_of_a_text_in_order(rt: HostRuntime) -> Result<(), Fail> {
     let alloc = rt.alloc();
-    let mut words = Words::of(b" the\tcat\r\nat \n\nthe");
+    let mut words = Words::of(b" the\tcat\r\nat \n\nhe");
     let mut list = Vec::new(alloc);
-    for count in [3, 1, 4, 1] {
+    for count in [3, 1, 40, 2] {
         let Some(word) = words.next() else {
             panic!(rt; "a word is missing");
         };
@@ -58,11 +57,11 @@ fn sorts_the_words_of_a_text(rt: HostRuntime) -> Result<(), Fail> {
     }
     assert!(rt; words.next().is_none());
     sort_counts(&mut list);
-    let mut told = Vec::new(alloc);
-    for entry in &list {
-        told.extend_from_slice(&entry.word)?;
-        told.push(b' ')?;
+    match print_counts(alloc, &list) {
+        Ok(text) => {
+            assert_eq!(rt; text.as_slice(), b"40 at\n1 cat\n2 he\n3 the\n".as_slice());
+        }
+        Err(error) => panic!(rt; "no text: {error}"),
     }
-    assert_eq!(rt; told.as_slice(), b"at cat the the ".as_slice());
     Ok(())
 }
