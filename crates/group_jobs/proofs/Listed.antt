@@ -7,12 +7,14 @@ use Rattle.std.proofs.lemmas.List.{append_assoc, append-nil}
 use Rattle.std.proofs.lemmas.List.Elements.{All-nil, All-cons, All-head, All-tail, All-append}
 use Rattle.yak_model.specs.declared.TheConstants.{BUCKETS}
 use Rattle.yak_model.specs.Private.{KnownObjects}
-use Rattle.yak_model.specs.Tables.{AreDifferent, HasCount, IsCountTable, LacksWord, Link, bucket_of}
+use Rattle.yak_model.specs.Tables.{AreDifferent, HasCount, IsCountTable, LacksWord, Link, WordCounts, bucket_of}
 use Rattle.yak_model.specs.Texts.{word_cmp, places_of}
 use Rattle.object_layout.specs.declared.names.Name.{Name}
 use Rattle.heap_tables.specs.Cursors.{IsEnd, IsNext, IsPast}
 use Rattle.heap_tables.specs.declared.cursors.Cursor.{Cursor}
 use Rattle.heap_tables.specs.Merges.{done_at, walk}
+use Rattle.group_jobs.specs.Counts.{AreEntries}
+use Rattle.group_jobs.proofs.Walked.{table_entries, walk_from}
 
 -- an entry as the list has it
 abbrev pub entry_of : Link → List ℕ × ℕ
@@ -132,9 +134,22 @@ next_place buckets at next word count n few =
 
 -- ---- the list tells the counts
 
-abbrev ArePairs : List (List ℕ × ℕ) → Type 0
-ArePairs entries = AllPairs (λ one other. one.0 ≢ other.0) entries
+plus_suc : (buckets : ℕ → List Link) (b n : ℕ) → walk buckets (b + suc n) ≡ walk buckets ((b + 1) + n)
+plus_suc buckets b n = ap (walk buckets) (let e : b + suc n ≡ (b + 1) + n = omega arith in e)
 
-has_at : (word : List ℕ) (passed rest : List Link) (link : Link) → LacksWord word passed → link.word ≡ word → HasCount word (passed ++ link ∷ rest) link.count
-has_at word [] rest link lacks same = inl (same, refl)
-has_at word (p ∷ passed) rest link lacks same = inr (lacks.0, has_at word passed rest link lacks.1 same)
+walk_one : (buckets : ℕ → List Link) (b : ℕ) → walk buckets (b + 1) ≡ walk buckets b ++ buckets b
+walk_one buckets b = ap (walk buckets) (let e : b + 1 ≡ suc b = omega arith in e)
+
+walk_from_is : (buckets : ℕ → List Link) (b n : ℕ) → walk buckets (b + n) ≡ walk buckets b ++ walk_from buckets b n
+walk_from_is buckets b zero = ap (walk buckets) (let e : b + 0 ≡ b = omega arith in e) ∙ sym (append-nil (walk buckets b))
+walk_from_is buckets b (suc n) =
+    plus_suc buckets b n ∙ walk_from_is buckets (b + 1) n ∙ ap (λ ls. ls ++ walk_from buckets (b + 1) n) (walk_one buckets b) ∙ append_assoc (walk buckets b) (buckets b) (walk_from buckets (b + 1) n)
+
+walk_all : (buckets : ℕ → List Link) (n : ℕ) → walk buckets (0 + n) ≡ walk_from buckets 0 n
+walk_all buckets n = walk_from_is buckets 0 n
+
+-- What was read to the end of a table are the entries of its counts.
+pub read_entries : (known : KnownObjects) (name : Name) (counts : WordCounts) (table : IsCountTable known name counts) (at : Cursor) (items : List (List ℕ × ℕ)) → at.bucket < BUCKETS → IsEnd table.buckets at
+    → items ≡ map entry_of (done_at table.buckets at.bucket at.place) → AreEntries counts items
+read_entries known name counts table at items low end are =
+    subst (AreEntries counts) (sym (are ∙ ap (map entry_of) (done_end table.buckets at low (0 + BUCKETS) (omega arith) end ∙ walk_all table.buckets BUCKETS))) (table_entries known name counts table)

@@ -7,3 +7,4 @@ pub mod Tallies
 pub mod Listing
 pub mod Printing
 pub mod Room
+pub mod Alone

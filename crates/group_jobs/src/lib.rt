@@ -1,6 +1,7 @@
 //! The words of a text: the tasks that it is cut into, the words of each, and the list of their counts.
 #![tactic(auto)]
 
+mod count;
 mod counted;
 mod epochs;
 mod listing;
@@ -14,6 +15,7 @@ mod tasks;
 mod tests;
 mod words;
 
+pub use count::{CountError, CountedAlone, count_one};
 pub use counted::{Counted, sort_counts};
 pub use laws::law_one_cut;
 pub use long_words::long_word;

@@ -13,7 +13,7 @@ use Rattle.heap_tables.proofs.RunOn.{ran_more}
 use Rattle.group_jobs.specs.Counts.{word_counts}
 use Rattle.group_jobs.specs.Listing.{IsShortTally}
 use Rattle.group_jobs.specs.declared.TheConstants.{INPUT_LIMIT, TOTAL_SLOT}
-use Rattle.group_jobs.proofs.Listed.{entry_of, gets_on, listed_next, next_place}
+use Rattle.group_jobs.proofs.Listed.{entry_of, gets_on, listed_next, next_place, read_entries}
 use Rattle.group_jobs.proofs.Merging.{short_count}
 use Rattle.group_jobs.proofs.Tallying.{few_in_bucket}
 use Rattle.group_jobs.proofs.listing.read_counts.Goals as goal
@@ -97,4 +97,9 @@ returns-clause-kept g c known done k t =
     c.next_entry.ensures.kept known t.tally.name (word_counts done) (inv.kept known done k t) (may_walk (C.standing c.args.caller.now) (C.standing c.entries.caller) inv.own known done t)
 
 pub returns-clause-read : goal.returns-clause-read
-returns-clause-read g c = ?
+returns-clause-read g c known done k t =
+    let C = g.C.Caller in
+    let inv = c.entries.invariant in
+    let m = may_walk (C.standing c.args.caller.now) (C.standing c.entries.caller) inv.own known done t in
+    let one = c.in_ok-entry.ensures.next known t.tally.name (word_counts done) m (inv.kept known done k t) in
+    read_entries known t.tally.name (word_counts done) t.tally.table c.entries.at c.entries.list.items inv.bucket (subst (IsNextEntry (word_counts done) t.tally.table.buckets c.entries.at) c.in_default.is one) (inv.read known done k t)
