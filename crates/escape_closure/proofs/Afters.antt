@@ -1,25 +1,24 @@
 -- The state after an end.
-use Rattle.std.proofs.Common.{◌≡◌, ◌≢◌, ◌⊎◌, ℕ, ◌+◌, ◌-◌, ◌≤◌, ◌<◌, Bool, true, false, cond, Option, Some, None, IsSome, is_some, List, map, set, refl, sym, ap, subst, ◌∙◌, arith, inl, inr}
+use Rattle.std.proofs.Common.{◌≡◌, ◌≢◌, ℕ, ◌-◌, ◌≤◌, ◌<◌, Bool, true, false, cond, Option, Some, None, IsSome, List, map, set, refl, sym, ap, subst, ◌∙◌, inl, inr}
 use Rattle.std.proofs.Math.Path.{fun_ext}
 use Rattle.std.proofs.Math.Seq.{map-set_same}
 use Rattle.std.proofs.lemmas.List.{map-set}
 use Rattle.object_layout.specs.declared.names.Name.{Name}
 use Rattle.epoch_lattice.specs.declared.Space.{Space}
-use Rattle.epoch_lattice.specs.declared.Space.TheVariants.{Control}
 use Rattle.epoch_lattice.specs.declared.TheConstants.{MAX_DEPTH}
 use Rattle.epoch_lattice.specs.Lattice.{IsValid}
-use Rattle.yak_model.specs.Graph.{Content, Graph, Limits, Thread, fields_of, idle, thread_of, with_depth}
+use Rattle.yak_model.specs.Graph.{Content, Graph, Limits, Thread, idle, thread_of, with_depth}
 use Rattle.yak_model.specs.Spaces.{Counts, EndsEpoch, IsPresent, SpaceState, content_at, home_of, innermost}
 use Rattle.yak_model.specs.State.{State, Thing, object_of, thing_of, view}
 use Rattle.yak_model.specs.Placed.{Places}
-use Rattle.yak_model.specs.Plans.{Move, after_moves, rehomed, without}
+use Rattle.yak_model.specs.Plans.{Move, rehomed}
 use Rattle.yak_model.specs.Stands.{IsWhole}
 use Rattle.heap_walks.proofs.Seen.{present_of, seen, shown}
 use Rattle.forwarding.specs.Reshaped.{Reshaped}
 use Rattle.escape_closure.specs.Targets.{IsEscaping}
 use Rattle.escape_closure.specs.Leaving.{EndMoves, left_behind, objects_left}
 use Rattle.forwarding.proofs.Reshaping.{reshape, reshaped-objects, reshaped-whole}
-use Rattle.escape_closure.proofs.Fates.{MovedAs, OneEach, StaysAs, escaping_in, gone_so, left_so, moves_so, stays_so}
+use Rattle.escape_closure.proofs.Fates.{OneEach, escaping_in, gone_so, left_so, moves_so, stays_so}
 
 abbrev pub home_in : Option Thing → Option Space
 home_in None = None

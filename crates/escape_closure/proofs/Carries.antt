@@ -1,31 +1,31 @@
 -- A plan of an end that is carried out.
 use Rattle.std.proofs.Props.{props}
 use Rattle.std.proofs.Math.Logic.{∥∥₁_elim, ∥∥₁_map, ⊎_elim}
-use Rattle.std.proofs.Common.{◌≡◌, ◌≢◌, ◌⊎◌, ◌↔◌, ℕ, ◌+◌, ◌-◌, ◌*◌, ◌/◌, ◌%◌, ◌≤◌, ◌<◌, Bool, Some, List, length, get_or, map, set, refl, sym, ap, subst, ◌∙◌, arith, inl, inr, get_or-set_other}
+use Rattle.std.proofs.Common.{◌≡◌, ◌↔◌, ℕ, ◌+◌, ◌-◌, ◌/◌, ◌%◌, ◌≤◌, ◌<◌, Bool, List, get_or, set, refl, sym, ap, subst, ◌∙◌, arith, inl, inr}
 use Rattle.std.proofs.lemmas.Bool.{cases_lt}
 use Rattle.object_layout.specs.declared.names.Name.{Name}
-use Rattle.object_layout.specs.declared.TheConstants.{HEADER_BASE, MAX_FIELDS, MAX_SPACE, OBJECT_WORDS, SPACE_UNIT}
+use Rattle.object_layout.specs.declared.TheConstants.{HEADER_BASE, SPACE_UNIT}
 use Rattle.heap_words.specs.declared.map.Areas.{Areas}
-use Rattle.heap_words.specs.Map.{HasThread, IsAreas, heap_length, max_depth}
+use Rattle.heap_words.specs.Map.{HasThread, IsAreas, max_depth}
 use Rattle.heap_words.specs.Contents.{Contents, depth_of}
 use Rattle.epoch_lattice.specs.declared.Space.{Space}
 use Rattle.epoch_lattice.specs.declared.Space.TheVariants.{Control, Region}
 use Rattle.epoch_lattice.specs.declared.TheConstants.{MAX_DEPTH}
 use Rattle.epoch_lattice.specs.Lattice.{IsValid}
 use Rattle.yak_model.specs.Spaces.{SpaceState, innermost}
-use Rattle.yak_model.specs.State.{State, Thing, object_of, view}
+use Rattle.yak_model.specs.State.{State, view}
 use Rattle.yak_model.specs.Placed.{Holds}
 use Rattle.yak_model.specs.Plans.{AreApart, IsLawfulPlan, Move, after_moves, cleared, forwarded, without}
 use Rattle.yak_model.specs.Stands.{Stands, set_entries}
 use Rattle.yak_model.proofs.Stacks.{all-at}
-use Rattle.relocation.specs.Moves.{AllMovable, HasHeader, Movable, Moved, move_at, size_at}
+use Rattle.relocation.specs.Moves.{AllMovable, HasHeader, move_at, size_at}
 use Rattle.relocation.proofs.Lawful.{lawful-movable}
 use Rattle.remember_sets.specs.Filed.{IsFiled, LiesIn, SetsHold, with_sets}
 use Rattle.escape_closure.specs.Ends.{DropsRest, References}
-use Rattle.escape_closure.specs.Leaving.{Carried, EndMoves, ReadyToMove, left_behind, objects_left}
+use Rattle.escape_closure.specs.Leaving.{Carried, ReadyToMove, left_behind}
 use Rattle.escape_closure.proofs.Fates.{OneEach, drops_rest, one_each}
 use Rattle.escape_closure.proofs.Leads.{IsTold}
-use Rattle.escape_closure.proofs.Written.{depth_is, region_is}
+use Rattle.escape_closure.proofs.Written.{region_is}
 
 -- ---- moves that can be made, from some proof of it
 

@@ -1,6 +1,5 @@
 -- What becomes of each object at an end: it moves, it stays, or it is left behind.
-use Rattle.std.proofs.Common.{◌≡◌, ◌≢◌, ◌⊎◌, ℕ, ◌+◌, ◌*◌, ◌≤◌, ◌<◌, Bool, true, false, cond, Option, Some, None, List, length, refl, sym, ap, subst, ◌∙◌, arith, inl, inr}
-use Rattle.std.specs.Prelude.{◌==◌}
+use Rattle.std.proofs.Common.{◌≡◌, ◌≢◌, ◌⊎◌, ℕ, ◌+◌, ◌≤◌, ◌<◌, Bool, true, false, Option, Some, None, List, length, refl, sym, ap, subst, ◌∙◌, arith, inl, inr}
 use Rattle.std.proofs.lemmas.Bool.{cases_Bool, eq-eqb}
 use Rattle.std.proofs.lemmas.Bool.Decides.{Decides-eqb}
 use Rattle.std.proofs.Math.Logic.{⊎_elim}
@@ -12,16 +11,16 @@ use Rattle.epoch_lattice.specs.declared.TheConstants.{MAX_DEPTH}
 use Rattle.epoch_lattice.specs.Lattice.{IsValid, space_index}
 use Rattle.epoch_lattice.proofs.Numbers.{number-own}
 use Rattle.yak_model.specs.Graph.{Limits}
-use Rattle.yak_model.specs.Spaces.{IsReachedFor, SpaceState, home_of, innermost}
+use Rattle.yak_model.specs.Spaces.{SpaceState, home_of, innermost}
 use Rattle.yak_model.specs.State.{Thing, object_of, view}
-use Rattle.yak_model.specs.Placed.{HeapStands, IsAt, Places, Tiles, same_name, size_by, words_by}
+use Rattle.yak_model.specs.Placed.{HeapStands, Places, same_name, size_by, words_by}
 use Rattle.yak_model.specs.Plans.{Move, by_move, forwarded, without}
 use Rattle.yak_model.specs.Stands.{IsWhole}
 use Rattle.yak_model.proofs.Placed.{apart, same_name-self, same_name-true}
 use Rattle.heap_walks.proofs.Seen.{seen, shown}
 use Rattle.relocation.proofs.Lawful.{before_moves, by_move-at, by_move-other, kept, which_move}
 use Rattle.relocation.proofs.SlidLawful.{keep-case, kept-false}
-use Rattle.escape_closure.specs.Targets.{IsEscaping, IsTargetAt}
+use Rattle.escape_closure.specs.Targets.{IsEscaping}
 use Rattle.escape_closure.specs.Ends.{DropsRest}
 use Rattle.escape_closure.specs.Leaving.{EndMoves, is_home, left_behind, objects_left}
 use Rattle.escape_closure.proofs.Reaches.{reached_here}
@@ -98,9 +97,10 @@ module _ (s : SpaceState) (whole : IsWhole s) (l : Places) (one : OneEach s l) (
     gone = λ n d. ⊎_elim
         (λ (found : (k : ℕ) × (k < count) × (l.at n ≡ (moves k).old)).
         absurd (let q : false ≡ true = sym (by_move-at count moves (λ v. false) (l.at n) (is_home (innermost s.graph t) (home_of s n)) found.0 e.ascending found.1 found.2) ∙ d in cc))
-        (λ (none : (k : ℕ) → k < count → l.at n ≢ (moves k).old).
-        (is_home-true (innermost s.graph t) (home_of s n) valid (home_valid n) (sym (by_move-other count moves (λ v. false) (l.at n) (is_home (innermost s.graph t) (home_of s n)) none) ∙ d),
-        λ esc. let c = e.complete n esc in none c.0 c.1 c.2))
+        (λ (none : (k : ℕ) → k < count → l.at n ≢ (moves k).old). (
+          is_home-true (innermost s.graph t) (home_of s n) valid (home_valid n) (sym (by_move-other count moves (λ v. false) (l.at n) (is_home (innermost s.graph t) (home_of s n)) none) ∙ d),
+          λ esc. let c = e.complete n esc in none c.0 c.1 c.2,
+        ))
         (which_move count moves (l.at n));
     kept = λ n d home. ⊎_elim
         (λ (found : (k : ℕ) × (k < count) × (l.at n ≡ (moves k).old)).
@@ -151,18 +151,21 @@ module _ (s : SpaceState) (whole : IsWhole s) (l : Places) (one : OneEach s l) (
   left_so n p h =
       let b = before_moves count moves (l.at n) ((without (view s) (left_behind s l t count moves)).objects n) p h in
       let here : object_of s n ≡ Some b.0 = kept (view s) (left_behind s l t count moves) n b.0 b.1 in
-      let stays : left_behind s l t count moves n ≡ false = kept-false (view s) (left_behind s l t count moves) n b.0 (left_behind s l t count moves n) refl b.1 in
-      (b.0, here, ⊎_elim
-      (λ (found : (k : ℕ) × (k < count) × (l.at n ≡ (moves k).old)).
-      let m = moves_so n b.0 found.0 here found.1 found.2 in
-      inl (subst (MovedAs s l t count moves n b.0) (one_thing (record b.0 { home = (moves found.0).space }) p (sym m.0 ∙ h)) m.1))
-      (λ (none : (k : ℕ) → k < count → l.at n ≢ (moves k).old).
-      let far : b.0.home ≢ innermost s.graph t = λ q.
-      (let z : false ≡ true = sym stays ∙ by_move-other count moves (λ v. false) (l.at n) (is_home (innermost s.graph t) (home_of s n)) none ∙ is_home-own (innermost s.graph t) (home_of s n) ((seen s n b.0 here).home_is ∙ ap Some q) in
-      cc) in
-      let m = stays_so n b.0 here far in
-      inr (subst (StaysAs s l t count moves n b.0) (one_thing b.0 p (sym m.0 ∙ h)) m.1))
-      (which_move count moves (l.at n)))
+      let stays : left_behind s l t count moves n ≡ false = kept-false (view s) (left_behind s l t count moves) n b.0 (left_behind s l t count moves n) refl b.1 in (
+        b.0,
+        here,
+        ⊎_elim
+            (λ (found : (k : ℕ) × (k < count) × (l.at n ≡ (moves k).old)).
+            let m = moves_so n b.0 found.0 here found.1 found.2 in
+            inl (subst (MovedAs s l t count moves n b.0) (one_thing (record b.0 { home = (moves found.0).space }) p (sym m.0 ∙ h)) m.1))
+            (λ (none : (k : ℕ) → k < count → l.at n ≢ (moves k).old).
+            let far : b.0.home ≢ innermost s.graph t = λ q.
+            (let z : false ≡ true = sym stays ∙ by_move-other count moves (λ v. false) (l.at n) (is_home (innermost s.graph t) (home_of s n)) none ∙ is_home-own (innermost s.graph t) (home_of s n) ((seen s n b.0 here).home_is ∙ ap Some q) in
+            cc) in
+            let m = stays_so n b.0 here far in
+            inr (subst (StaysAs s l t count moves n b.0) (one_thing b.0 p (sym m.0 ∙ h)) m.1))
+            (which_move count moves (l.at n)),
+      )
 
   -- an object of the region that doesn't escape is gone
   pub gone_so : (n : Name) → home_of s n ≡ Some (innermost s.graph t) → (IsEscaping s t n → ⊥) → objects_left s l t count moves n ≡ None

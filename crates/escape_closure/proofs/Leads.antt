@@ -72,7 +72,7 @@ map_same : (g h : Datum → ℕ) (st : List Datum) → ((i : ℕ) → i < length
 map_same g h [] same = refl
 map_same g h (d ∷ st) same = ap (λ w. w ∷ map g st) (same 0 (omega arith)) ∙ ap (λ ws. h d ∷ ws) (map_same g h st (λ i lt. same (suc i) (omega (arith, lt))))
 
-words_same : (was now : List ℕ) (count : ℕ) (moves : ℕ → Move) → ((k : ℕ) → k < count → size_at now (moves k).old ≡ size_at was (moves k).old) → words_moved now count moves ≡ words_moved was count moves
+pub words_same : (was now : List ℕ) (count : ℕ) (moves : ℕ → Move) → ((k : ℕ) → k < count → size_at now (moves k).old ≡ size_at was (moves k).old) → words_moved now count moves ≡ words_moved was count moves
 unfolding words_moved
 words_same was now zero moves same = refl
 words_same was now (suc k) moves same =

@@ -1,10 +1,10 @@
 -- The words that an end leaves stand for the state after it, and its crossing references are recorded.
-use Rattle.std.proofs.Common.{◌≡◌, ◌≢◌, ◌⊎◌, ℕ, ◌+◌, ◌-◌, ◌*◌, ◌/◌, ◌≤◌, ◌<◌, Bool, true, false, cond, Option, Some, None, IsSome, is_some, List, [], ◌∷◌, length, get_or, map, set, take, zero, suc, refl, sym, ap, subst, ◌∙◌, arith, inl, inr, length-set, get_or-set_same, get_or-set_other}
+use Rattle.std.proofs.Common.{◌≡◌, ◌≢◌, ℕ, ◌+◌, ◌-◌, ◌/◌, ◌≤◌, ◌<◌, Bool, true, false, cond, Option, Some, None, IsSome, List, [], ◌∷◌, length, get_or, map, set, zero, suc, refl, sym, ap, subst, ◌∙◌, arith, inl, inr, length-set, get_or-set_same, get_or-set_other}
 use Rattle.std.specs.List.{All, Contains, flat_map}
 use Rattle.std.proofs.lemmas.Bool.{cases_eq, cases_lt}
 use Rattle.std.specs.Int.{IsBitSet}
 use Rattle.std.proofs.lemmas.Bool.Decides.{nat_tests}
-use Rattle.std.proofs.lemmas.List.{get_or_past, length-map}
+use Rattle.std.proofs.lemmas.List.{get_or_past}
 use Rattle.std.proofs.Math.Logic.{⊎_elim}
 use Rattle.object_layout.specs.declared.names.Name.{Name}
 use Rattle.object_layout.specs.declared.TheConstants.{MAX_FIELDS, OBJECT_WORDS}
@@ -19,13 +19,13 @@ use Rattle.epoch_lattice.specs.Lattice.{IsBelow, IsValid, parent_of, space_index
 use Rattle.epoch_lattice.proofs.Numbers.{number-own}
 use Rattle.yak_model.specs.declared.datum.Datum.{Datum}
 use Rattle.yak_model.specs.declared.datum.Datum.TheVariants.{Int, Null, Object}
-use Rattle.yak_model.specs.Graph.{Limits, Thread, thread_of}
+use Rattle.yak_model.specs.Graph.{Limits, thread_of}
 use Rattle.yak_model.specs.Spaces.{Counts, IsOnStack, SpaceState, Walk, here, home_of, innermost, other, own}
 use Rattle.yak_model.specs.State.{IsClosed, IsDatum, IsOpen, State, Thing, object_of, stack, view}
-use Rattle.yak_model.specs.Placed.{HeapStands, IsAt, Places, datum_word, size_by, space_word, words_by}
+use Rattle.yak_model.specs.Placed.{Places, datum_word, size_by, space_word, words_by}
 use Rattle.yak_model.specs.Plans.{Move, after_moves, forwarded, rehomed, without}
-use Rattle.yak_model.specs.Stands.{IsWhole, NamesMade, SpacesOpen, Stands, StandsAs}
-use Rattle.yak_model.specs.Recorded.{Enters, IsField, IsReader, IsRecorded, Recorded, RecordedAs}
+use Rattle.yak_model.specs.Stands.{Stands, StandsAs}
+use Rattle.yak_model.specs.Recorded.{Enters, IsField, IsRecorded, Recorded, RecordedAs}
 use Rattle.yak_model.proofs.Placed.{in_page}
 use Rattle.yak_model.proofs.Lists.{slot_on_list}
 use Rattle.yak_model.proofs.Stacks.{all-at}
@@ -33,12 +33,12 @@ use Rattle.heap_walks.proofs.Seen.{on_stack, seen}
 use Rattle.heap_walks.proofs.Stacks.{some_row}
 use Rattle.relocation.proofs.Lawful.{before_moves}
 use Rattle.remember_sets.specs.Filed.{IsFiled, LiesIn}
-use Rattle.forwarding.specs.Crossing.{AreFiled, IsCrossing}
+use Rattle.forwarding.specs.Crossing.{AreFiled}
 use Rattle.escape_closure.specs.Targets.{IsEscaping}
 use Rattle.escape_closure.specs.Ends.{StateEnded, region_word}
 use Rattle.escape_closure.specs.Leaving.{EndMoves, Leaves, left_behind, objects_left}
 use Rattle.escape_closure.proofs.Afters.{Ended, ended_so, ended_view}
-use Rattle.escape_closure.proofs.Fates.{MovedAs, OneEach, StaysAs, left_so, moves_so, one_each, stays_so}
+use Rattle.escape_closure.proofs.Fates.{MovedAs, OneEach, left_so, moves_so, one_each, stays_so}
 use Rattle.escape_closure.proofs.Written.{depth_is, region_is}
 
 one_thing : (a b : Thing) → Some a ≡ Some b → a ≡ b
@@ -201,21 +201,21 @@ module _ (m : Areas) (c : Contents) (s : SpaceState) (st : Stands m c s) (record
       let w = left_so s st.whole l one t count has.0 valid moves tight e n o hn in
       elim w.2 [
         | inl q ↦ (leaves.filed (later.at n + OBJECT_WORDS + f)).1 (inr (record {
-            move = q.move;
-            among = q.among;
-            from = n;
-            object = o;
-            present = hn;
-            moved = leads n ∙ q.leads;
-            field = f;
-            within = lt;
-            to = x;
-            goal = p;
-            refers = refers;
-            reached = hx;
-            enters = enters;
-            place = refl;
-          }))
+          move = q.move;
+          among = q.among;
+          from = n;
+          object = o;
+          present = hn;
+          moved = leads n ∙ q.leads;
+          field = f;
+          within = lt;
+          to = x;
+          goal = p;
+          refers = refers;
+          reached = hx;
+          enters = enters;
+          place = refl;
+        }))
         | inr q ↦
             let v = left_so s st.whole l one t count has.0 valid moves tight e x p hx in
             let same : later.at n ≡ l.at n = leads n ∙ q.leads in

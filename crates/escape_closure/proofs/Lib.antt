@@ -44,3 +44,4 @@ pub mod RunsTold
 pub mod TightReadies
 pub mod TightLeaves
 pub mod MovedWords
+pub mod Costs

@@ -1,27 +1,30 @@
 -- What an end tells of the words before its buffers were filed.
-use Rattle.std.proofs.Common.{◌≡◌, ◌≢◌, ◌⊎◌, ◌↔◌, ℕ, ◌+◌, ◌-◌, ◌*◌, ◌/◌, ◌≤◌, ◌<◌, ◌++◌, Some, List, [], length, get_or, set, drop, take, refl, sym, ap, subst, ◌∙◌, arith, inl, inr, get_or-set_other}
+use Rattle.std.proofs.Common.{◌≡◌, ◌≢◌, ◌⊎◌, ◌↔◌, ℕ, ◌+◌, ◌*◌, ◌≤◌, ◌<◌, false, List, length, get_or, set, refl, sym, ap, subst, ◌∙◌, arith, get_or-set_other}
 use Rattle.std.specs.List.{Contains}
 use Rattle.object_layout.specs.declared.replies.Shortage.{Shortage}
 use Rattle.heap_words.specs.declared.map.Areas.{Areas}
-use Rattle.heap_words.specs.Map.{HasThread, heap_length}
-use Rattle.heap_words.specs.Contents.{Contents, depth_of}
+use Rattle.heap_words.specs.Map.{HasThread, IsAreas, heap_length}
+use Rattle.heap_words.specs.Contents.{Contents, depth_of, stack_of}
 use Rattle.epoch_lattice.specs.declared.Space.{Space}
 use Rattle.epoch_lattice.specs.declared.Space.TheVariants.{Region}
 use Rattle.epoch_lattice.specs.Lattice.{space_index}
 use Rattle.relocation.specs.Moves.{move_at}
 use Rattle.relocation.specs.Slide.{Runs, Sliding}
-use Rattle.yak_model.specs.Spaces.{SpaceState}
-use Rattle.yak_model.specs.State.{State, view}
+use Rattle.yak_model.specs.Spaces.{SpaceState, innermost}
+use Rattle.yak_model.specs.State.{State, object_of, view}
 use Rattle.yak_model.specs.Placed.{Places, space_word}
-use Rattle.yak_model.specs.Stands.{Stands, StandsAs, claim_counter, current, free_pages, pool_length, set_entries}
-use Rattle.yak_model.specs.Recorded.{Recorded, RecordedAs}
+use Rattle.yak_model.specs.Stands.{Stands, StandsAs, claim_counter, current, free_pages, pool_length, set_entries, words_of}
+use Rattle.yak_model.specs.Recorded.{RecordedAs}
 use Rattle.remember_sets.specs.declared.TheConstants.{SET_ENTRIES}
 use Rattle.forwarding.specs.Crossing.{AreFiled}
 use Rattle.escape_closure.specs.Needs.{InOrder, pages_needed}
 use Rattle.escape_closure.specs.Targets.{TargetsWritten}
-use Rattle.escape_closure.specs.Rolls.{OnlyScratch}
-use Rattle.escape_closure.specs.Ends.{EndPlanned, FallsShort, RegionEnded, RegionShort, StateEnded, TightEnded, region_word}
-use Rattle.escape_closure.specs.Leaving.{Begun, Filed, RegionReady, TightReady}
+use Rattle.escape_closure.specs.Ends.{EndPlanned, FallsShort, RegionEnded, RegionShort, TightEnded, region_word}
+use Rattle.escape_closure.specs.Leaving.{Begun, RegionReady, TightReady, records_of}
+use Rattle.region_pages.specs.Counts.{used_of}
+use Rattle.region_pages.proofs.Counting.{used_is}
+use Rattle.escape_closure.proofs.Costs.{few_words}
+use Rattle.escape_closure.proofs.Readies.{entries_same, plan_frame, region_ready}
 use Rattle.escape_closure.proofs.Written.{region_is}
 
 -- words of which only the scratch area has changed
@@ -47,6 +50,14 @@ stands_scratch m c v l x h = record {
 recorded_scratch : (m : Areas) (c : Contents) (s : SpaceState) (l : Places) (x : List ℕ) → RecordedAs m c (view s) l.at → (let d : Contents = record c { scratch = x } in RecordedAs m d (view s) l.at)
 recorded_scratch m c s l x r = record { crossing = r.crossing; fields = r.fields; read = r.read; closed = r.closed }
 
+-- what the numbers of the parts are
+pub record RegionCosts (c mid planned : Contents) (s : SpaceState) (l l' : Places) (t count : ℕ) : Type 0 where
+  pub used : used_of mid.table (innermost s.graph t) ≡ words_of l.pages (object_of s) (innermost s.graph t)
+  pub moved : 3 * count ≤ words_of l.pages (object_of s) (innermost s.graph t)
+  pub later : words_of l'.pages (object_of s) (innermost s.graph t) ≡ words_of l.pages (object_of s) (innermost s.graph t)
+  pub entries : set_entries planned.heads ≤ records_of c
+  pub stack : length (stack_of planned t) ≡ length (stack_of c t)
+
 module _ (m : Areas) (c : Contents) (s : SpaceState) (st : Stands m c s) (t escaping : ℕ) (mid : Contents) (b : Begun m c mid s st t escaping) where
   -- the pool is the same
   free_filing : free_pages b.filing.heads b.filing.pool ≡ free_pages c.heads c.pool
@@ -62,7 +73,7 @@ module _ (m : Areas) (c : Contents) (s : SpaceState) (st : Stands m c s) (t esca
   pub region_from : (d : Contents) (count : ℕ) → RegionEnded m b.filing d s b.later t count → RegionEnded m c d s st t count
   region_from d count r =
       let told : (o : InOrder s st.places t count) × (pages_needed m b.filing s st.places t count o ≤ length (free_pages b.filing.heads b.filing.pool)) × (length r.claimed ≡ pages_needed m b.filing s st.places t count o) =
-          subst (λ (l : Places). (o : InOrder s l t count) × (pages_needed m b.filing s l t count o ≤ length (free_pages b.filing.heads b.filing.pool)) × (length r.claimed ≡ pages_needed m b.filing s l t count o)) b.places (r.order, r.enough, r.claims) in
+      subst (λ (l : Places). (o : InOrder s l t count) × (pages_needed m b.filing s l t count o ≤ length (free_pages b.filing.heads b.filing.pool)) × (length r.claimed ≡ pages_needed m b.filing s l t count o)) b.places (r.order, r.enough, r.claims) in
       record {
         state = r.state;
         order = told.0;
@@ -142,4 +153,19 @@ module _ (m : Areas) (c : Contents) (s : SpaceState) (st : Stands m c s) (t esca
         written = b.written;
         room = room;
         sliding = told (region_word s t) (ap (λ (y : Space). space_index y + 1) (region_is m b.filing s b.later t (depth_of mid t) has same (omega (arith, same, deep))));
+      }
+
+  pub region_costs : IsAreas m → HasThread m t → 1 ≤ depth_of c t → (planned : Contents) (count : ℕ) → count ≡ escaping → RegionReady m b.filing mid planned s b.later t count → length mid.table ≡ m.pages → RegionCosts c mid planned s st.places b.later.places t count
+  region_costs areas has low planned count same r long =
+      let words : words_of b.later.places.pages (object_of s) (innermost s.graph t) ≡ words_of st.places.pages (object_of s) (innermost s.graph t) = ap (λ (l : Places). words_of l.pages (object_of s) (innermost s.graph t)) b.places in
+      let filing : depth_of b.filing t ≡ depth_of c t = ap (λ (x : Contents). depth_of x t) b.frame in
+      let few = (few_words m b.filing planned s b.later t count false areas has (omega (arith, filing, low)) (region_ready m b.filing mid planned s b.later t count areas has r)).1 in
+      let e = entries_same m b.filing mid planned s b.later t count areas has r in
+      let fewer = b.few in
+      record {
+        used = used_is m mid.table mid.heap (object_of s) b.later.places (λ n. get_or mid.heap (b.later.places.at n + 2) 0) (innermost s.graph t) long b.written.heap ∙ words;
+        moved = omega (arith, few, words);
+        later = words;
+        entries = omega (arith, e, fewer);
+        stack = ap (λ (x : Contents). length (stack_of x t)) (plan_frame m b.filing mid planned s b.later t count areas has r) ∙ ap (λ (x : Contents). length (stack_of x t)) b.frame;
       }

@@ -1,10 +1,10 @@
 -- The plan of the end of a region that references can follow.
-use Rattle.std.proofs.Common.{◌≡◌, ◌≢◌, ◌⊎◌, ℕ, ◌+◌, ◌-◌, ◌*◌, ◌/◌, ◌≤◌, ◌<◌, false, Some, List, length, get_or, set, refl, sym, ap, subst, ◌∙◌, arith, inl, inr, get_or-set_other}
+use Rattle.std.proofs.Common.{◌≡◌, ◌≢◌, ℕ, ◌+◌, false, Some, List, get_or, set, refl, sym, ap, subst, ◌∙◌, arith, get_or-set_other}
 use Rattle.object_layout.specs.declared.names.Name.{Name}
 use Rattle.object_layout.specs.declared.TheConstants.{OBJECT_WORDS}
 use Rattle.heap_words.specs.declared.map.Areas.{Areas}
-use Rattle.heap_words.specs.Map.{HasThread, IsAreas, heap_length}
-use Rattle.heap_words.specs.Contents.{Contents, depth_of}
+use Rattle.heap_words.specs.Map.{HasThread, IsAreas}
+use Rattle.heap_words.specs.Contents.{Contents}
 use Rattle.yak_model.specs.Spaces.{SpaceState, innermost}
 use Rattle.yak_model.specs.State.{Thing, object_of, view}
 use Rattle.yak_model.specs.Placed.{Holds, space_word}
@@ -14,9 +14,8 @@ use Rattle.heap_walks.proofs.Objects.{home_index, in_heap, kept_word}
 use Rattle.heap_walks.proofs.Seen.{present_home, shown}
 use Rattle.region_pages.specs.declared.TheConstants.{CLAIM_COUNTER}
 use Rattle.relocation.specs.Moves.{move_at}
-use Rattle.remember_sets.specs.Filed.{SetsHold}
-use Rattle.escape_closure.specs.Targets.{IsEscaping, IsTargetAt}
-use Rattle.escape_closure.specs.Ends.{EndPlanned, PlanReady}
+use Rattle.escape_closure.specs.Targets.{IsTargetAt}
+use Rattle.escape_closure.specs.Ends.{EndPlanned}
 use Rattle.escape_closure.specs.Leaving.{EndMoves, ReadyToMove, RegionReady}
 use Rattle.escape_closure.proofs.Reaches.{reached_here}
 

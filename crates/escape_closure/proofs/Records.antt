@@ -1,23 +1,21 @@
 -- The objects that are left, as the recording of moved objects wants them.
-use Rattle.std.proofs.Common.{◌≡◌, ◌≢◌, ◌⊎◌, ◌↔◌, ℕ, ◌+◌, ◌*◌, ◌/◌, ◌≤◌, ◌<◌, Bool, Some, List, take, get_or, length, refl, sym, ap, subst, ◌∙◌, arith, inl, inr}
-use Rattle.std.specs.List.{Contains, flat_map}
-use Rattle.std.proofs.Math.Logic.{⊎_elim}
-use Rattle.object_layout.specs.declared.names.Name.{Name}
+use Rattle.std.proofs.Common.{◌≡◌, ◌↔◌, ℕ, ◌≤◌, ◌<◌, Bool, List, take, refl, sym, ap, subst, ◌∙◌, inl, inr}
+use Rattle.std.specs.List.{Contains}
 use Rattle.epoch_lattice.specs.declared.TheConstants.{MAX_DEPTH}
 use Rattle.epoch_lattice.specs.Lattice.{IsValid}
 use Rattle.heap_words.specs.Contents.{Contents}
 use Rattle.yak_model.specs.Graph.{Limits}
 use Rattle.yak_model.specs.Spaces.{SpaceState, innermost}
-use Rattle.yak_model.specs.State.{IsClosed, Thing, object_of, view}
+use Rattle.yak_model.specs.State.{IsClosed, Thing, view}
 use Rattle.yak_model.specs.Placed.{Places}
 use Rattle.yak_model.specs.Plans.{Move, forwarded, without}
 use Rattle.yak_model.specs.Stands.{IsWhole, set_entries}
 use Rattle.heap_walks.proofs.Seen.{seen}
 use Rattle.relocation.proofs.Lawful.{by_move-at}
-use Rattle.remember_sets.specs.Filed.{IsFiled, with_sets}
+use Rattle.remember_sets.specs.Filed.{IsFiled}
 use Rattle.forwarding.specs.Crossing.{AreData, AreMoved, AreValid}
 use Rattle.escape_closure.specs.Leaving.{EndMoves, left_behind, objects_left}
-use Rattle.escape_closure.proofs.Fates.{MovedAs, OneEach, StaysAs, escaping_in, left_so, moves_so}
+use Rattle.escape_closure.proofs.Fates.{OneEach, escaping_in, left_so, moves_so}
 use Rattle.escape_closure.proofs.Leaves.{closed_after}
 
 module _ (s : SpaceState) (whole : IsWhole s) (l : Places) (one : OneEach s l) (t count : ℕ) (some : 1 ≤ t) (valid : IsValid MAX_DEPTH (innermost s.graph t)) (moves : ℕ → Move) (tight : Bool) (e : EndMoves s l t count moves tight) where

@@ -1,13 +1,12 @@
 -- What the end of a region leaves.
-use Rattle.std.proofs.Common.{◌≡◌, ◌≢◌, ◌⊎◌, ◌↔◌, ℕ, ◌+◌, ◌-◌, ◌*◌, ◌/◌, ◌≤◌, ◌<◌, ◌++◌, false, Option, Some, List, [], length, get_or, set, take, drop, refl, sym, ap, subst, ◌∙◌, arith, inl, inr, length-set, get_or-set_same, get_or-set_other}
+use Rattle.std.proofs.Common.{◌≡◌, ◌≢◌, ◌⊎◌, ◌↔◌, ℕ, ◌+◌, ◌-◌, ◌/◌, ◌≤◌, ◌<◌, false, Option, List, [], length, get_or, set, drop, refl, sym, ap, subst, ◌∙◌, arith, inl, inr, get_or-set_other}
 use Rattle.std.specs.List.{Contains, flat_map}
 use Rattle.std.proofs.lemmas.Bool.{cases_eq}
 use Rattle.std.proofs.lemmas.List.{drop-set-lt}
 use Rattle.std.proofs.Math.Logic.{⊎_elim}
 use Rattle.object_layout.specs.declared.names.Name.{Name}
-use Rattle.object_layout.specs.declared.TheConstants.{OBJECT_WORDS}
 use Rattle.heap_words.specs.declared.map.Areas.{Areas}
-use Rattle.heap_words.specs.Map.{HasThread, IsAreas, heap_length, page_words}
+use Rattle.heap_words.specs.Map.{HasThread, IsAreas, page_words}
 use Rattle.heap_words.specs.Cells.{row_set}
 use Rattle.heap_words.specs.Contents.{Contents, InLimits, depth_of, with_depth, with_readers}
 use Rattle.epoch_lattice.specs.declared.Space.{Space}
@@ -16,7 +15,7 @@ use Rattle.epoch_lattice.specs.declared.TheConstants.{MAX_DEPTH}
 use Rattle.epoch_lattice.specs.Lattice.{IsValid, space_index}
 use Rattle.yak_model.specs.Spaces.{SpaceState, innermost}
 use Rattle.escape_closure.specs.Needs.{pages_needed}
-use Rattle.yak_model.specs.State.{IsClosed, IsOpen, Thing, object_of, view}
+use Rattle.yak_model.specs.State.{IsClosed, IsOpen, Thing, view}
 use Rattle.yak_model.specs.Placed.{HeapStands, Holds, Places, space_word}
 use Rattle.yak_model.specs.Plans.{Move, cleared, forwarded, without}
 use Rattle.yak_model.specs.Stands.{CurrentsStand, PoolStands, RegionsDense, SetsStand, Stands, claim_counter, free_pages, pool_length, set_entries}
@@ -28,7 +27,7 @@ use Rattle.relocation.specs.Moves.{move_at}
 use Rattle.remember_sets.specs.declared.TheConstants.{SET_ENTRIES}
 use Rattle.remember_sets.specs.Filed.{IsFiled, LiesIn, SetsHold, with_sets}
 use Rattle.forwarding.specs.Crossing.{AreData, AreFiled, AreMoved, AreValid, IsCrossing}
-use Rattle.escape_closure.specs.Ends.{EndPlanned, RegionEnded, StateEnded, region_word}
+use Rattle.escape_closure.specs.Ends.{RegionEnded, region_word}
 use Rattle.escape_closure.specs.Leaving.{Carried, EndMoves, Leaves, RegionReady, left_behind, objects_left}
 use Rattle.escape_closure.proofs.Carries.{innermost_valid, rest}
 use Rattle.escape_closure.proofs.Fates.{OneEach, one_each}
@@ -250,10 +249,13 @@ module _ (m : Areas) (before mid c : Contents) (s : SpaceState) (st : Stands m b
               ⊎_elim
               (λ (z : space_word moved.table p ≡ 0). inl ((r.planned.pool.free p).1 (w.0, sym same ∙ z)))
               (λ (own : space_word moved.table p ≡ space_index (Region t depth) + 1).
-              inr (w.0, ⊎_elim
-              (λ (was : space_word mid.table p ≡ region_word s t). sym (mid_table p) ∙ was)
-              (λ (other : space_word mid.table p ≢ region_word s t). absurd (other_word m before mid c s st t count areas has low r shape.table p w.0 other (sym same ∙ own ∙ word)))
-              (cases_eq (space_word mid.table p) (region_word s t))))
+              inr (
+                w.0,
+                ⊎_elim
+                    (λ (was : space_word mid.table p ≡ region_word s t). sym (mid_table p) ∙ was)
+                    (λ (other : space_word mid.table p ≢ region_word s t). absurd (other_word m before mid c s st t count areas has low r shape.table p w.0 other (sym same ∙ own ∙ word)))
+                    (cases_eq (space_word mid.table p) (region_word s t)),
+              ))
               w.1,
           λ h. ⊎_elim
               (λ (f : Contains (free_pages c.heads c.pool) p). let w = (r.planned.pool.free p).0 f in (free p).1 (w.0, inl (same ∙ w.1)))

@@ -1,5 +1,5 @@
 -- The words of the pages after the end of a region stand for the objects that are left.
-use Rattle.std.proofs.Common.{◌≡◌, ◌≢◌, ◌⊎◌, Bool, ℕ, ◌+◌, ◌*◌, ◌/◌, ◌≤◌, ◌<◌, true, false, cond, Option, Some, None, List, [], ◌∷◌, take, length, get_or, zero, suc, refl, sym, ap, subst, ◌∙◌, arith, inl, inr}
+use Rattle.std.proofs.Common.{◌≡◌, ◌≢◌, ◌⊎◌, Bool, ℕ, ◌+◌, ◌*◌, ◌≤◌, ◌<◌, true, false, cond, Option, Some, List, [], ◌∷◌, take, length, get_or, zero, suc, refl, sym, ap, subst, ◌∙◌, arith, inl, inr}
 use Rattle.std.specs.Prelude.{◌==◌}
 use Rattle.std.specs.List.{All, sum_by}
 use Rattle.std.proofs.lemmas.Bool.{cases_eq, eq-eqb, ne_eqb}
@@ -17,10 +17,10 @@ use Rattle.epoch_lattice.specs.declared.TheConstants.{MAX_DEPTH}
 use Rattle.epoch_lattice.specs.Lattice.{IsValid, space_index}
 use Rattle.epoch_lattice.proofs.Numbers.{number-most, number-own}
 use Rattle.yak_model.specs.Graph.{Limits}
-use Rattle.yak_model.specs.Spaces.{SpaceState, home_of, innermost}
+use Rattle.yak_model.specs.Spaces.{SpaceState, innermost}
 use Rattle.yak_model.specs.State.{IsClosed, Thing, object_of, view}
 use Rattle.yak_model.specs.Placed.{HeapStands, Holds, IsAt, Places, names_of, size_by, space_word, used_mark, words_by}
-use Rattle.yak_model.specs.Plans.{Move, cleared, forwarded, rehomed}
+use Rattle.yak_model.specs.Plans.{Move, cleared, forwarded}
 use Rattle.yak_model.specs.Stands.{IsWhole}
 use Rattle.heap_walks.proofs.Seen.{seen}
 use Rattle.relocation.specs.Moves.{size_at}

@@ -1,5 +1,5 @@
 -- The page table after the end of a region, whose pages are given back.
-use Rattle.std.proofs.Common.{◌≡◌, ◌≢◌, ◌⊎◌, ℕ, zero, suc, cond, ◌+◌, ◌-◌, ◌*◌, ◌/◌, ◌≤◌, ◌<◌, ◌==◌, false, Option, Some, List, [], ◌∷◌, length, get_or, set, refl, sym, ap, subst, ◌∙◌, arith, inl, inr}
+use Rattle.std.proofs.Common.{◌≡◌, ◌≢◌, ◌⊎◌, ℕ, zero, suc, cond, ◌+◌, ◌-◌, ◌/◌, ◌≤◌, ◌<◌, ◌==◌, false, Option, Some, List, [], ◌∷◌, length, get_or, refl, sym, ap, subst, ◌∙◌, arith, inl, inr}
 use Rattle.std.proofs.lemmas.Bool.{cases_eq, ne_eqb}
 use Rattle.std.proofs.lemmas.List.{get_or-map, length-map}
 use Rattle.std.proofs.lemmas.List.Sums.{sum_by-cons}
@@ -18,24 +18,21 @@ use Rattle.yak_model.specs.Spaces.{SpaceState, innermost}
 use Rattle.yak_model.specs.State.{IsOpen, Thing, object_of, view}
 use Rattle.yak_model.specs.Placed.{HeapStands, Holds, Places, names_of, size_by, space_word, used_mark}
 use Rattle.yak_model.specs.Plans.{Move, cleared, forwarded}
-use Rattle.yak_model.specs.Stands.{RegionsDense, Stands, current, pages_of, words_of}
+use Rattle.yak_model.specs.Stands.{RegionsDense, Stands, current, pages_of}
 use Rattle.yak_model.specs.Packed.{IsSpaceOf}
 use Rattle.heap_walks.proofs.Seen.{present_of}
 use Rattle.region_pages.specs.Freeing.{freed, freed_table}
-use Rattle.region_pages.specs.Pages.{TableFits}
 use Rattle.region_pages.proofs.Entries.{current-cases}
 use Rattle.region_pages.proofs.Freed.{freed_same, freed_zero}
-use Rattle.region_pages.proofs.Released.{inner_valid, table-freed}
+use Rattle.region_pages.proofs.Released.{table-freed}
 use Rattle.relocation.specs.Moves.{move_at}
-use Rattle.relocation.specs.Slide.{IsPageOf, brought}
+use Rattle.relocation.specs.Slide.{IsPageOf}
 use Rattle.relocation.specs.Slidden.{names_after}
 use Rattle.relocation.proofs.SlidLaid.{places_of}
-use Rattle.escape_closure.specs.Targets.{IsEscaping}
-use Rattle.escape_closure.specs.Ends.{EndPlanned, PlacedAt, region_word, words_into}
-use Rattle.escape_closure.specs.Leaving.{EndMoves, PagesLeft, PlacedIn, RegionReady, left_behind, objects_left}
+use Rattle.escape_closure.specs.Ends.{EndPlanned, region_word}
+use Rattle.escape_closure.specs.Leaving.{PagesLeft, PlacedIn, RegionReady, objects_left}
 use Rattle.escape_closure.proofs.Carries.{innermost_valid}
-use Rattle.escape_closure.proofs.Fates.{OneEach, one_each, stays_so}
-use Rattle.escape_closure.proofs.LaidPages.{LaidBy}
+use Rattle.escape_closure.proofs.Fates.{one_each, stays_so}
 use Rattle.escape_closure.proofs.Reaches.{reached_here}
 use Rattle.escape_closure.proofs.Readies.{end_moves}
 use Rattle.escape_closure.proofs.Regrouped.{regrouped}

@@ -10,7 +10,6 @@ use Rattle.heap_words.specs.declared.map.Areas.{Areas}
 use Rattle.heap_words.specs.Map.{page_words}
 use Rattle.heap_words.specs.Contents.{Contents}
 use Rattle.yak_model.specs.Placed.{used_mark}
-use Rattle.yak_model.specs.Plans.{Move}
 use Rattle.relocation.specs.Moves.{HasHeader}
 use Rattle.relocation.specs.Slide.{PageRun, Runs, behind, object_at}
 use Rattle.relocation.proofs.SlidObjects.{behind-first, behind-next}

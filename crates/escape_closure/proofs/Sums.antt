@@ -1,7 +1,7 @@
 -- The words of regions after the moves of an end, and tables in which a space has the same pages.
-use Rattle.std.proofs.Common.{◌≡◌, ◌≢◌, ◌⊎◌, ℕ, ◌+◌, ◌*◌, ◌/◌, ◌≤◌, ◌<◌, Bool, true, false, cond, Option, Some, None, List, [], ◌∷◌, ◌++◌, length, get_or, zero, suc, refl, sym, ap, subst, ◌∙◌, arith, inl, inr}
+use Rattle.std.proofs.Common.{◌≡◌, ◌≢◌, ℕ, ◌+◌, ◌/◌, ◌≤◌, ◌<◌, Bool, true, false, cond, Option, List, [], ◌∷◌, length, get_or, zero, suc, refl, sym, ap, ◌∙◌, arith}
 use Rattle.std.specs.Prelude.{◌==◌}
-use Rattle.std.specs.List.{All, count_by, sum_by}
+use Rattle.std.specs.List.{sum_by}
 use Rattle.std.proofs.lemmas.Bool.{cases_eq, eq-eqb, ne_eqb}
 use Rattle.std.proofs.lemmas.List.{get_or_default, same_lists}
 use Rattle.std.proofs.lemmas.List.Sums.{sum_by-cons, sum_by_push}
@@ -10,23 +10,20 @@ use Rattle.object_layout.specs.declared.names.Name.{Name}
 use Rattle.object_layout.specs.declared.TheConstants.{OBJECT_WORDS}
 use Rattle.heap_words.specs.declared.map.Areas.{Areas}
 use Rattle.heap_words.specs.Map.{page_words}
-use Rattle.heap_words.specs.Cells.{row}
 use Rattle.heap_words.specs.Contents.{Contents}
 use Rattle.epoch_lattice.specs.declared.Space.{Space}
 use Rattle.epoch_lattice.specs.declared.TheConstants.{MAX_DEPTH}
 use Rattle.epoch_lattice.specs.Lattice.{IsValid, space_index}
-use Rattle.yak_model.specs.Spaces.{SpaceState, home_of, innermost}
+use Rattle.yak_model.specs.Spaces.{SpaceState, innermost}
 use Rattle.yak_model.specs.State.{IsClosed, Thing, object_of, view}
-use Rattle.yak_model.specs.Placed.{HeapStands, IsAt, Places, names_of, size_by, space_word, words_by}
+use Rattle.yak_model.specs.Placed.{HeapStands, Places, names_of, size_by, space_word, words_by}
 use Rattle.yak_model.specs.Plans.{Move}
 use Rattle.yak_model.specs.Stands.{IsWhole, pages_of, words_in, words_of}
-use Rattle.relocation.specs.Slide.{IsPageOf}
 use Rattle.relocation.specs.Slidden.{names_after, table_of}
 use Rattle.relocation.proofs.SlidLaid.{get-table_of, length-table_of}
 use Rattle.escape_closure.specs.Targets.{IsEscaping}
 use Rattle.escape_closure.specs.Ends.{region_word, words_into}
 use Rattle.escape_closure.specs.Leaving.{EndMoves, objects_left}
-use Rattle.escape_closure.proofs.Fates.{OneEach}
 use Rattle.escape_closure.proofs.Regrouped.{AreNamed, mover_of, own_page, place, stayer_of}
 
 -- ---- sums over tables of lists

@@ -1,7 +1,7 @@
 -- The plan of a tight end that references can follow.
-use Rattle.std.proofs.Common.{◌≡◌, ◌≢◌, ◌⊎◌, ℕ, ◌+◌, ◌-◌, ◌*◌, ◌/◌, ◌≤◌, ◌<◌, Bool, true, false, Option, Some, List, length, get_or, set, refl, sym, ap, subst, ◌∙◌, arith, inl, inr}
+use Rattle.std.proofs.Common.{◌≡◌, ◌≢◌, ℕ, ◌+◌, ◌≤◌, ◌<◌, Bool, true, false, Some, List, length, get_or, refl, sym, ap, subst, ◌∙◌, arith}
 use Rattle.std.proofs.lemmas.List.{get_or_default}
-use Rattle.std.proofs.Math.Logic.{∥∥₁_map, ⊎_elim}
+use Rattle.std.proofs.Math.Logic.{∥∥₁_map}
 use Rattle.std.specs.FinSet as names
 use Rattle.object_layout.specs.declared.names.Name.{Name}
 use Rattle.object_layout.specs.declared.TheConstants.{MAX_SPACE, OBJECT_WORDS}
@@ -14,28 +14,28 @@ use Rattle.epoch_lattice.specs.declared.TheConstants.{MAX_DEPTH}
 use Rattle.epoch_lattice.specs.Lattice.{IsValid, space_index}
 use Rattle.epoch_lattice.proofs.Numbers.{number-most, number-own}
 use Rattle.yak_model.specs.Graph.{Limits}
-use Rattle.yak_model.specs.Spaces.{Counts, SpaceState, home_of, innermost}
-use Rattle.yak_model.specs.State.{IsClosed, Thing, object_of, view}
-use Rattle.yak_model.specs.Placed.{HeapStands, IsAt, Places, names_of, size_by, space_word, words_by}
-use Rattle.yak_model.specs.Plans.{IsLawfulPlan, Move, without}
+use Rattle.yak_model.specs.Spaces.{Counts, SpaceState, innermost}
+use Rattle.yak_model.specs.State.{Thing, object_of, view}
+use Rattle.yak_model.specs.Placed.{HeapStands, Places, names_of, size_by, space_word, words_by}
+use Rattle.yak_model.specs.Plans.{IsLawfulPlan, Move}
 use Rattle.yak_model.specs.Stands.{SetsStand, Stands, set_entries}
 use Rattle.yak_model.proofs.Placed.{in_page}
 use Rattle.heap_walks.proofs.Seen.{present_home, present_of, seen, shown}
-use Rattle.relocation.specs.Moves.{move_at, size_at}
+use Rattle.relocation.specs.Moves.{move_at}
 use Rattle.relocation.specs.Slide.{Drops, IsPageOf, Runs, Sliding}
 use Rattle.relocation.proofs.Lawful.{kept}
 use Rattle.relocation.proofs.SlidLawful.{name_at, runs_of, slid_object, slide-lawful, slide-present, stands-at, walk-at}
 use Rattle.relocation.proofs.Slidden.{Slid, pick, slide-known}
 use Rattle.escape_closure.specs.Targets.{IsEscaping, IsTargetAt, TargetsWritten}
-use Rattle.escape_closure.specs.Ends.{DropsRest, PlanReady, region_word}
-use Rattle.escape_closure.specs.Leaving.{EndMoves, ReadyToMove, TightReady, left_behind, objects_left}
+use Rattle.escape_closure.specs.Ends.{DropsRest, region_word}
+use Rattle.escape_closure.specs.Leaving.{EndMoves, ReadyToMove, TightReady, left_behind}
 use Rattle.escape_closure.proofs.Carries.{innermost_valid}
 use Rattle.escape_closure.proofs.Counting.{counts_listed}
 use Rattle.escape_closure.proofs.Fates.{OneEach, drops_rest, one_each}
 use Rattle.escape_closure.proofs.Keeps.{closed_kept}
 use Rattle.escape_closure.proofs.Reaches.{reached_here}
 use Rattle.escape_closure.proofs.RunsTold.{runs-told}
-use Rattle.escape_closure.proofs.Readies.{sets_same, still_holds}
+use Rattle.escape_closure.proofs.Readies.{still_holds}
 
 same_space : (a b : Space) → Some a ≡ Some b → a ≡ b
 same_space a b e = cc

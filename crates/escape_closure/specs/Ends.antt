@@ -1,5 +1,5 @@
 -- The plan of an end, and what an end leaves.
-use Rattle.std.specs.Prelude.{◌≡◌, ◌≢◌, ◌⊎◌, ◌↔◌, ℕ, ◌+◌, ◌-◌, ◌*◌, ◌/◌, ◌≤◌, ◌<◌, ◌==◌, cond, Bool, true, false, List, ◌++◌, length, slice_index, slice_set, map, Some, zero, suc, MatchResult, Result}
+use Rattle.std.specs.Prelude.{◌≡◌, ◌≢◌, ◌⊎◌, ◌↔◌, ℕ, ◌+◌, ◌-◌, ◌*◌, ◌/◌, ◌≤◌, ◌<◌, ◌==◌, cond, Bool, true, false, List, ◌++◌, length, slice_index, slice_set, map, Some, zero, suc}
 use Rattle.std.specs.List.{Contains}
 use Rattle.object_layout.specs.declared.names.Name.{Name}
 use Rattle.object_layout.specs.declared.replies.Shortage.{Shortage}
@@ -18,8 +18,7 @@ use Rattle.yak_model.specs.Stands.{CurrentsStand, PoolStands, Stands, claim_coun
 use Rattle.yak_model.specs.Recorded.{Recorded}
 use Rattle.region_pages.specs.Pages.{TableFits}
 use Rattle.region_pages.specs.declared.TheConstants.{CLAIM_COUNTER}
-use Rattle.relocation.specs.declared.plans.Plan.{Plan}
-use Rattle.relocation.specs.Moves.{Numbered, move_at, size_at}
+use Rattle.relocation.specs.Moves.{Numbered, move_at}
 use Rattle.relocation.specs.Slide.{brought}
 use Rattle.forwarding.specs.Crossing.{AreFiled}
 use Rattle.escape_closure.specs.Targets.{IsEscaping}

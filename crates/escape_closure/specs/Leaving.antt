@@ -1,5 +1,5 @@
 -- The steps of an end, from its plan to the words that it leaves.
-use Rattle.std.specs.Prelude.{◌≡◌, ◌≢◌, ◌⊎◌, ◌↔◌, ℕ, ◌+◌, ◌-◌, ◌*◌, ◌/◌, ◌≤◌, ◌<◌, ◌==◌, cond, Bool, true, false, List, length, drop, slice_index, slice_set, map, Option, Some, None}
+use Rattle.std.specs.Prelude.{◌≡◌, ◌≢◌, ◌⊎◌, ◌↔◌, ℕ, ◌+◌, ◌-◌, ◌*◌, ◌/◌, ◌≤◌, ◌<◌, ◌==◌, cond, Bool, false, List, length, drop, slice_index, slice_set, map, Option, Some, None}
 use Rattle.object_layout.specs.declared.names.Name.{Name}
 use Rattle.epoch_lattice.specs.declared.Space.{Space}
 use Rattle.epoch_lattice.specs.declared.Space.TheVariants.{Control}
@@ -17,7 +17,7 @@ use Rattle.yak_model.specs.Recorded.{IsRecorded, Recorded}
 use Rattle.relocation.specs.Moves.{move_at}
 use Rattle.relocation.specs.Slide.{IsPageOf, Runs, Sliding, brought}
 use Rattle.remember_sets.specs.declared.TheConstants.{SET_ENTRIES}
-use Rattle.remember_sets.specs.Filed.{IsFiled, LiesIn, SetsHold}
+use Rattle.remember_sets.specs.Filed.{IsFiled, LiesIn, SetsHold, logged}
 use Rattle.forwarding.specs.Crossing.{AreFiled, IsCrossing}
 use Rattle.escape_closure.specs.Targets.{IsEscaping, IsTargetAt, TargetsWritten}
 use Rattle.escape_closure.specs.Ends.{DropsRest, EndPlanned, PlanReady, region_word}
@@ -97,6 +97,10 @@ pub record Carried (m : Areas) (c d : Contents) (s : SpaceState) (l : Places) (t
   pub sets : SetsHold m d
   pub frame : d ≡ record c { heads = slice_set c.heads SET_ENTRIES (set_entries d.heads); stacks = d.stacks; sets = d.sets; heap = d.heap }
 
+-- How many slots are recorded, in the sets and in the store buffers.
+abbrev pub records_of : Contents → ℕ
+records_of c = set_entries c.heads + length (logged c)
+
 -- The buffers are filed, and the targets stand in the work words.
 pub record Begun (m : Areas) (c d : Contents) (s : SpaceState) (stands : Stands m c s) (t escaping : ℕ) : Type 0 where
   pub filing : Contents
@@ -105,6 +109,7 @@ pub record Begun (m : Areas) (c d : Contents) (s : SpaceState) (stands : Stands 
   pub recorded : Recorded m filing s later
   pub filed : AreFiled filing.buffers
   pub written : TargetsWritten m s later.places t filing d escaping
+  pub few : set_entries filing.heads ≤ records_of c
   pub frame : filing ≡ record c { heads = slice_set c.heads SET_ENTRIES (set_entries filing.heads); sets = filing.sets; buffers = filing.buffers }
 
 -- The words after the targets of an end whose buffers were filed.

@@ -19,10 +19,10 @@ mod weighing;
 pub use clearing::clear_targets;
 pub use closing::close_region;
 pub use ending::targets;
+pub use planning::plan_moves;
 pub use references::correct_references;
 pub use regional::end_region;
 pub use tight::end_tight;
-pub use planning::plan_moves;
 
 /// What the work word of an object counts more while it waits on the list.
 const WAITING: u64 = 128;

@@ -59,14 +59,7 @@ fn plan_tight<W: Words>(words: &mut W, map: Areas, thread: u8) -> Packing
 
 /// Gives the pages of a region to the control space where moved objects lie in them, and back where they don't. The region has
 /// no current page any more, and the pool is made anew.
-fn settle_region<W: Words>(
-    words: &mut W,
-    map: Areas,
-    plan: &Plan,
-    thread: u8,
-    depth: u8,
-    next: u32,
-)
+fn settle_region<W: Words>(words: &mut W, map: Areas, plan: &Plan, thread: u8, depth: u8, next: u32)
     requires sound { Sound map (W.words words.old) }
     requires region { HasRegion map thread depth }
     requires room { MOVE_WORDS * plan.now.count ≤ heap_length map }

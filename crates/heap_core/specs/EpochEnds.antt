@@ -1,6 +1,5 @@
 -- How a thread's innermost epoch ends.
-use Rattle.std.specs.Prelude.{◌≡◌, ◌⊎◌, ℕ, ◌+◌, ◌*◌, ◌^◌, ◌≤◌, ◌<◌, ◌==◌, Bool, true, false, cond, length, bit_and, sum_by, Option, Some, None}
-use Rattle.std.specs.List.{range_with_len}
+use Rattle.std.specs.Prelude.{◌≡◌, ◌⊎◌, ℕ, ◌+◌, ◌*◌, ◌≤◌, ◌<◌, Bool, true, false, length, Option, Some, None}
 use Rattle.object_layout.specs.declared.calls.Call.{Call}
 use Rattle.object_layout.specs.declared.calls.Call.TheVariants.{End}
 use Rattle.object_layout.specs.declared.replies.Refusal.TheVariants.{NoEpoch}
@@ -8,15 +7,15 @@ use Rattle.object_layout.specs.declared.replies.Reply.{Reply}
 use Rattle.object_layout.specs.declared.replies.Reply.TheVariants.{Ended, Refused}
 use Rattle.object_layout.specs.declared.replies.Shortage.{Shortage}
 use Rattle.heap_words.specs.declared.map.Areas.{Areas}
-use Rattle.heap_words.specs.Contents.{Contents, depth_of, readers_of, stack_of}
+use Rattle.heap_words.specs.Contents.{Contents, depth_of, stack_of}
 use Rattle.yak_model.specs.Spaces.{SpaceState, innermost}
 use Rattle.yak_model.specs.State.{object_of}
 use Rattle.yak_model.specs.Placed.{Places}
-use Rattle.yak_model.specs.Stands.{Stands, set_entries, words_of}
+use Rattle.yak_model.specs.Stands.{Stands, words_of}
 use Rattle.yak_model.specs.Recorded.{Recorded}
 use Rattle.mark_compact.specs.Collected.{RoomCollected, StateCollected}
 use Rattle.escape_closure.specs.Ends.{FallsShort, RegionEnded, RegionShort, TightEnded}
-use Rattle.remember_sets.specs.Filed.{logged}
+use Rattle.escape_closure.specs.Leaving.{records_of}
 use Rattle.heap_core.specs.declared.owned.Stepped.{Stepped}
 use Rattle.heap_core.specs.Steps.{plain}
 
@@ -77,17 +76,13 @@ IsEnd m was now t said =
 
 -- ---- how much an end reads
 
--- The slots of a thread's stack and of the stacks of the threads in the readers word of its innermost region.
-abbrev pub slots_read : Areas → Contents → ℕ → ℕ
-slots_read m c t = length (stack_of c t) + sum_by (λ (u : ℕ). cond (bit_and (readers_of c t (depth_of c t)) (2 ^ u) == 0) 0 (length (stack_of c (u + 1)))) (range_with_len 0 m.threads)
-
--- The most reads of an end that makes no collection: the words of the region, the recorded slots and those slots count, and
--- no other object does.
+-- The most reads of an end that makes no collection: the words of the region, the recorded slots and the slots of the thread's
+-- stack count, and no other object does.
 abbrev pub end_reads : (m : Areas) (c : Contents) (s : SpaceState) → Stands m c s → ℕ → ℕ
 end_reads m c s stands t =
-    100 * (words_of stands.places.pages (object_of s) (innermost s.graph t) + (set_entries c.heads + length (logged c)) + slots_read m c t + 72) + 4 * m.pages
+    100 * (words_of stands.places.pages (object_of s) (innermost s.graph t) + records_of c + length (stack_of c t) + 72) + 4 * m.pages
 
 -- A call that ends an open epoch without a collection reads no more.
 abbrev pub ReadsFew : (m : Areas) (c : Contents) (s : SpaceState) → Stands m c s → ℕ → Call → Stepped → ℕ → ℕ → Type 0
-ReadsFew m c s stands t End said before after = said.collected ≡ false → 0 < depth_of c t → after ≤ before + (end_reads m c s stands t + 1)
+ReadsFew m c s stands t End said before after = said.collected ≡ false → 0 < depth_of c t → after ≤ before + end_reads m c s stands t
 ReadsFew m c s stands t asked said before after = Unit {0}

@@ -11,7 +11,7 @@ ghost use Rattle.heap_core.specs.Records.{SomeRecorded};
 
 use crate::calls::plain_step;
 use crate::owned::Stepped;
-use crate::stub::{end_region, end_tight};
+use escape_closure::{end_region, end_tight};
 use heap_words::{Areas, Words};
 use mark_compact::collect;
 use object_layout::{Call, Refusal, Reply};

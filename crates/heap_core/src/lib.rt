@@ -12,7 +12,6 @@ mod made;
 mod objects;
 mod owned;
 mod slots;
-mod stub;
 
 pub use caller::CoreCaller;
 pub use owned::{Core, Stepped};

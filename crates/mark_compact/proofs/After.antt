@@ -17,11 +17,11 @@ use Rattle.epoch_lattice.specs.Lattice.{IsValid, space_index}
 use Rattle.yak_model.specs.Graph.{Content, Graph, Limits, Thread}
 use Rattle.yak_model.specs.Spaces.{Collects, IsPresent, SpaceState, content_at, home_of}
 use Rattle.yak_model.specs.State.{State, Thing, object_of, thing_of, view}
-use Rattle.yak_model.specs.Placed.{HeapStands, Holds, IsAt, Places, datum_word, space_word}
+use Rattle.yak_model.specs.Placed.{HeapStands, Holds, Places, size_by, space_word, words_by}
 use Rattle.yak_model.specs.Plans.{Move, without}
 use Rattle.yak_model.specs.Packed.{PackedAs}
-use Rattle.yak_model.specs.Stands.{IsWhole, NamesMade, PoolStands, RestsZero, SetsStand, Stands, StandsAs, current, free_pages, set_entries, unused_heads}
-use Rattle.yak_model.specs.Recorded.{Enters, IsField, IsRecorded, RecordedAs}
+use Rattle.yak_model.specs.Stands.{CurrentsStand, PoolStands, RegionsDense, SpacesOpen, Stands, StandsAs, set_entries, unused_heads}
+use Rattle.yak_model.specs.Recorded.{IsReader, RecordedAs}
 use Rattle.yak_model.proofs.Data.{home-index}
 use Rattle.yak_model.proofs.Placed.{in_page}
 use Rattle.heap_walks.proofs.Seen.{seen}
@@ -91,7 +91,7 @@ module _ (m : Areas) (c1 : Contents) (s : SpaceState) (h1 : Stands m c1 s) (c2 :
     within = λ n o e.
         let at = lain.heap.present n o e in
         let w = in_page (page_words m) _ lain.places n at.0 at.1 lain.heap.tiles at.2 in
-        let size : Rattle.yak_model.specs.Placed.size_by (without (view s) lain.dropped).objects n ≡ length o.fields + 3 = ap Rattle.yak_model.specs.Placed.words_by e in
+        let size : size_by (without (view s) lain.dropped).objects n ≡ length o.fields + 3 = ap words_by e in
         omega (arith, w.1, size, at.2.page, lain.heap.count);
     limits = λ n o e. ((lain.closed.fields n o e).1, home-index m c1 (view s) h1.places n o areas h1.stands (was-there n o e));
     stands = λ n o e. lain.heap.held n o e;
@@ -172,13 +172,13 @@ module _ (m : Areas) (c0 c1 c2 c3 c4 : Contents) (s : SpaceState) (h : Stands m 
   pub same-regions : SameRegions m c1.table c2.table
   same-regions = record { long = st.long; long_now = st.long_now; others = st.lain.others; control = st.lain.control }
 
-  stand2 : Rattle.yak_model.specs.Stands.CurrentsStand m c2.currents c1.table
-  stand2 = subst (λ (cs : List (List ℕ)). Rattle.yak_model.specs.Stands.CurrentsStand m cs c1.table) (sym currents2) h1.stands.currents
+  stand2 : CurrentsStand m c2.currents c1.table
+  stand2 = subst (λ (cs : List (List ℕ)). CurrentsStand m cs c1.table) (sym currents2) h1.stands.currents
 
   pub stands-as : StandsAs m c4 v there
   stands-as = record {
     heap = subst (λ (tb : List (List ℕ)). HeapStands m tb c4.heap v.objects there (λ _. 0)) (sym table4) (subst (λ (hp : List ℕ). HeapStands m c2.table hp v.objects there (λ _. 0)) (sym heap4) st.lain.heap);
-    open_spaces = subst (λ (tb : List (List ℕ)). Rattle.yak_model.specs.Stands.SpacesOpen m tb (view s).depths) (sym table4) (spaces-open m c1.table c2.table same-regions (view s).depths h1.stands.open_spaces);
+    open_spaces = subst (λ (tb : List (List ℕ)). SpacesOpen m tb (view s).depths) (sym table4) (spaces-open m c1.table c2.table same-regions (view s).depths h1.stands.open_spaces);
     closed = st.lain.closed;
     stacks = stacks4 ∙ st.lain.stacks;
     depths = depths4 ∙ h1.stands.depths;
@@ -189,12 +189,12 @@ module _ (m : Areas) (c0 c1 c2 c3 c4 : Contents) (s : SpaceState) (h : Stands m 
     limits = st.limits;
     zero = record { heads = subst (All (λ w. w ≡ 0)) (sym unused4) h1.stands.zero.heads; blocks = subst (All (All (λ w. w ≡ 0))) (sym rests4) h1.stands.zero.blocks };
     pool = subst (λ (x : Contents). PoolStands m x.heads x.pool x.table) (sym st.others) (pool-with_entries m c3.heads c3.pool c3.table (set_entries c4.heads) st.pool);
-    currents = subst (λ (cs : List (List ℕ)). Rattle.yak_model.specs.Stands.CurrentsStand m cs c4.table) (sym currents4) (subst (λ (tb : List (List ℕ)). Rattle.yak_model.specs.Stands.CurrentsStand m c3.currents tb) (sym table4)
+    currents = subst (λ (cs : List (List ℕ)). CurrentsStand m cs c4.table) (sym currents4) (subst (λ (tb : List (List ℕ)). CurrentsStand m c3.currents tb) (sym table4)
         (currents-now m c1.table c2.table same-regions (with_pool_rebuilt c2) c3 t last st.thread stand2 st.pages st.ends));
     sets = st.sets;
-    dense = subst (λ (cs : List (List ℕ)). Rattle.yak_model.specs.Stands.RegionsDense m c4.table cs there.pages v.objects) (sym currents4) (subst (λ (tb : List (List ℕ)). Rattle.yak_model.specs.Stands.RegionsDense m tb c3.currents there.pages v.objects) (sym table4)
+    dense = subst (λ (cs : List (List ℕ)). RegionsDense m c4.table cs there.pages v.objects) (sym currents4) (subst (λ (tb : List (List ℕ)). RegionsDense m tb c3.currents there.pages v.objects) (sym table4)
         (dense-now m c1.table c2.table same-regions (with_pool_rebuilt c2) c3 t last st.thread stand2 st.pages st.ends c1.heap c2.heap (object_of s) v.objects h1.places there (λ _. 0) (λ _. 0) h1.stands.heap st.lain.heap
-        (subst (λ (cs : List (List ℕ)). Rattle.yak_model.specs.Stands.RegionsDense m c1.table cs h1.places.pages (object_of s)) (sym currents2) h1.stands.dense)));
+        (subst (λ (cs : List (List ℕ)). RegionsDense m c1.table cs h1.places.pages (object_of s)) (sym currents2) h1.stands.dense)));
   }
 
   -- ---- the recorded slots
@@ -204,8 +204,8 @@ module _ (m : Areas) (c0 c1 c2 c3 c4 : Contents) (s : SpaceState) (h : Stands m 
   page-of n o f e lt =
       let at = h.stands.heap.present n o e in
       let w = h.stands.heap.whole n at.0 at.1 at.2 in
-      let page = in_page (page_words m) (Rattle.yak_model.specs.Placed.size_by (object_of s)) h.places n at.0 at.1 h.stands.heap.tiles at.2 in
-      let size : Rattle.yak_model.specs.Placed.size_by (object_of s) n ≡ length o.fields + 3 = ap Rattle.yak_model.specs.Placed.words_by e in
+      let page = in_page (page_words m) (size_by (object_of s)) h.places n at.0 at.1 h.stands.heap.tiles at.2 in
+      let size : size_by (object_of s) n ≡ length o.fields + 3 = ap words_by e in
       let q : (h.places.at n + OBJECT_WORDS + f) / page_words m ≡ at.0 = omega (arith, page.0, page.1, size, lt) in
       ap (space_word c0.table) q ∙ w.2 ∙ ap (λ (x : Thing). space_index x.home + 1) (one_thing w.0 o (sym w.1 ∙ e))
 
@@ -241,7 +241,7 @@ module _ (m : Areas) (c0 c1 c2 c3 c4 : Contents) (s : SpaceState) (h : Stands m 
       ]
       | inr f ↦ absurd (no_entries m.threads a (subst (λ (bs : List (List ℕ)). Contains (flat_map (λ (b : List ℕ). b) bs) a) buffers4 f))
     ];
-    read = λ u w d k x p hu hm hk q ex home ne. subst (λ rs. Rattle.yak_model.specs.Recorded.IsReader rs u w d) (sym readers4) (r.read u w d k x p hu hm hk q (kept (view s) st.lain.dropped x p ex) home ne);
+    read = λ u w d k x p hu hm hk q ex home ne. subst (λ rs. IsReader rs u w d) (sym readers4) (r.read u w d k x p hu hm hk q (kept (view s) st.lain.dropped x p ex) home ne);
     closed = λ u d hu hm hd lt. ap (λ (rs : List (List ℕ)). get_or (get_or rs (u - 1) []) (d - 1) 0) readers4 ∙ r.closed u d hu hm hd lt;
   }
     where

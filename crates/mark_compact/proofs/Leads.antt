@@ -33,7 +33,7 @@ use Rattle.forwarding.specs.Corrected.{IsFieldIn, IsRegional, RegionRuns, Region
 use Rattle.mark_compact.specs.Collecting.{Planned}
 use Rattle.mark_compact.specs.declared.sliding.TheConstants.{CONTROL_WORD}
 use Rattle.mark_compact.proofs.Drops.{control_case}
-use Rattle.mark_compact.proofs.RunsTold.{run-told}
+use Rattle.mark_compact.proofs.RunsTold.{one_end, run-told}
 use Rattle.mark_compact.proofs.Slides
 use Rattle.mark_compact.proofs.Whole.{laid}
 
@@ -43,8 +43,8 @@ region_index (Region t d) ne = omega arith
 
 -- ---- facts that are only known to hold for some state
 
-one_end : (m : Areas) (c : Contents) (q : ℕ) (a b : PageRun m c q) → a.objects ≡ b.objects
-one_end m c q a b = Rattle.mark_compact.proofs.RunsTold.one_end m c q ∣ b ∣₁ a.objects a.ends b
+same_objects : (m : Areas) (c : Contents) (q : ℕ) (a b : PageRun m c q) → a.objects ≡ b.objects
+same_objects m c q a b = one_end m c q ∣ b ∣₁ a.objects a.ends b
 
 pub region-runs-told : (m : Areas) (c : Contents) (count : ℕ) (moves : ℕ → Move) → ∥ RegionRuns m c count moves ∥₁ → RegionRuns m c count moves
 region-runs-told m c count moves some =
@@ -52,7 +52,7 @@ region-runs-told m c count moves some =
     record {
       run = runs;
       lead = λ q lt more i b x e. ∥∥₁_elim some (hlevel props) (λ r.
-          let same = one_end m c q (runs q lt more) (r.run q lt more) in
+          let same = same_objects m c q (runs q lt more) (r.run q lt more) in
           r.lead q lt more i b (x.0, (let l : x.0 < (r.run q lt more).objects = subst (λ j. x.0 < j) same x.1 in l), x.2, x.3) e);
       beside = λ q k lt more lk. ⊎_elim
           (λ (less : (moves k).old + 2 < page_words m * q). inl less)

@@ -1,4 +1,4 @@
-//! The collection of the control space: which of its objects are kept, and where a slide puts them.
+//! The collection of the control space: which of its objects are kept, where a slide puts them, and what follows them.
 #![tactic(auto)]
 
 mod clearing;

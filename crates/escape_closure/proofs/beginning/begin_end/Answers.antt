@@ -1,7 +1,8 @@
 use Rattle.std.proofs.Math.Logic.{∥∥₁_map}
-use Rattle.std.proofs.Common.{◌≡◌, ◌≤◌, ℕ, List, arith, sym, subst, ap}
-use Rattle.heap_words.specs.Contents.{Contents, contents, depth_of}
-use Rattle.escape_closure.proofs.Filing.{begun, buffers_told, filed_recorded, filed_stands, none_logged, sets_told}
+use Rattle.std.proofs.Common.{length, ◌≡◌, arith, ap}
+use Rattle.heap_words.specs.Contents.{Contents, contents, depth_of, stack_of}
+use Rattle.heap_words.proofs.Contents.{length-sets}
+use Rattle.escape_closure.proofs.Filing.{begun, buffers_told, few_filed, filed_recorded, filed_stands, none_logged, sets_told}
 use Rattle.escape_closure.proofs.beginning.begin_end.Goals as goal
 
 pub file_logs-requires-clause-sets : goal.file_logs-requires-clause-sets
@@ -33,4 +34,16 @@ returns-clause-begun g c s h recorded =
     let mid = contents m (g.W.Words.words c.file_logs.new.words) in
     let d = contents m (g.W.Words.words c.targets.new.words) in
     let e = c.file_logs.ensures in
-    begun m old mid s h recorded e.filed e.sets e.others e.sound.limits d c.args.thread c.targets.result (c.targets.ensures.targets s (filed_stands m old mid s h recorded e.filed e.sets e.others e.sound.limits) (filed_recorded m old mid s h recorded e.filed e.sets e.others e.sound.limits))
+    begun m old mid s h recorded e.filed e.sets e.others e.sound.limits d c.args.thread c.targets.result (length-sets m (g.W.Words.words c.file_logs.new.words) e.sound.whole) (c.targets.ensures.targets s (filed_stands m old mid s h recorded e.filed e.sets e.others e.sound.limits) (filed_recorded m old mid s h recorded e.filed e.sets e.others e.sound.limits))
+
+pub returns-clause-reads : goal.returns-clause-reads
+returns-clause-reads g c s h recorded =
+    let m = c.args.map in
+    let t = c.args.thread in
+    let old = contents m (g.W.Words.words c.args.words.now) in
+    let mid = contents m (g.W.Words.words c.file_logs.new.words) in
+    let e = c.file_logs.ensures in
+    let few = few_filed m old mid e.filed e.sets (length-sets m (g.W.Words.words c.file_logs.new.words) e.sound.whole) in
+    let reads = c.targets.ensures.reads s (filed_stands m old mid s h recorded e.filed e.sets e.others e.sound.limits) (filed_recorded m old mid s h recorded e.filed e.sets e.others e.sound.limits) in
+    let stack : length (stack_of mid t) ≡ length (stack_of old t) = ap (λ (x : Contents). length (stack_of x t)) e.others in
+    omega (arith, few, reads, stack, e.reads)

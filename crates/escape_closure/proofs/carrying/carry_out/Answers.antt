@@ -1,15 +1,14 @@
 use Rattle.std.proofs.Props.{props}
 use Rattle.std.proofs.Math.Logic.{∥∥₁_elim, ∥∥₁_map}
-use Rattle.std.proofs.Common.{◌≡◌, ℕ, ◌+◌, ◌*◌, ◌≤◌, List, refl, sym, ap, subst, ◌∙◌, arith}
-use Rattle.epoch_lattice.specs.declared.TheConstants.{MAX_DEPTH}
-use Rattle.heap_words.specs.Map.{heap_length}
-use Rattle.heap_words.specs.Contents.{Contents, contents, depth_of}
+use Rattle.std.proofs.Common.{length, ◌≡◌, ℕ, ◌≤◌, List, sym, ap, subst, ◌∙◌, arith}
+use Rattle.heap_words.specs.Contents.{Contents, contents, depth_of, stack_of}
 use Rattle.heap_words.specs.declared.map.Areas.{Areas}
 use Rattle.yak_model.specs.Spaces.{SpaceState}
-use Rattle.yak_model.specs.Stands.{Stands}
+use Rattle.yak_model.specs.Stands.{Stands, set_entries}
 use Rattle.remember_sets.specs.Filed.{SetsHold}
-use Rattle.relocation.specs.Moves.{AllMovable, Numbered, move_at}
+use Rattle.relocation.specs.Moves.{move_at, words_moved}
 use Rattle.escape_closure.specs.Ends.{PlanReady, References}
+use Rattle.escape_closure.proofs.Costs.{few_words, words_mid}
 use Rattle.escape_closure.proofs.Carries.{carried, carry_movable, movable_told}
 use Rattle.escape_closure.proofs.carrying.carry_out.Goals as goal
 
@@ -66,3 +65,28 @@ returns-clause-carried g c before s stands tight r =
     let from : depth_of old t ≡ depth_of before t = ap (λ (x : Contents). depth_of x t) r.ready.frame in
     let low : 1 ≤ depth_of before t = omega (arith, c.requires.depth, from) in
     carried m before old s stands t count tight c.requires.sound.areas c.requires.thread low r mid next last c.depth-innermost.result (c.depth-innermost.ensures.depth ∙ from) refs c.drop_slots_in.ensures.filed c.drop_slots_in.ensures.sets c.drop_slots_in.ensures.others c.move_all.ensures.objects c.move_all.ensures.only_heap
+
+pub returns-clause-reads : goal.returns-clause-reads
+returns-clause-reads g c before s stands tight r =
+    let m = c.args.map in
+    let t = c.args.thread in
+    let count = c.args.plan.count in
+    let areas = c.requires.sound.areas in
+    let old = contents m (g.W.Words.words c.args.words.now) in
+    let start = contents m (g.W.Words.words c.depth-innermost.new.words) in
+    let mid = contents m (g.W.Words.words c.correct_references.new.words) in
+    let next = contents m (g.W.Words.words c.drop_slots_in.new.words) in
+    let same : start ≡ old = ap (contents m) c.depth-innermost.ensures.words in
+    let refs = refer m old start mid t count same c.correct_references.ensures.references before s stands r.ready in
+    let from : depth_of old t ≡ depth_of before t = ap (λ (x : Contents). depth_of x t) r.ready.frame in
+    let low : 1 ≤ depth_of before t = omega (arith, c.requires.depth, from) in
+    let ready = subst (λ (x : Contents). PlanReady m before x s stands t count) (sym same) r.ready in
+    let first = c.correct_references.ensures.reads before s stands ready in
+    let stack = ap (λ (x : Contents). length (stack_of x t)) same in
+    let entries = ap (λ (x : Contents). set_entries x.heads) same in
+    let mid_entries = ap (λ (x : Contents). set_entries x.heads) refs.frame in
+    let heap : next.heap ≡ mid.heap = ap (λ (x : Contents). x.heap) c.drop_slots_in.ensures.others in
+    let scratch : next.scratch ≡ old.scratch = ap (λ (x : Contents). x.scratch) c.drop_slots_in.ensures.others ∙ ap (λ (x : Contents). x.scratch) refs.frame in
+    let moved : words_moved next.heap count (move_at next.scratch) ≡ words_moved old.heap count (move_at old.scratch) = ap (λ (h : List ℕ). words_moved h count (move_at next.scratch)) heap ∙ ap (λ (x : List ℕ). words_moved mid.heap count (move_at x)) scratch ∙ words_mid m before old s stands t count tight areas c.requires.thread low r mid refs in
+    let few = few_words m before old s stands t count tight areas c.requires.thread low r in
+    omega (arith, first, stack, entries, mid_entries, moved, few.0, few.1, c.depth-innermost.ensures.reads, c.drop_slots_in.ensures.reads, c.move_all.ensures.reads)

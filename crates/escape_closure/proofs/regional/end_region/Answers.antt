@@ -1,9 +1,10 @@
 use Rattle.std.proofs.Props.{props}
 use Rattle.std.proofs.Math.Logic.{∥∥₁_elim, ∥∥₁_map}
-use Rattle.std.proofs.Common.{◌≡◌, ℕ, ◌+◌, ◌*◌, ◌≤◌, List, refl, sym, ap, subst, ◌∙◌, arith}
+use Rattle.std.proofs.Common.{◌≡◌, ap, subst, ◌∙◌, arith}
 use Rattle.heap_words.specs.Contents.{Contents, contents, depth_of}
+use Rattle.region_pages.proofs.Shapes.{shape}
 use Rattle.escape_closure.specs.Ends.{RegionEnded}
-use Rattle.escape_closure.proofs.Outcomes.{region_from, region_readied, region_short}
+use Rattle.escape_closure.proofs.Outcomes.{region_costs, region_from, region_readied, region_short}
 use Rattle.escape_closure.proofs.regional.end_region.Goals as goal
 
 pub plan_moves-requires-clause-depth : goal.plan_moves-requires-clause-depth
@@ -75,3 +76,21 @@ returns-in-Ok-clause-ended g c s h recorded =
     let ready = region_readied m old s h c.args.thread c.begin_end.result mid b planned c.in-Ok.plan.count w.0 w.1 in
     let same : c.in-Ok.plan.count ≡ c.from.result = omega (arith, c.from.ensures) in
     subst (λ i. RegionEnded m old d s h c.args.thread i) same (region_from m old s h c.args.thread c.begin_end.result mid b d c.in-Ok.plan.count (c.finish_region.ensures.ended b.filing mid s b.later ready))
+
+pub returns-in-Ok-clause-reads : goal.returns-in-Ok-clause-reads
+returns-in-Ok-clause-reads g c s h recorded =
+    let m = c.args.map in
+    let t = c.args.thread in
+    let old = contents m (g.W.Words.words c.args.words.now) in
+    let mid = contents m (g.W.Words.words c.begin_end.new.words) in
+    let planned = contents m (g.W.Words.words c.plan_moves.new.words) in
+    let b = c.begin_end.ensures.begun s h recorded in
+    let w = c.in-Ok.ensures.planned s b.filing b.later c.begin_end.result b.written in
+    let ready = region_readied m old s h t c.begin_end.result mid b planned c.in-Ok.plan.count w.0 w.1 in
+    let start = c.begin_end.ensures.reads s h recorded in
+    let plan = c.plan_moves.ensures.reads s b.filing b.later c.begin_end.result b.written in
+    let last = c.finish_region.ensures.reads b.filing mid s b.later ready in
+    let costs = region_costs m old s h t c.begin_end.result mid b c.requires.sound.areas c.requires.thread c.requires.depth planned c.in-Ok.plan.count w.0 ready (shape m (g.W.Words.words c.begin_end.new.words) c.begin_end.ensures.sound).table in
+    let areas = c.requires.sound.areas in
+    let few = b.few in
+    omega (arith, start, plan, last, costs.used, costs.moved, costs.later, costs.entries, costs.stack, w.0, areas, few)

@@ -1,9 +1,7 @@
 use Rattle.std.proofs.Props.{props}
 use Rattle.std.proofs.Math.Logic.{∥∥₁_elim, ∥∥₁_map}
-use Rattle.std.proofs.Common.{◌≡◌, ℕ, ◌+◌, ◌*◌, ◌≤◌, List, refl, sym, ap, subst, ◌∙◌, arith}
-use Rattle.heap_words.specs.Map.{heap_length}
+use Rattle.std.proofs.Common.{◌≡◌, ap, subst, ◌∙◌, arith}
 use Rattle.heap_words.specs.Contents.{Contents, contents, depth_of}
-use Rattle.relocation.specs.Slide.{Runs}
 use Rattle.escape_closure.specs.Ends.{TightEnded}
 use Rattle.escape_closure.proofs.Outcomes.{tight_from, tight_readied}
 use Rattle.escape_closure.proofs.TightReadies.{tight_frame}

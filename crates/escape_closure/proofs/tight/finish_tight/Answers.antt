@@ -1,21 +1,21 @@
 use Rattle.std.proofs.Props.{props}
 use Rattle.std.proofs.Math.Logic.{∥∥₁_elim, ∥∥₁_map}
-use Rattle.std.proofs.Common.{◌≡◌, Bool, true, get_or, ℕ, ◌+◌, ◌*◌, ◌≤◌, ◌<◌, List, refl, sym, ap, subst, ◌∙◌, arith}
+use Rattle.std.proofs.Common.{◌≡◌, Bool, true, get_or, ℕ, ◌+◌, ◌≤◌, ◌<◌, List, sym, ap, subst, ◌∙◌, arith}
 use Rattle.heap_words.specs.declared.map.Areas.{Areas}
-use Rattle.heap_words.specs.Map.{heap_length, max_depth}
+use Rattle.heap_words.specs.Map.{heap_length}
 use Rattle.heap_words.specs.Contents.{Contents, contents, depth_of}
 use Rattle.epoch_lattice.specs.declared.Space.{Space}
 use Rattle.epoch_lattice.specs.declared.Space.TheVariants.{Region}
 use Rattle.epoch_lattice.specs.Lattice.{space_index}
 use Rattle.region_pages.proofs.Shapes.{shape}
-use Rattle.yak_model.specs.Spaces.{SpaceState, innermost}
+use Rattle.yak_model.specs.Spaces.{SpaceState}
 use Rattle.yak_model.specs.Stands.{Stands}
 use Rattle.yak_model.specs.Plans.{cleared, forwarded}
 use Rattle.relocation.specs.Moves.{HasHeader, move_at, size_at}
 use Rattle.relocation.specs.Slide.{IsPageOf}
 use Rattle.yak_model.specs.Placed.{space_word}
 use Rattle.escape_closure.specs.Ends.{region_word}
-use Rattle.escape_closure.specs.Leaving.{Carried, ReadyToMove, TightReady, objects_left}
+use Rattle.escape_closure.specs.Leaving.{Carried, ReadyToMove, objects_left}
 use Rattle.escape_closure.proofs.RunsTold.{header-told}
 use Rattle.escape_closure.proofs.TightReadies.{tight_frame, tight_ready}
 use Rattle.escape_closure.proofs.TightLeaves.{all_data, held_settled, lands, moved_is, settled_sets, settled_table, shape_before, tight_ended}

@@ -1,7 +1,7 @@
 use Rattle.std.proofs.Common.{◌≡◌, ◌≤◌, ℕ, ◌+◌, List, sym, subst, ap, ◌∙◌, arith}
 use Rattle.object_layout.specs.declared.TheConstants.{MAX_SPACE}
 use Rattle.heap_words.specs.Map.{heap_length}
-use Rattle.heap_words.specs.Contents.{Contents, contents}
+use Rattle.heap_words.specs.Contents.{contents}
 use Rattle.relocation.specs.Moves.{move_at}
 use Rattle.relocation.specs.Slide.{Runs, Sliding}
 use Rattle.escape_closure.proofs.TightReadies.{runs_written}

@@ -5,6 +5,7 @@ use Rattle.heap_words.specs.Map.{page_words, heap_length}
 use Rattle.heap_words.specs.Contents.{Contents, contents}
 use Rattle.yak_model.specs.State.{view}
 use Rattle.relocation.specs.Moves.{HasHeader, heap_of, move_at, scratch_of, size_at}
+use Rattle.relocation.specs.Slide.{IsPageOf, brought}
 use Rattle.relocation.proofs.Settled.{TableAfter}
 use Rattle.mark_compact.specs.Collecting.{Lain}
 use Rattle.mark_compact.specs.declared.sliding.TheConstants.{CONTROL_WORD}
@@ -52,7 +53,7 @@ returns-clause-lain g c was planned s h p led =
     let table : (contents m mid).table ≡ planned.table = ap (λ (x : Contents). x.table) c.move_all.ensures.only_heap ∙ ap (λ (x : Contents). x.table) led.frame in
     let fin-is : fin ≡ record first { heap = heap_of m mid; table = fin.table } = c.settle_pages.ensures.frame ∙ ap (λ (x : Contents). record x { table = fin.table }) c.move_all.ensures.only_heap in
     let holds = c.move_all.ensures.objects (view s) h.places.at (λ n. get_or planned.heap (h.places.at n + 2) 0) p.dropped p.lawful led.holds in
-    let put : (sc : List ℕ) (tb : List (List ℕ)) → scratch_of m mid ≡ sc → (contents m mid).table ≡ tb → ((k : ℕ) → k < count → size_at (heap_of m mid) (move_at sc k).new ≡ size_at p.marked.heap (move_at sc k).old) → ((k : ℕ) → k < count → (move_at sc k).new ≡ page_words m * ((move_at sc k).new / page_words m) + Rattle.relocation.specs.Slide.brought m p.marked.heap k (move_at sc) ((move_at sc k).new / page_words m)) → ((k : ℕ) → k < count → ((move_at sc k).new / page_words m < m.pages) × Rattle.relocation.specs.Slide.IsPageOf CONTROL_WORD tb ((move_at sc k).new / page_words m)) → TableAfter m CONTROL_WORD tb p.marked.heap fin.table count (move_at sc) m.pages = λ sc tb e f. rw (← e, ← f) (c.settle_pages.ensures.settled p.marked.heap) in
+    let put : (sc : List ℕ) (tb : List (List ℕ)) → scratch_of m mid ≡ sc → (contents m mid).table ≡ tb → ((k : ℕ) → k < count → size_at (heap_of m mid) (move_at sc k).new ≡ size_at p.marked.heap (move_at sc k).old) → ((k : ℕ) → k < count → (move_at sc k).new ≡ page_words m * ((move_at sc k).new / page_words m) + brought m p.marked.heap k (move_at sc) ((move_at sc k).new / page_words m)) → ((k : ℕ) → k < count → ((move_at sc k).new / page_words m < m.pages) × IsPageOf CONTROL_WORD tb ((move_at sc k).new / page_words m)) → TableAfter m CONTROL_WORD tb p.marked.heap fin.table count (move_at sc) m.pages = λ sc tb e f. rw (← e, ← f) (c.settle_pages.ensures.settled p.marked.heap) in
     let settled : TableAfter m CONTROL_WORD planned.table p.marked.heap fin.table count moves m.pages = put first.scratch planned.table scratch table (size-new m was s h planned count moves p areas first led c.requires.movable (heap_of m mid) done) (tight m was s h planned count moves p areas first led c.requires.movable (heap_of m mid) done) (control-now m was s h planned count moves p areas first led c.requires.movable (heap_of m mid) done) in
     subst (λ (x : Contents). Lain m was s h.places x count (move_at x.scratch)) (sym fin-is)
     (lain m was s h planned count moves p areas first led c.requires.movable (heap_of m mid) done holds fin.table (length-table m (g.W.Words.words c.settle_pages.new.words)) settled)
