@@ -14,3 +14,5 @@ pub mod Merging
 pub mod Listed
 pub mod SameTasks
 pub mod Walked
+pub mod Holding
+pub mod Nothing

@@ -96,6 +96,8 @@ fn list_counts(alloc: Global, caller: &mut CoreCaller<Image>, has_total: bool) -
 /// The heap of a caller that has counted.
 fn close_heap(caller: CoreCaller<Image>, has_total: bool) -> Core<Image>
     requires thread { caller.thread ≡ WORKER }
+    requires one { caller.core.map.threads ≡ 1 }
+    requires areas { IsAreas caller.core.map }
     ensures map { result.map ≡ caller.core.map }
     ensures holds { (known : KnownObjects) (done : List (List ℕ)) → ⟦<CoreCaller<Image> as Caller>⟧.knows caller known → IsProgress has_total (⟦<CoreCaller<Image> as Caller>⟧.standing caller) known done → (⟦<CoreCaller<Image> as Caller>⟧.standing caller).own.depth ≡ 0 → HoldsCounts result.map (contents result.map (⟦<Image as Words>⟧.words result.words)) done }
 {
