@@ -16,3 +16,4 @@ pub mod SameTasks
 pub mod Walked
 pub mod Holding
 pub mod Nothing
+pub mod Starting

@@ -19,7 +19,7 @@ use Rattle.heap_tables.specs.Merges.{MayMerge, SharesNone, news, one_if_none, su
 use Rattle.heap_tables.specs.Runs.{popped}
 use Rattle.group_jobs.specs.Counts.{has_word, word_counts}
 use Rattle.group_jobs.specs.Tallies.{AreShort, KnowsTally, Tallies, Tally}
-use Rattle.group_jobs.specs.declared.TheConstants.{INPUT_LIMIT, PART_SLOT, TOTAL_SLOT}
+use Rattle.group_jobs.specs.declared.TheConstants.{MOST_WORDS, PART_SLOT, TOTAL_SLOT}
 use Rattle.group_jobs.proofs.Counting.{get-word_counts, has_word-append, no_place, places_of-append, same_by_test, same_counts, told_of}
 use Rattle.group_jobs.proofs.Tallying.{AreOf, are_of, count_is, few_in_bucket, few_links, few_places}
 
@@ -66,7 +66,7 @@ short_count words short word some = elim (has_word words word) as (λ b. has_wor
 
 -- ---- what may be merged
 
-abbrev pub may_merge : (s : Standing) (known : KnownObjects) (done doing : List (List ℕ)) (t : Tallies s known done doing) → length done + length doing ≤ INPUT_LIMIT
+abbrev pub may_merge : (s : Standing) (known : KnownObjects) (done doing : List (List ℕ)) (t : Tallies s known done doing) → length done + length doing ≤ MOST_WORDS
     → MayMerge s known PART_SLOT TOTAL_SLOT t.name (t.total).name (word_counts doing) (word_counts done)
 may_merge s known done doing t few = record {
   from_slot = t.slot;

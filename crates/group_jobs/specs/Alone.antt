@@ -22,7 +22,7 @@ use Rattle.group_jobs.specs.Tasks.{AreTasks}
 use Rattle.group_jobs.specs.declared.count.CountError.{CountError}
 use Rattle.group_jobs.specs.declared.count.CountError.TheVariants.{OutOfHeap, Memory}
 use Rattle.group_jobs.specs.declared.tasks.Task.{Task}
-use Rattle.group_jobs.specs.declared.TheConstants.{INPUT_LIMIT, TOTAL_SLOT, WORKER}
+use Rattle.group_jobs.specs.declared.TheConstants.{MOST_WORDS, TOTAL_SLOT, WORKER}
 
 -- The worker's slot of the total refers to a table in the control space that counts these words.
 pub record HoldsTotal (s : SpaceState) (words : List (List ℕ)) : Type 0 where
@@ -62,7 +62,7 @@ opening_standing = record {
 pub record IsListed (has : Bool) (s : Standing) (known : KnownObjects) (done : List (List ℕ)) : Type 0 where
   pub progress : IsProgress has s known done
   pub short : AreShort done
-  pub few : length done ≤ INPUT_LIMIT
+  pub few : length done ≤ MOST_WORDS
 
 abbrev pub HasListed : Bool → Standing → (KnownObjects → Type 0) → Type 0
 HasListed has s knows = (known : KnownObjects) × (done : List (List ℕ)) × knows known × IsListed has s known done

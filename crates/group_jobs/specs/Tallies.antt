@@ -16,7 +16,7 @@ use Rattle.heap_tables.specs.Runs.{slot_in, stack_in}
 use Rattle.group_jobs.specs.Counts.{word_counts}
 use Rattle.group_jobs.specs.Tasks.{task_bytes}
 use Rattle.group_jobs.specs.declared.tasks.Task.{Task}
-use Rattle.group_jobs.specs.declared.TheConstants.{INPUT_LIMIT, PART_SLOT, TOTAL_SLOT}
+use Rattle.group_jobs.specs.declared.TheConstants.{MOST_WORDS, PART_SLOT, TOTAL_SLOT}
 
 -- ---- words
 
@@ -86,11 +86,11 @@ pub record Tallies (s : Standing) (known : KnownObjects) (done doing : List (Lis
 
 -- So many words were counted, and so many more may come.
 abbrev pub HasTally : Standing → (KnownObjects → Type 0) → ℕ → Type 0
-HasTally s knows more = (known : KnownObjects) × (done : List (List ℕ)) × knows known × Tally s known done × (length done + more ≤ INPUT_LIMIT)
+HasTally s knows more = (known : KnownObjects) × (done : List (List ℕ)) × knows known × Tally s known done × (length done + more ≤ MOST_WORDS)
 
 abbrev pub HasTallies : Standing → (KnownObjects → Type 0) → ℕ → Type 0
 HasTallies s knows more =
-    (known : KnownObjects) × (done : List (List ℕ)) × (doing : List (List ℕ)) × knows known × Tallies s known done doing × (length done + (length doing + more) ≤ INPUT_LIMIT)
+    (known : KnownObjects) × (done : List (List ℕ)) × (doing : List (List ℕ)) × knows known × Tallies s known done doing × (length done + (length doing + more) ≤ MOST_WORDS)
 
 -- A known map has the tables with these counts.
 abbrev pub KnowsTally : Standing → (KnownObjects → Type 0) → List (List ℕ) → Type 0
@@ -114,7 +114,7 @@ IsProgress false s known done = (length (stack_in s) ≡ TOTAL_SLOT) × (done �
 
 abbrev pub HasProgress : Bool → Standing → (KnownObjects → Type 0) → ℕ → Type 0
 HasProgress has s knows more =
-    (known : KnownObjects) × (done : List (List ℕ)) × knows known × IsProgress has s known done × (length done + more ≤ INPUT_LIMIT)
+    (known : KnownObjects) × (done : List (List ℕ)) × knows known × IsProgress has s known done × (length done + more ≤ MOST_WORDS)
 
 abbrev pub KnowsProgress : Bool → Standing → (KnownObjects → Type 0) → List (List ℕ) → Type 0
 KnowsProgress has s knows done = (known : KnownObjects) × knows known × IsProgress has s known done

@@ -42,12 +42,6 @@ pub enum CountError<H> {
     Memory,
 }
 
-impl<H> From<NoMemory> for CountError<H> {
-    fn from(error: NoMemory) -> CountError<H> {
-        CountError::Memory
-    }
-}
-
 /// A heap of so many pages in which one worker counts.
 fn open_heap(alloc: Global, pages: u32) -> Result<CoreCaller<Image>, NoMemory>
     requires pages { IsAreas (record { pages = pages; threads = 1 }) }
@@ -120,12 +114,18 @@ pub fn count_one(alloc: Global, pages: u32, lines: u32, bytes: &[u8]) -> Result<
     ensures heap { IfOk result (λ counted. HoldsCounts counted.core.map (contents counted.core.map (⟦<Image as Words>⟧.words counted.core.words)) (words_of bytes.now)) }
     ensures why { IfErr result (λ error. TellsWhy (record { pages = pages; threads = 1 }) lines bytes.now error) }
 {
-    let tasks = cut_tasks(alloc, bytes, lines)?;
-    let mut caller = open_heap(alloc, pages)?;
+    let Ok(tasks) = cut_tasks(alloc, bytes, lines) else {
+        return Err(CountError::Memory);
+    };
+    let Ok(mut caller) = open_heap(alloc, pages) else {
+        return Err(CountError::Memory);
+    };
     let Ok(has_total) = count_tasks(&mut caller, bytes, &tasks) else {
         return Err(why_refused(caller));
     };
-    let list = list_counts(alloc, &mut caller, has_total)?;
+    let Ok(list) = list_counts(alloc, &mut caller, has_total) else {
+        return Err(CountError::Memory);
+    };
     let core = close_heap(caller, has_total);
     Ok(CountedAlone { list, core })
 }

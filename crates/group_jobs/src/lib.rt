@@ -25,6 +25,8 @@ pub use words::Words;
 
 /// The greatest number of bytes of a text that is counted.
 pub const INPUT_LIMIT: usize = 16777216;
+/// The most words of a text: no more than the places before, between and after its bytes.
+pub const MOST_WORDS: usize = 16777217;
 /// The slot of a caller's stack with the table of all that it counted. Below it is the root.
 pub const TOTAL_SLOT: u32 = 1;
 /// The slot with the table of the task at hand.

@@ -11,7 +11,7 @@ ghost use Rattle.heap_tables.specs.Runs.{KeepsKnown, KnowsSome, stack_in};
 ghost use Rattle.group_jobs.specs.Goings.{Went, WentOut};
 ghost use Rattle.group_jobs.specs.Tallies.{AreShort, HasProgress, HasTallies, HasTally, IsProgress, KeepsPlace, KnowsProgress, KnowsTallies, KnowsTally, Tallies, Tally, AreWithin, is_busy, new_total, part_room, task_room, tasks_room, words_in, words_room};
 ghost use Rattle.group_jobs.specs.Tasks.{task_bytes};
-ghost use Rattle.group_jobs.specs.declared.TheConstants.{INPUT_LIMIT, OBJECTS_FOR_WORD, PART_SLOT, TOTAL_SLOT};
+ghost use Rattle.group_jobs.specs.declared.TheConstants.{MOST_WORDS, OBJECTS_FOR_WORD, PART_SLOT, TOTAL_SLOT};
 
 use crate::epochs::{begin, end};
 use crate::tasks::Task;
@@ -32,7 +32,7 @@ fn count_word<C: Caller>(caller: &mut C, word: &[u8]) -> Result<(), OutOfHeap>
     requires slots { length (stack_in (C.standing caller.old)) ≡ PART_SLOT + 1 }
     ensures went { OnOk result (Went C.base C.tells C.tells_known C.standing caller.old caller.new (key_words word.now + entry_words)) }
     ensures place { OnOk result (KeepsPlace (C.standing caller.old).own (C.standing caller.new).own 2) }
-    ensures counted { OnOk result ((known : KnownObjects) (done doing : List (List ℕ)) → C.knows caller.old known → Tallies (C.standing caller.old) known done doing → length done + (length doing + 1) ≤ INPUT_LIMIT → KnowsTallies (C.standing caller.new) (C.knows caller.new) done (doing ++ word.now ∷ [])) }
+    ensures counted { OnOk result ((known : KnownObjects) (done doing : List (List ℕ)) → C.knows caller.old known → Tallies (C.standing caller.old) known done doing → length done + (length doing + 1) ≤ MOST_WORDS → KnowsTallies (C.standing caller.new) (C.knows caller.new) done (doing ++ word.now ∷ [])) }
     ensures out { OnErr result (WentOut C.base C.tells C.tells_known C.standing caller.old caller.new (C.standing caller.old).own.depth (key_words word.now + entry_words)) }
 {
     add(caller, PART_SLOT, word, 1)
@@ -47,7 +47,7 @@ fn count_words<C: Caller>(caller: &mut C, bytes: &[u8]) -> Result<(), OutOfHeap>
     requires slots { length (stack_in (C.standing caller.old)) ≡ PART_SLOT + 1 }
     ensures went { OnOk result (Went C.base C.tells C.tells_known C.standing caller.old caller.new (part_room (words_of bytes.now))) }
     ensures place { OnOk result (KeepsPlace (C.standing caller.old).own (C.standing caller.new).own (2 * length (words_of bytes.now))) }
-    ensures counted { OnOk result ((known : KnownObjects) (done doing : List (List ℕ)) → C.knows caller.old known → Tallies (C.standing caller.old) known done doing → length done + (length doing + length (words_of bytes.now)) ≤ INPUT_LIMIT → KnowsTallies (C.standing caller.new) (C.knows caller.new) done (doing ++ words_of bytes.now)) }
+    ensures counted { OnOk result ((known : KnownObjects) (done doing : List (List ℕ)) → C.knows caller.old known → Tallies (C.standing caller.old) known done doing → length done + (length doing + length (words_of bytes.now)) ≤ MOST_WORDS → KnowsTallies (C.standing caller.new) (C.knows caller.new) done (doing ++ words_of bytes.now)) }
     ensures out { OnErr result (WentOut C.base C.tells C.tells_known C.standing caller.old caller.new (C.standing caller.old).own.depth (part_room (words_of bytes.now))) }
 {
     let mut words = Words::of(bytes);
@@ -81,8 +81,8 @@ fn close_part<C: Caller>(caller: &mut C) -> Result<(), OutOfHeap>
     requires slots { length (stack_in (C.standing caller.old)) ≡ PART_SLOT + 1 }
     ensures slots { OnOk result (length (stack_in (C.standing caller.new)) ≡ PART_SLOT) }
     ensures depth { OnOk result ((C.standing caller.new).own.depth ≡ (C.standing caller.old).own.depth) }
-    ensures closed { OnOk result ((known : KnownObjects) (done doing : List (List ℕ)) → C.knows caller.old known → Tallies (C.standing caller.old) known done doing → length done + length doing ≤ INPUT_LIMIT → KnowsTally (C.standing caller.new) (C.knows caller.new) (done ++ doing) × Went C.base C.tells C.tells_known C.standing caller.old caller.new (entry_words * length doing) × ((C.standing caller.new).own.made ≤ (C.standing caller.old).own.made + length doing)) }
-    ensures out { OnErr result ((known : KnownObjects) (done doing : List (List ℕ)) → C.knows caller.old known → Tallies (C.standing caller.old) known done doing → length done + length doing ≤ INPUT_LIMIT → WentOut C.base C.tells C.tells_known C.standing caller.old caller.new (C.standing caller.old).own.depth (entry_words * length doing)) }
+    ensures closed { OnOk result ((known : KnownObjects) (done doing : List (List ℕ)) → C.knows caller.old known → Tallies (C.standing caller.old) known done doing → length done + length doing ≤ MOST_WORDS → KnowsTally (C.standing caller.new) (C.knows caller.new) (done ++ doing) × Went C.base C.tells C.tells_known C.standing caller.old caller.new (entry_words * length doing) × ((C.standing caller.new).own.made ≤ (C.standing caller.old).own.made + length doing)) }
+    ensures out { OnErr result ((known : KnownObjects) (done doing : List (List ℕ)) → C.knows caller.old known → Tallies (C.standing caller.old) known done doing → length done + length doing ≤ MOST_WORDS → WentOut C.base C.tells C.tells_known C.standing caller.old caller.new (C.standing caller.old).own.depth (entry_words * length doing)) }
 {
     merge(caller, PART_SLOT, TOTAL_SLOT)?;
     pop(caller);
@@ -100,7 +100,7 @@ fn count_part<C: Caller>(caller: &mut C, bytes: &[u8]) -> Result<(), OutOfHeap>
     ensures slots { OnOk result (length (stack_in (C.standing caller.new)) ≡ PART_SLOT) }
     ensures depth { OnOk result ((C.standing caller.new).own.depth ≡ (C.standing caller.old).own.depth) }
     ensures made { OnOk result ((C.standing caller.new).own.made ≤ (C.standing caller.old).own.made + (3 * length (words_of bytes.now) + 1)) }
-    ensures counted { OnOk result ((known : KnownObjects) (done : List (List ℕ)) → C.knows caller.old known → Tally (C.standing caller.old) known done → length done + length (words_of bytes.now) ≤ INPUT_LIMIT → KnowsTally (C.standing caller.new) (C.knows caller.new) (done ++ words_of bytes.now)) }
+    ensures counted { OnOk result ((known : KnownObjects) (done : List (List ℕ)) → C.knows caller.old known → Tally (C.standing caller.old) known done → length done + length (words_of bytes.now) ≤ MOST_WORDS → KnowsTally (C.standing caller.new) (C.knows caller.new) (done ++ words_of bytes.now)) }
     ensures out { OnErr result (WentOut C.base C.tells C.tells_known C.standing caller.old caller.new (C.standing caller.old).own.depth (table_words + words_room (words_of bytes.now))) }
 {
     open_part(caller)?;
@@ -121,7 +121,7 @@ fn count_epoch<C: Caller>(caller: &mut C, bytes: &[u8]) -> Result<(), OutOfHeap>
     ensures slots { OnOk result (length (stack_in (C.standing caller.new)) ≡ PART_SLOT) }
     ensures depth { OnOk result ((C.standing caller.new).own.depth ≡ 0) }
     ensures made { OnOk result ((C.standing caller.new).own.made ≤ (C.standing caller.old).own.made + (3 * length (words_of bytes.now) + 1)) }
-    ensures counted { OnOk result ((known : KnownObjects) (done : List (List ℕ)) → C.knows caller.old known → Tally (C.standing caller.old) known done → length done + length (words_of bytes.now) ≤ INPUT_LIMIT → KnowsTally (C.standing caller.new) (C.knows caller.new) (done ++ words_of bytes.now)) }
+    ensures counted { OnOk result ((known : KnownObjects) (done : List (List ℕ)) → C.knows caller.old known → Tally (C.standing caller.old) known done → length done + length (words_of bytes.now) ≤ MOST_WORDS → KnowsTally (C.standing caller.new) (C.knows caller.new) (done ++ words_of bytes.now)) }
     ensures out { OnErr result (WentOut C.base C.tells C.tells_known C.standing caller.old caller.new 1 (table_words + words_room (words_of bytes.now))) }
 {
     begin(caller);
@@ -181,7 +181,7 @@ fn count_task<C: Caller>(caller: &mut C, has_total: bool, bytes: &[u8]) -> Resul
     ensures depth { OnOk result ((C.standing caller.new).own.depth ≡ 0) }
     ensures made { OnOk result ((C.standing caller.new).own.made ≤ (C.standing caller.old).own.made + OBJECTS_FOR_WORD * length (words_of bytes.now)) }
     ensures has { IfOk result (λ has. has ≡ (has_total || is_busy (words_of bytes.now))) }
-    ensures counted { IfOk result (λ has. (known : KnownObjects) (done : List (List ℕ)) → C.knows caller.old known → IsProgress has_total (C.standing caller.old) known done → length done + length (words_of bytes.now) ≤ INPUT_LIMIT → KnowsProgress has (C.standing caller.new) (C.knows caller.new) (done ++ words_of bytes.now)) }
+    ensures counted { IfOk result (λ has. (known : KnownObjects) (done : List (List ℕ)) → C.knows caller.old known → IsProgress has_total (C.standing caller.old) known done → length done + length (words_of bytes.now) ≤ MOST_WORDS → KnowsProgress has (C.standing caller.new) (C.knows caller.new) (done ++ words_of bytes.now)) }
     ensures out { OnErr result (WentOut C.base C.tells C.tells_known C.standing caller.old caller.new 1 (new_total has_total true + task_room (words_of bytes.now))) }
 {
     if !has_words(bytes) {

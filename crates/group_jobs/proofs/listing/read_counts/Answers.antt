@@ -12,7 +12,7 @@ use Rattle.heap_tables.specs.Merges.{done_at}
 use Rattle.heap_tables.proofs.RunOn.{ran_more}
 use Rattle.group_jobs.specs.Counts.{word_counts}
 use Rattle.group_jobs.specs.Listing.{IsShortTally}
-use Rattle.group_jobs.specs.declared.TheConstants.{INPUT_LIMIT, TOTAL_SLOT}
+use Rattle.group_jobs.specs.declared.TheConstants.{MOST_WORDS, TOTAL_SLOT}
 use Rattle.group_jobs.proofs.Listed.{entry_of, gets_on, listed_next, next_place, read_entries}
 use Rattle.group_jobs.proofs.Merging.{short_count}
 use Rattle.group_jobs.proofs.Tallying.{few_in_bucket}

@@ -3,7 +3,7 @@ use Rattle.yak_model.specs.Private.{KnownObjects}
 use Rattle.yak_model.specs.Room.{table_words}
 use Rattle.group_jobs.specs.Goings.{Went}
 use Rattle.group_jobs.specs.Tallies.{KnowsProgress, is_busy, new_total, tasks_room, words_in}
-use Rattle.group_jobs.specs.declared.TheConstants.{INPUT_LIMIT, OBJECTS_FOR_WORD}
+use Rattle.group_jobs.specs.declared.TheConstants.{MOST_WORDS, OBJECTS_FOR_WORD}
 use Rattle.group_jobs.proofs.tallies.count_tasks.Given as goal
 
 abbrev pub invariant-tasks : goal.invariant-tasks

@@ -9,11 +9,11 @@ use Rattle.heap_tables.proofs.Counted.{bucket_small}
 use Rattle.heap_tables.proofs.OnResult.{ok_map}
 use Rattle.group_jobs.specs.Counts.{word_counts}
 use Rattle.group_jobs.specs.Tallies.{Tallies}
-use Rattle.group_jobs.specs.declared.TheConstants.{INPUT_LIMIT, PART_SLOT}
+use Rattle.group_jobs.specs.declared.TheConstants.{MOST_WORDS, PART_SLOT}
 use Rattle.group_jobs.proofs.Tallying.{count_is, few_in_bucket, few_places, tallies_more}
 use Rattle.group_jobs.proofs.tallies.count_word.Goals as goal
 
-may_count : (s : Standing) (known : KnownObjects) (done doing : List (List ℕ)) (word : List ℕ) (t : Tallies s known done doing) → length done + (length doing + 1) ≤ INPUT_LIMIT → MayCount s known PART_SLOT word 1 t.name (word_counts doing)
+may_count : (s : Standing) (known : KnownObjects) (done doing : List (List ℕ)) (word : List ℕ) (t : Tallies s known done doing) → length done + (length doing + 1) ≤ MOST_WORDS → MayCount s known PART_SLOT word 1 t.name (word_counts doing)
 may_count s known done doing word t few = record {
   slot = t.slot;
   is_table = t.table;
