@@ -1,5 +1,6 @@
 -- The counts of a table after one was raised.
-use Rattle.std.proofs.Common.{zero, suc, ◌≡◌, ◌≢◌, ◌⊎◌, inl, inr, ℕ, ◌+◌, ◌*◌, ◌%◌, ◌<◌, ◌≤◌, List, [], ◌∷◌, ◌++◌, refl, ◌∙◌, ap, sym, subst, Some, None, Option, Bool, true, false, cond, true≢false, eqb, arith, IsSome}
+use Rattle.std.proofs.Common.{◌≡◌, ◌≢◌, inl, inr, ℕ, ◌+◌, ◌*◌, ◌%◌, ◌<◌, List, [], ◌∷◌, ◌++◌, refl, ◌∙◌, ap, sym, subst, Some, None, Option, false, cond, true≢false, arith, IsSome}
+use Rattle.yak_model.specs.declared.TheConstants.{BUCKETS, HASH_FACTOR}
 use Rattle.std.specs.List.{fold}
 use Rattle.std.specs.declared.cmp.Ordering.{Ordering}
 use Rattle.std.specs.declared.cmp.Ordering.TheVariants.{Less, Equal, Greater}
@@ -11,15 +12,15 @@ use Rattle.object_layout.specs.declared.names.Name.{Name}
 use Rattle.yak_model.specs.Private.{KnownObjects}
 use Rattle.yak_model.specs.Tables.{bucket_of}
 use Rattle.yak_model.specs.Tables.{WordCounts, HasCount, IsCountTable, IsTable, LacksWord, Link, AreDifferent}
-use Rattle.heap_tables.specs.Adds.{AddsCount, Grows, IsAddedTo, IsNoEntry, MakesForNew, with_bucket}
+use Rattle.heap_tables.specs.Adds.{AddsCount, Grows, IsAddedTo, IsNoEntry, MakesForNew, StayNowhere, with_bucket}
 use Rattle.yak_model.specs.declared.datum.Datum.{Datum}
 use Rattle.yak_model.specs.Standing.{Standing}
-use Rattle.heap_tables.specs.Counted.{KeepsApart, MakesUncounted, count_of, or_zero, raised}
+use Rattle.heap_tables.specs.Counted.{MakesUncounted, count_of, or_zero, raised}
 use Rattle.heap_tables.proofs.Linked.{table_grows}
 use Rattle.heap_tables.proofs.Places.{word_cases}
-use Rattle.heap_tables.proofs.Raised.{distinct_parts, in_bucket, eqb_cases, with_sum}
+use Rattle.heap_tables.proofs.Raised.{distinct_parts, eqb_cases, with_sum}
 
-word_tie : (v w : List ℕ) → v ≢ w → eq_by_cmp (slice_cmp nat_cmp) v w ≡ false
+pub word_tie : (v w : List ℕ) → v ≢ w → eq_by_cmp (slice_cmp nat_cmp) v w ≡ false
 word_tie v w ne = by_order (slice_cmp nat_cmp v w) refl
   where
     by_order : (o : Ordering) → slice_cmp nat_cmp v w ≡ o → is_eq (slice_cmp nat_cmp v w) ≡ false
@@ -27,7 +28,7 @@ word_tie v w ne = by_order (slice_cmp nat_cmp v w) refl
     by_order Equal e = absurd (ne (slice_cmp-IsAntisymmetric nat_cmp-IsAntisymmetric v w e))
     by_order Greater e = ap is_eq e
 
-count_same : (counts : WordCounts) (w : List ℕ) (n : ℕ) → get (insert counts w n) w ≡ Some n
+pub count_same : (counts : WordCounts) (w : List ℕ) (n : ℕ) → get (insert counts w n) w ≡ Some n
 count_same counts w n = get-insert nat_list_cmp_total counts w n w ∙ ap (λ b. cond b (Some n) (get counts w)) (ap is_eq (tied_itself nat_list_cmp_total w))
 
 pub count_other : (counts : WordCounts) (w v : List ℕ) (n : ℕ) → v ≢ w → get (insert counts w n) v ≡ get counts v
@@ -69,7 +70,7 @@ kept_lack v (p ∷ passed) rest link n h = (h.0, kept_lack v passed rest link n 
 lacks_apart : (v : List ℕ) (word : List ℕ) (link : Link) → link.word ≡ word → v ≢ word → link.word ≢ v
 lacks_apart v word link same ne e = ne (sym e ∙ same)
 
-module _ (known : KnownObjects) (name : Name) (counts : WordCounts) (table : IsCountTable known name counts) (word : List ℕ) (n : ℕ) (bound : bucket_of word < 128) where
+module _ (known : KnownObjects) (name : Name) (counts : WordCounts) (table : IsCountTable known name counts) (word : List ℕ) (n : ℕ) (bound : bucket_of word < BUCKETS) where
   -- the count that the table has of a word that stands in it
   pub count_found : (m : ℕ) → HasCount word (table.buckets (bucket_of word)) m → count_of counts word ≡ m
   count_found m h = by_option (get counts word) refl
@@ -92,7 +93,7 @@ module _ (known : KnownObjects) (name : Name) (counts : WordCounts) (table : IsC
         let before : LacksWord word a.0 = subst (λ w. LacksWord w a.0) a.4 distinct.0 in
         let old = count_found (a.1).count (subst (λ ls. HasCount word ls (a.1).count) (sym a.3) (at_or_before word a.0 a.2 a.1 before a.4)) in
         subst (λ ls. HasCount word ls (count_of counts word + n)) (sym a.5)
-          (subst (λ m. HasCount word (a.0 ++ with_sum a.1 n ∷ a.2) (m + n)) (sym old) (at_or_before word a.0 a.2 (with_sum a.1 n) before a.4))
+        (subst (λ m. HasCount word (a.0 ++ with_sum a.1 n ∷ a.2) (m + n)) (sym old) (at_or_before word a.0 a.2 (with_sum a.1 n) before a.4))
     | inr b ↦
         let old = count_lacking b.0 in
         let sum : (b.1.0).count ≡ count_of counts word + n = omega (arith, old, b.1.2) in
@@ -123,13 +124,13 @@ module _ (known : KnownObjects) (name : Name) (counts : WordCounts) (table : IsC
     | inl same ↦
         let sum : count_of counts word + n ≡ m = same_some _ m (sym (ap (get (raised counts word n)) same ∙ count_same counts word (count_of counts word + n)) ∙ e) in
         at_bucket (λ ls. HasCount v ls m) added.links (bucket_of v)
-          (λ _. subst (λ k. HasCount v added.links k) sum (subst (λ w. HasCount w added.links (count_of counts word + n)) (sym same) (new_count added.links added.adds)))
-          (λ o. absurd (o (ap bucket_of same)))
+        (λ _. subst (λ k. HasCount v added.links k) sum (subst (λ w. HasCount w added.links (count_of counts word + n)) (sym same) (new_count added.links added.adds)))
+        (λ o. absurd (o (ap bucket_of same)))
     | inr ne ↦
         let old = table.counted v m (sym (count_other counts word v (count_of counts word + n) ne) ∙ e) in
         at_bucket (λ ls. HasCount v ls m) added.links (bucket_of v)
-          (λ s. other_count added.links added.adds v ne m (subst (λ c. HasCount v (table.buckets c) m) s old))
-          (λ o. old)
+        (λ s. other_count added.links added.adds v ne m (subst (λ c. HasCount v (table.buckets c) m) s old))
+        (λ o. old)
   ]
 
   pub added_absent : (knows : KnownObjects → Type 0) (added : IsAddedTo known word n name table.buckets knows) (v : List ℕ) → get (raised counts word n) v ≡ None → LacksWord v (with_bucket table.buckets (bucket_of word) added.links (bucket_of v))
@@ -138,8 +139,8 @@ module _ (known : KnownObjects) (name : Name) (counts : WordCounts) (table : IsC
     | inr ne ↦
         let old = table.absent v (sym (count_other counts word v (count_of counts word + n) ne) ∙ e) in
         at_bucket (LacksWord v) added.links (bucket_of v)
-          (λ s. other_lack added.links added.adds v ne (subst (λ c. LacksWord v (table.buckets c)) s old))
-          (λ o. old)
+        (λ s. other_lack added.links added.adds v ne (subst (λ c. LacksWord v (table.buckets c)) s old))
+        (λ o. old)
   ]
 
   abbrev pub added_counts : (knows : KnownObjects → Type 0) (added : IsAddedTo known word n name table.buckets knows) → IsCountTable added.after name (raised counts word n)
@@ -151,20 +152,15 @@ module _ (known : KnownObjects) (name : Name) (counts : WordCounts) (table : IsC
     absent = added_absent knows added;
   }
 
-  pub added_apart : (knows : KnownObjects → Type 0) (added : IsAddedTo known word n name table.buckets knows) → KeepsApart known table.buckets (added_counts knows added).buckets
-  unfolding added_counts
-  added_apart knows added x kx free c h =
-      in_bucket (λ _ ls. IsNoEntry x ls) table.buckets (bucket_of word) added.links (added.fresh x kx (free (bucket_of word) bound)) (λ d below _. free d below) c h
-
-pub bucket_small : (word : List ℕ) → bucket_of word < 128
+pub bucket_small : (word : List ℕ) → bucket_of word < BUCKETS
 bucket_small word = small word 0 (omega arith)
   where
-    small : (word : List ℕ) (h : ℕ) → h < 128 → fold (λ k b. (31 * k + b) % 128) h word < 128
+    small : (word : List ℕ) (h : ℕ) → h < BUCKETS → fold (λ k b. (HASH_FACTOR * k + b) % BUCKETS) h word < BUCKETS
     small [] h bound = bound
-    small (b ∷ rest) h bound = small rest ((31 * h + b) % 128) (omega arith)
+    small (b ∷ rest) h bound = small rest ((HASH_FACTOR * h + b) % BUCKETS) (omega arith)
 
 -- a table without entries counts no words
-pub empty_counts : (known : KnownObjects) (name : Name) (heads : List Datum) → IsTable known name heads (λ _. []) → IsCountTable known name empty
+abbrev pub empty_counts : (known : KnownObjects) (name : Name) (heads : List Datum) → IsTable known name heads (λ _. []) → IsCountTable known name empty
 empty_counts known name heads table = record {
   heads = heads;
   buckets = λ _. [];
@@ -174,7 +170,7 @@ empty_counts known name heads table = record {
 }
 
 -- the same counts where each object stays
-pub grown_counts : (m n : KnownObjects) → Grows m n → (name : Name) (counts : WordCounts) → IsCountTable m name counts → IsCountTable n name counts
+abbrev pub grown_counts : (m n : KnownObjects) → Grows m n → (name : Name) (counts : WordCounts) → IsCountTable m name counts → IsCountTable n name counts
 grown_counts m n grows name counts table = record {
   heads = table.heads;
   buckets = table.buckets;
@@ -198,3 +194,9 @@ makes_uncounted s after known name counts table word makes = (λ some. by_option
     by_option : (o : Option ℕ) → get counts word ≡ o → IsSome o → after.own.made ≡ s.own.made
     by_option None e some = let h = is_some_none some in absurd h
     by_option (Some k) e some = makes.0 k (table.counted word k e)
+
+pub stay_nowhere : (known : KnownObjects) (buckets : ℕ → List Link) (word : List ℕ) (n : ℕ) (name : Name) (knows : KnownObjects → Type 0) (added : IsAddedTo known word n name buckets knows) → StayNowhere known buckets (with_bucket buckets (bucket_of word) added.links)
+stay_nowhere known buckets word n name knows added other k away c h = elim (eqb_cases (bucket_of word) c) [
+  | inl s ↦ subst (λ t. IsNoEntry other (cond t added.links (buckets c))) (sym s.0) (added.fresh other k (away (bucket_of word) (bucket_small word)))
+  | inr o ↦ subst (λ t. IsNoEntry other (cond t added.links (buckets c))) (sym o.0) (away c h)
+]

@@ -1,5 +1,5 @@
 -- What the calls of a caller leave.
-use Rattle.std.proofs.Common.{zero, suc, ◌≡◌, ◌≢◌, ◌⊎◌, ℕ, ◌+◌, ◌-◌, ◌^◌, ◌<◌, ◌≤◌, ◌↔◌, Bool, true, false, not, cond, leb, ltb, List, [], ◌∷◌, ◌++◌, true≢false, length, get_or, set, replicate, take, refl, ◌∙◌, arith, ap, sym, subst, inl, inr, Option, Some, None, IsSome, is_some, MatchOption, length-set, get_or-set_same, length-append, rules}
+use Rattle.std.proofs.Common.{zero, suc, ◌≡◌, ◌⊎◌, ℕ, ◌+◌, ◌-◌, ◌<◌, ◌≤◌, ◌↔◌, Bool, true, false, not, cond, leb, ltb, List, [], ◌∷◌, ◌++◌, length, get_or, set, replicate, take, refl, ◌∙◌, arith, ap, sym, subst, inl, inr, Option, Some, None, is_some, MatchOption, get_or-set_same, length-append}
 use Rattle.std.proofs.Math.Seq.{take-append_seam}
 use Rattle.std.proofs.lemmas.List.{get_or_push, get_or_append_left}
 use Rattle.std.proofs.lemmas.Bool.Decides.{nat_tests}
@@ -16,9 +16,9 @@ use Rattle.object_layout.specs.declared.replies.Reply.{Reply}
 use Rattle.object_layout.specs.declared.replies.Reply.TheVariants as reply
 use Rattle.yak_model.specs.declared.datum.Datum.{Datum}
 use Rattle.yak_model.specs.declared.datum.Datum.TheVariants as datum
-use Rattle.yak_model.specs.Graph.{Content, Does, Fields, Graph, IsThread, Thread, idle, is_reference, fields_at, fields_or_none, make, next_name, push, put_field, first_refusal, refusal_of, shown, slot_of, stack_of, thread_of, with_object, with_thread}
-use Rattle.yak_model.specs.Private.{IsKnown, IsMade, KnownAfter, KnownObjects, OwnCall, StoresKnown}
-use Rattle.yak_model.specs.Standing.{Standing, MovesKnown, Stays, Counted, AddsEntries, counted_on, entries_of, words_made}
+use Rattle.yak_model.specs.Graph.{Content, Does, Fields, Graph, IsThread, Thread, idle, is_reference, fields_at, fields_or_none, next_name, put_field, refusal_of, shown, slot_of, stack_of, thread_of, with_object, with_thread}
+use Rattle.yak_model.specs.Private.{IsMade, KnownObjects, OwnCall, StoresKnown}
+use Rattle.yak_model.specs.Standing.{Standing, MovesKnown}
 use Rattle.heap_tables.specs.Runs.{IsInSlot, stack_in, slot_in, pushed, popped, next_of, IsShown}
 
 leb_false : (a b : ℕ) → b < a → leb a b ≡ false
@@ -70,7 +70,6 @@ module _ (s : Standing) (known : KnownObjects) (asked : Call) (said : Reply) (ow
       ap (fields_at m.before) (slot_before i ∙ h.0)
       ∙ ap fields_or_none (m.private.contents name (ap is_some h.1) ∙ h.1)
 
-
   -- the slots of the stack, as the tests of a call see them
   good_slot : (i : ℕ) → i < length (stack_in s) → leb (length (stack_of m.before s.thread)) i ≡ false
   good_slot i h = ap (λ (st : List Datum). leb (length st) i) stack_before ∙ leb_false _ _ h
@@ -96,10 +95,10 @@ module _ (s : Standing) (known : KnownObjects) (said : Reply) (own : Thread) (kn
       → own ≡ pushed s.own (get_or values f datum.Null)
   load_effect i f m name values slot bound room =
       let free : refusal_of m.before s.thread (call.Load i f) ≡ None =
-        free_four _ _ _ _ _ _ _ _ (good_slot s known _ said own knows m i (in_bounds (stack_in s) i name slot.0))
-        (good_reference s known _ said own knows m i name slot.0)
-        (good_field s known _ said own knows m i f name values slot bound)
-        (not_full s known _ said own knows m room) in
+      free_four _ _ _ _ _ _ _ _ (good_slot s known _ said own knows m i (in_bounds (stack_in s) i name slot.0))
+      (good_reference s known _ said own knows m i name slot.0)
+      (good_field s known _ said own knows m i f name values slot bound)
+      (not_full s known _ said own knows m room) in
       let d : Does m.before s.thread (call.Load i f) said m.later = unrefused _ _ _ free m.moves.1 in
       own_with s known _ said own knows m (λ o. pushed o (get_or (fields_at m.before (slot_of m.before s.thread i)) f datum.Null)) d.1
       ∙ ap (λ (vs : List Datum). pushed s.own (get_or vs f datum.Null)) (fields_before s known _ said own knows m i name values slot)
@@ -151,10 +150,10 @@ module _ (s : Standing) (known : KnownObjects) (said : Reply) (own : Thread) (kn
       → own ≡ s.own
   store_owns i f x m name values slot bound there =
       let free : refusal_of m.before s.thread (call.Store i f x) ≡ None =
-        free_four _ _ _ _ _ _ _ _ (good_slot s known _ said own knows m i (in_bounds (stack_in s) i name slot.0))
-        (good_slot s known _ said own knows m x there)
-        (good_reference s known _ said own knows m i name slot.0)
-        (good_field s known _ said own knows m i f name values slot bound) in
+      free_four _ _ _ _ _ _ _ _ (good_slot s known _ said own knows m i (in_bounds (stack_in s) i name slot.0))
+      (good_slot s known _ said own knows m x there)
+      (good_reference s known _ said own knows m i name slot.0)
+      (good_field s known _ said own knows m i f name values slot bound) in
       let d : Does m.before s.thread (call.Store i f x) said m.later = unrefused _ _ _ free m.moves.1 in
       sym m.own_later ∙ ap (λ g. thread_of g s.thread) (d.1 ∙ ap (λ v. put_field m.before v f (slot_of m.before s.thread x)) (slot_before s known _ said own knows m i ∙ slot.0)) ∙ m.own
 
@@ -163,10 +162,10 @@ module _ (s : Standing) (known : KnownObjects) (said : Reply) (own : Thread) (kn
       → said ≡ reply.Ok
   store_does i f x m name values slot bound there =
       let free : refusal_of m.before s.thread (call.Store i f x) ≡ None =
-        free_four _ _ _ _ _ _ _ _ (good_slot s known _ said own knows m i (in_bounds (stack_in s) i name slot.0))
-        (good_slot s known _ said own knows m x there)
-        (good_reference s known _ said own knows m i name slot.0)
-        (good_field s known _ said own knows m i f name values slot bound) in
+      free_four _ _ _ _ _ _ _ _ (good_slot s known _ said own knows m i (in_bounds (stack_in s) i name slot.0))
+      (good_slot s known _ said own knows m x there)
+      (good_reference s known _ said own knows m i name slot.0)
+      (good_field s known _ said own knows m i f name values slot bound) in
       (unrefused _ _ _ free m.moves.1).0
 
   pub store_keeps : (i f x : ℕ) → MovesKnown s known (call.Store i f x) said own knows
@@ -175,10 +174,10 @@ module _ (s : Standing) (known : KnownObjects) (said : Reply) (own : Thread) (kn
   store_keeps i f x m name values slot bound there =
       let after : KnownObjects = insert known name (Fields (set values f (slot_in s x))) in
       let stores : StoresKnown known (datum.Object name) f (slot_in s x) after =
-        (λ _. ap (λ o. insert known name (Fields (set (fields_or_none o) f (slot_in s x)))) (sym slot.1), λ h. absurd (h (ap is_some slot.1))) in
+      (λ _. ap (λ o. insert known name (Fields (set (fields_or_none o) f (slot_in s x)))) (sym slot.1), λ h. absurd (h (ap is_some slot.1))) in
       let there_too : StoresKnown known (slot_of m.before s.thread i) f (slot_of m.before s.thread x) after =
-        subst (λ v. StoresKnown known v f (slot_of m.before s.thread x) after) (sym (slot_before s known _ said own knows m i ∙ slot.0))
-        (subst (λ v. StoresKnown known (datum.Object name) f v after) (sym (slot_before s known _ said own knows m x)) stores) in
+      subst (λ v. StoresKnown known v f (slot_of m.before s.thread x) after) (sym (slot_before s known _ said own knows m i ∙ slot.0))
+      (subst (λ v. StoresKnown known (datum.Object name) f v after) (sym (slot_before s known _ said own knows m x)) stores) in
       m.known_later after
       (λ _. subst (λ r. OwnCall m.before s.thread known (call.Store i f x) r after) (sym (store_does i f x m name values slot bound there)) there_too, λ h. absurd (h refl))
 
@@ -191,11 +190,17 @@ module _ (s : Standing) (known : KnownObjects) (said : Reply) (own : Thread) (kn
   unfolding made_one
   new_effect k m fits room names =
       elim (unrefused _ _ _ free m.moves.1) [
-        | inl ok ↦ inl (ok.0, sym m.own_later ∙ ap (λ g. thread_of g s.thread) ok.1 ∙ thread_same (with_object m.before (next_name m.before s.thread) (Fields (replicate k datum.Null))) s.thread _ m.moves.0 ∙ ap made_one m.own,
-            subst (λ n. knows (insert known n (Fields (replicate k datum.Null)))) next
-            (m.known_later _ (λ _. subst (λ r. OwnCall m.before s.thread known (call.New k) r (insert known (next_name m.before s.thread) (Fields (replicate k datum.Null)))) (sym ok.0) refl, λ h. absurd (h refl))))
-        | inr full ↦ inr (full.0, own_same s known _ said own knows m full.1,
-            m.known_later known (λ _. subst (λ r. OwnCall m.before s.thread known (call.New k) r known) (sym full.0) refl, λ h. absurd (h refl)))
+        | inl ok ↦ inl (
+          ok.0,
+          sym m.own_later ∙ ap (λ g. thread_of g s.thread) ok.1 ∙ thread_same (with_object m.before (next_name m.before s.thread) (Fields (replicate k datum.Null))) s.thread _ m.moves.0 ∙ ap made_one m.own,
+          subst (λ n. knows (insert known n (Fields (replicate k datum.Null)))) next
+              (m.known_later _ (λ _. subst (λ r. OwnCall m.before s.thread known (call.New k) r (insert known (next_name m.before s.thread) (Fields (replicate k datum.Null)))) (sym ok.0) refl, λ h. absurd (h refl))),
+        )
+        | inr full ↦ inr (
+          full.0,
+          own_same s known _ said own knows m full.1,
+          m.known_later known (λ _. subst (λ r. OwnCall m.before s.thread known (call.New k) r known) (sym full.0) refl, λ h. absurd (h refl)),
+        )
       ]
     where
       next : next_name m.before s.thread ≡ next_of s

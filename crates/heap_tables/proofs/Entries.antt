@@ -1,10 +1,10 @@
 -- Entries and keys of one map of objects are told apart by their fields.
-use Rattle.std.proofs.Common.{zero, suc, ◌≡◌, ◌≢◌, ◌⊎◌, inl, inr, ℕ, ◌+◌, ◌<◌, ◌≤◌, List, [], ◌∷◌, ◌++◌, get_or, refl, ◌∙◌, ap, sym, subst, length, Some, None, Option, arith}
+use Rattle.std.proofs.Common.{◌≡◌, ◌≢◌, ℕ, ◌+◌, ◌<◌, List, [], ◌∷◌, get_or, refl, ◌∙◌, ap, sym, subst, length, Some, arith}
 use Rattle.std.specs.FinMap.{get}
 use Rattle.object_layout.specs.declared.names.Name.{Name}
 use Rattle.yak_model.specs.declared.datum.Datum.{Datum}
 use Rattle.yak_model.specs.declared.datum.Datum.TheVariants as datum
-use Rattle.yak_model.specs.Graph.{Content, Fields, fields_or_none}
+use Rattle.yak_model.specs.Graph.{Fields, fields_or_none}
 use Rattle.yak_model.specs.Private.{KnownObjects}
 use Rattle.yak_model.specs.Tables.{group, groups}
 use Rattle.yak_model.specs.Tables.{IsKey}
@@ -29,8 +29,8 @@ same_key known x y v w e a b =
     let f = same_fields known x y a.0 b.0 e a.1 b.1 in
     let size = same_int (length v) (length w) (sym a.2.first ∙ ap (λ vs. get_or vs 0 datum.Null) f ∙ b.2.first) in
     equal_words v w a.3 b.3 size (λ i h.
-      let bound : i < groups (length w) = subst (λ n. i < groups n) size h in
-      same_int (group v i) (group w i) (sym (a.2.rest i h) ∙ ap (λ vs. get_or vs (i + 1) datum.Null) f ∙ b.2.rest i bound))
+    let bound : i < groups (length w) = subst (λ n. i < groups n) size h in
+    same_int (group v i) (group w i) (sym (a.2.rest i h) ∙ ap (λ vs. get_or vs (i + 1) datum.Null) f ∙ b.2.rest i bound))
 
 pub same_entry : (known : KnownObjects) (m n : Datum) (k l : Link) → k.entry ≡ l.entry → IsEntry known m k → IsEntry known n l → k.word ≡ l.word
 same_entry known m n k l e a b =

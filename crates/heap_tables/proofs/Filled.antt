@@ -1,10 +1,10 @@
 -- Three stores fill in an entry.
-use Rattle.std.proofs.Common.{zero, suc, ◌≡◌, ◌≢◌, ℕ, ◌+◌, ◌<◌, List, [], ◌∷◌, get_or, set, refl, ◌∙◌, ap, sym, subst, length, Some, arith, length-set}
-use Rattle.std.specs.FinMap.{get, insert}
+use Rattle.std.proofs.Common.{◌≡◌, ℕ, List, [], ◌∷◌, get_or, set, refl, ◌∙◌, ap, subst, length, arith}
+use Rattle.std.specs.FinMap.{insert}
 use Rattle.object_layout.specs.declared.names.Name.{Name}
 use Rattle.yak_model.specs.declared.datum.Datum.{Datum}
 use Rattle.yak_model.specs.declared.datum.Datum.TheVariants as datum
-use Rattle.yak_model.specs.Graph.{Content, Fields, Thread}
+use Rattle.yak_model.specs.Graph.{Fields, Thread}
 use Rattle.yak_model.specs.Private.{KnownObjects}
 use Rattle.yak_model.proofs.Names.{get-same}
 use Rattle.heap_tables.specs.Runs.{with_field}

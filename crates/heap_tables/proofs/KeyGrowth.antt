@@ -1,15 +1,15 @@
 -- How a key grows.
-use Rattle.std.proofs.Common.{zero, suc, ◌≡◌, ◌≢◌, ◌⊎◌, inl, inr, ℕ, ◌+◌, ◌<◌, ◌≤◌, List, [], ◌∷◌, ◌++◌, get_or, set, replicate, refl, ◌∙◌, ap, sym, subst, length, Some, None, Option, arith, length-set, get_or-set_same, get_or-set_other, below_more}
+use Rattle.std.proofs.Common.{◌≡◌, ◌≢◌, ℕ, ◌+◌, ◌<◌, List, get_or, set, replicate, ◌∙◌, ap, subst, length, arith, length-set, get_or-set_same, get_or-set_other, below_more}
 use Rattle.std.proofs.lemmas.List.{length-replicate}
-use Rattle.std.specs.FinMap.{get, insert}
+use Rattle.std.specs.FinMap.{insert}
 use Rattle.object_layout.specs.declared.names.Name.{Name}
 use Rattle.yak_model.specs.declared.datum.Datum.{Datum}
 use Rattle.yak_model.specs.declared.datum.Datum.TheVariants as datum
-use Rattle.yak_model.specs.Graph.{Content, Fields, Thread}
+use Rattle.yak_model.specs.Graph.{Fields, Thread}
 use Rattle.yak_model.specs.Private.{KnownObjects}
 use Rattle.yak_model.proofs.Names.{get-same}
 use Rattle.yak_model.specs.Standing.{Standing}
-use Rattle.heap_tables.specs.Runs.{next_of, with_made, with_new, with_field, IsInSlot}
+use Rattle.heap_tables.specs.Runs.{next_of, with_made, with_field}
 use Rattle.heap_tables.proofs.Effects.{slot_push, length_push, IsAt}
 use Rattle.yak_model.specs.Tables.{group, groups}
 use Rattle.heap_tables.specs.Keys.{IsKeyBegun}
@@ -26,7 +26,7 @@ made_size s own e = ap (λ (o : Thread). length o.stack) e ∙ length_push s.own
 pub key_first : (known : KnownObjects) (name : Name) (word : List ℕ) (knows : KnownObjects → Type 0) (k : ℕ) → k ≡ groups (length word) + 1
     → knows (with_field (insert known name (Fields (replicate k datum.Null))) name (replicate k datum.Null) 0 (datum.Int (length word)))
     → IsKeyBegun known name word 0 knows
-key_first known name word knows k e h = 
+key_first known name word knows k e h =
     let bound : 0 < length (replicate k datum.Null) = omega (arith, length-replicate k datum.Null, e) in record {
       values = set (replicate k datum.Null) 0 (datum.Int (length word));
       size = length-set (replicate k datum.Null) 0 (datum.Int (length word)) ∙ length-replicate k datum.Null ∙ e;
@@ -45,7 +45,7 @@ key_more known name word n before after p lt h =
       size = length-set p.values (n + 1) (datum.Int (group word n)) ∙ p.size;
       first = get_or-set_other p.values (n + 1) 0 (datum.Int (group word n)) datum.Null first_apart ∙ p.first;
       rest = below_more (λ i. get_or (set p.values (n + 1) (datum.Int (group word n))) (i + 1) datum.Null ≡ datum.Int (group word i)) n
-        (λ i less. let apart : i + 1 ≢ n + 1 = omega (arith, less) in get_or-set_other p.values (n + 1) (i + 1) (datum.Int (group word n)) datum.Null apart ∙ p.rest i less)
-        (get_or-set_same p.values (n + 1) (datum.Int (group word n)) datum.Null bound);
+          (λ i less. let apart : i + 1 ≢ n + 1 = omega (arith, less) in get_or-set_other p.values (n + 1) (i + 1) (datum.Int (group word n)) datum.Null apart ∙ p.rest i less)
+          (get_or-set_same p.values (n + 1) (datum.Int (group word n)) datum.Null bound);
       known_now = subst after (insert_again known name _ _) h;
     }

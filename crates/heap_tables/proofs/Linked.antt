@@ -1,20 +1,20 @@
 -- A table with a new entry.
-use Rattle.std.proofs.Common.{zero, suc, ◌≡◌, ◌≢◌, ◌⊎◌, inl, inr, ℕ, ◌+◌, ◌-◌, ◌<◌, ◌≤◌, List, [], ◌∷◌, ◌++◌, get_or, set, take, refl, ◌∙◌, ap, sym, subst, length, Some, None, Option, IsSome, is_some, arith, length-set, get_or-set_same, get_or-set_other, true≢false}
+use Rattle.std.proofs.Common.{◌≡◌, ◌≢◌, inr, ℕ, ◌+◌, ◌<◌, List, [], ◌∷◌, get_or, set, refl, ◌∙◌, ap, sym, subst, length, Some, None, Option, IsSome, is_some, arith, length-set, get_or-set_same, get_or-set_other, true≢false}
+use Rattle.yak_model.specs.declared.TheConstants.{BUCKETS}
 use Rattle.std.specs.FinMap.{get, insert}
 use Rattle.object_layout.specs.declared.names.Name.{Name}
 use Rattle.yak_model.specs.declared.datum.Datum.{Datum}
 use Rattle.yak_model.specs.declared.datum.Datum.TheVariants as datum
 use Rattle.yak_model.specs.Graph.{Content, Fields, Thread}
 use Rattle.yak_model.specs.Private.{KnownObjects, IsKnown}
-use Rattle.yak_model.proofs.Names.{get-same, get-other, same_or_other}
+use Rattle.yak_model.proofs.Names.{get-same, get-other}
 use Rattle.yak_model.specs.Standing.{Standing}
 use Rattle.heap_tables.specs.Runs.{next_of, popped, pushed, with_made}
 use Rattle.heap_tables.proofs.Effects.{slot_below, take_push}
 use Rattle.yak_model.specs.Tables.{bucket_of}
 use Rattle.yak_model.specs.Tables.{IsKey}
-use Rattle.yak_model.specs.Tables.{Link, IsChain, IsEntry, IsTable, LacksWord, AreDifferent, AreInBucket, entry_fields}
-use Rattle.heap_tables.specs.Walks.{IsApart}
-use Rattle.heap_tables.specs.Adds.{AddsCount, IsAddedTo, IsNoEntry, Grows, KeepsOthers, having_made, with_bucket, with_fields}
+use Rattle.yak_model.specs.Tables.{Link, IsChain, IsTable, LacksWord, AreDifferent, AreInBucket, entry_fields}
+use Rattle.heap_tables.specs.Adds.{IsAddedTo, IsNoEntry, Grows, having_made, with_bucket, with_fields}
 use Rattle.heap_tables.proofs.Places.{Agree, insert_agrees, chain_agrees}
 use Rattle.heap_tables.proofs.Raised.{in_bucket, table_apart}
 
@@ -61,7 +61,7 @@ known_other : (known : KnownObjects) (x y : Name) → IsKnown known x → get kn
 known_other known x y h none e = let q : IsSome {T = Content} None = subst (λ o. IsSome o) (sym (ap (get known) e) ∙ none) h in true≢false (sym q)
 
 -- a new entry at the front of a bucket, whose key is known
-pub shared_table : (known : KnownObjects) (name : Name) (heads : List Datum) (buckets : ℕ → List Link) (table : IsTable known name heads buckets) (word : List ℕ) (n b : ℕ) (home : bucket_of word ≡ b) (bound : b < 128) (lacks : LacksWord word (buckets b))
+pub shared_table : (known : KnownObjects) (name : Name) (heads : List Datum) (buckets : ℕ → List Link) (table : IsTable known name heads buckets) (word : List ℕ) (n b : ℕ) (home : bucket_of word ≡ b) (bound : b < BUCKETS) (lacks : LacksWord word (buckets b))
     (key entry : Name) (no_entry : get known entry ≡ None) (is_key : IsKey known key word) (name_key : name ≢ key)
     → (knows : KnownObjects → Type 0) → knows (insert (with_fields known entry (get_or heads b datum.Null) (datum.Object key) n) name (Fields (set heads b (datum.Object entry))))
     → IsAddedTo known word n name buckets knows
@@ -85,11 +85,15 @@ shared_table known name heads buckets table word n b home bound lacks key entry 
       is_table = subst (λ i. IsTable after name last (with_bucket buckets i (link ∷ buckets b))) (sym home) (record {
         object = get-same two name (Fields last);
         size = length-set heads b (datum.Object entry) ∙ table.size;
-        chains = in_bucket (λ c ls. IsChain after (get_or last c datum.Null) ls) buckets b (link ∷ buckets b)
-          (get_or-set_same heads b (datum.Object entry) datum.Null within,
-            (get_or heads b datum.Null, (agree entry (λ e. name_entry (sym e)) ∙ entry_there, (is_key.0, agree key (λ e. name_key (sym e)) ∙ key_there, is_key.2, is_key.3)),
-              chain_agrees two after name agree (buckets b) (get_or heads b datum.Null) (table_apart two name heads buckets t2 (buckets b) (get_or heads b datum.Null) (t2.chains b bound)) (t2.chains b bound)))
-          (λ c h o. subst (λ v. IsChain after v (buckets c)) (sym (get_or-set_other heads b c (datum.Object entry) datum.Null o))
+        chains = in_bucket (λ c ls. IsChain after (get_or last c datum.Null) ls) buckets b (link ∷ buckets b) (
+          get_or-set_same heads b (datum.Object entry) datum.Null within,
+          (
+            get_or heads b datum.Null,
+            (agree entry (λ e. name_entry (sym e)) ∙ entry_there, (is_key.0, agree key (λ e. name_key (sym e)) ∙ key_there, is_key.2, is_key.3)),
+            chain_agrees two after name agree (buckets b) (get_or heads b datum.Null) (table_apart two name heads buckets t2 (buckets b) (get_or heads b datum.Null) (t2.chains b bound)) (t2.chains b bound),
+          ),
+        )
+            (λ c h o. subst (λ v. IsChain after v (buckets c)) (sym (get_or-set_other heads b c (datum.Object entry) datum.Null o))
             (chain_agrees two after name agree (buckets c) (get_or heads c datum.Null) (table_apart two name heads buckets t2 (buckets c) (get_or heads c datum.Null) (t2.chains c h)) (t2.chains c h)));
         homes = in_bucket AreInBucket buckets b (link ∷ buckets b) (home, table.homes b bound) (λ c h o. table.homes c h);
         distinct = in_bucket (λ c ls. AreDifferent ls) buckets b (link ∷ buckets b) (lacks, table.distinct b bound) (λ c h o. table.distinct c h);
@@ -99,7 +103,7 @@ shared_table known name heads buckets table word n b home bound lacks key entry 
       fresh = λ x kx no. (known_other known x entry kx no_entry, subst (λ i. IsNoEntry x (buckets i)) home no);
     }
 
-pub linked_table : (known : KnownObjects) (name : Name) (heads : List Datum) (buckets : ℕ → List Link) (table : IsTable known name heads buckets) (word : List ℕ) (n b : ℕ) (home : bucket_of word ≡ b) (bound : b < 128) (lacks : LacksWord word (buckets b))
+pub linked_table : (known : KnownObjects) (name : Name) (heads : List Datum) (buckets : ℕ → List Link) (table : IsTable known name heads buckets) (word : List ℕ) (n b : ℕ) (home : bucket_of word ≡ b) (bound : b < BUCKETS) (lacks : LacksWord word (buckets b))
     (key entry : Name) (d : Content) (no_key : get known key ≡ None) (no_entry : get (insert known key d) entry ≡ None) (is_key : IsKey (insert known key d) key word)
     → (knows : KnownObjects → Type 0) → knows (insert (with_fields (insert known key d) entry (get_or heads b datum.Null) (datum.Object key) n) name (Fields (set heads b (datum.Object entry))))
     → IsAddedTo known word n name buckets knows
@@ -126,4 +130,4 @@ pub shared_map : (known : KnownObjects) (name : Name) (heads : List Datum) (b n 
 shared_map known name heads b n knows entry_was front_was key_was front entry key e f q k =
     subst (λ x. knows (insert (insert known x (Fields (front ∷ key ∷ datum.Int n ∷ []))) name (Fields (set heads b (datum.Object x))))) e
     (subst (λ v. knows (insert (insert known entry_was (Fields (v ∷ key ∷ datum.Int n ∷ []))) name (Fields (set heads b (datum.Object entry_was))))) f
-      (subst (λ v. knows (insert (insert known entry_was (Fields (front_was ∷ v ∷ datum.Int n ∷ []))) name (Fields (set heads b (datum.Object entry_was))))) q k))
+    (subst (λ v. knows (insert (insert known entry_was (Fields (front_was ∷ v ∷ datum.Int n ∷ []))) name (Fields (set heads b (datum.Object entry_was))))) q k))

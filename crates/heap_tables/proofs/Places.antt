@@ -1,21 +1,18 @@
 -- The place of a walk, in a field of the table.
-use Rattle.std.proofs.Common.{zero, suc, ◌≡◌, ◌≢◌, ◌⊎◌, inl, inr, ℕ, ◌+◌, ◌<◌, ◌≤◌, ◌^◌, Bool, true, false, List, [], ◌∷◌, ◌++◌, get_or, set, refl, ◌∙◌, ap, sym, subst, true≢false, length, Some, None, Option, arith, length-set, get_or-set_same, append_assoc, length-append}
+use Rattle.std.proofs.Common.{zero, suc, ◌≡◌, ◌≢◌, ◌⊎◌, inl, inr, ℕ, ◌<◌, ◌≤◌, Bool, true, false, List, [], ◌∷◌, ◌++◌, get_or, set, refl, ◌∙◌, ap, sym, subst, length, Some, arith, length-set, get_or-set_same, append_assoc, length-append}
 use Rattle.std.proofs.lemmas.Bool.{cases_lt}
 use Rattle.std.specs.FinMap.{get, insert, same_map}
 use Rattle.object_layout.specs.declared.names.Name.{Name}
 use Rattle.yak_model.specs.declared.datum.Datum.{Datum}
 use Rattle.yak_model.specs.declared.datum.Datum.TheVariants as datum
 use Rattle.yak_model.specs.Graph.{Content, Fields, Thread}
-use Rattle.yak_model.specs.Names.{name_cmp}
 use Rattle.yak_model.specs.Private.{KnownObjects}
 use Rattle.yak_model.proofs.Names.{get-same, get-other, same_or_other, name_cmp_total, name_cmp-IsAntisymmetric}
 use Rattle.yak_model.specs.Standing.{Standing}
-use Rattle.heap_tables.specs.Runs.{pushed, popped, IsInSlot, with_field}
+use Rattle.heap_tables.specs.Runs.{pushed, with_field}
 use Rattle.heap_tables.proofs.Effects.{IsAt, slot_after, slot_same, slot_below, size_after}
-use Rattle.yak_model.specs.Tables.{Link, IsChain, IsEntry, LacksWord}
-use Rattle.yak_model.specs.Tables.{IsKey}
+use Rattle.yak_model.specs.Tables.{Link, IsChain, LacksWord}
 use Rattle.heap_tables.specs.Walks.{Looked, IsAtChain, IsApart, IsPlace, Walked, Found, with_place}
-use Rattle.heap_tables.specs.declared.chains.Look.{Look}
 use Rattle.heap_tables.specs.declared.chains.Look.TheVariants as look
 
 -- two maps that answer alike but at one name
@@ -110,7 +107,7 @@ word_cases (x ∷ xs) (y ∷ ys) = elim (nat_cases x y) [
 
 module _ (s : Standing) (known : KnownObjects) (table : ℕ) (name : Name) (values : List Datum) (b : ℕ) (word : List ℕ) (links : List Link) (at : IsAtChain s known table b name values links) (apart : IsApart name links) where
   pub start_place : (knows : KnownObjects → Type 0) → knows known → IsPlace known name values b word links knows [] links
-  start_place knows k = 
+  start_place knows k =
       let same = place_same known name values b at.0.1 in record {
         place = get_or values b datum.Null;
         parts = refl;
@@ -122,10 +119,11 @@ module _ (s : Standing) (known : KnownObjects) (table : ℕ) (name : Name) (valu
   module _ (knows : KnownObjects → Type 0) (passed rest : List Link) (p : IsPlace known name values b word links knows passed rest) where
     -- what a look needs at a place
     pub at_place : (now : Standing) → now.own ≡ s.own → IsAtChain now (with_place known name values b p.place) table b name (set values b p.place) rest
-    at_place now own =
-        ((ap (λ (o : Thread). get_or o.stack table datum.Null) own ∙ at.0.0, get-same known name (Fields (set values b p.place))),
-          subst (λ n. b < n) (sym (length-set values b p.place)) at.1,
-          subst (λ d. IsChain (with_place known name values b p.place) d rest) (sym (get_or-set_same values b p.place datum.Null at.1)) p.chain)
+    at_place now own = (
+      (ap (λ (o : Thread). get_or o.stack table datum.Null) own ∙ at.0.0, get-same known name (Fields (set values b p.place))),
+      subst (λ n. b < n) (sym (length-set values b p.place)) at.1,
+      subst (λ d. IsChain (with_place known name values b p.place) d rest) (sym (get_or-set_same values b p.place datum.Null at.1)) p.chain,
+    )
 
   -- a look moves the place
   pub further_place : (knows : KnownObjects → Type 0) (passed rest : List Link) (p : IsPlace known name values b word links knows passed rest)
@@ -136,14 +134,21 @@ module _ (s : Standing) (known : KnownObjects) (table : ℕ) (name : Name) (valu
   further_place knows passed (link ∷ after) p now own ka looked =
       let ne : link.word ≢ word = λ e. not_found (looked.0 e).0 in
       let r = looked.1 ne in
-      let parts : links ≡ (passed ++ link ∷ []) ++ after = p.parts ∙ sym (append_assoc passed (link ∷ []) after) in
-      (r.1, (link, after, refl, record {
-        place = r.2.0;
-        parts = parts;
-        lacks = lacks_more word passed link p.lacks ne;
-        chain = chain_agrees (with_place known name values b p.place) (with_place known name values b r.2.0) name (inserts_agree known name _ _) after r.2.0 (apart_rest name (passed ++ link ∷ []) after (subst (IsApart name) parts apart)) r.2.2;
-        known_now = subst ka (place_again known name values b p.place r.2.0) r.2.3;
-      }))
+      let parts : links ≡ (passed ++ link ∷ []) ++ after = p.parts ∙ sym (append_assoc passed (link ∷ []) after) in (
+        r.1,
+        (
+          link,
+          after,
+          refl,
+          record {
+            place = r.2.0;
+            parts = parts;
+            lacks = lacks_more word passed link p.lacks ne;
+            chain = chain_agrees (with_place known name values b p.place) (with_place known name values b r.2.0) name (inserts_agree known name _ _) after r.2.0 (apart_rest name (passed ++ link ∷ []) after (subst (IsApart name) parts apart)) r.2.2;
+            known_now = subst ka (place_again known name values b p.place r.2.0) r.2.3;
+          },
+        ),
+      )
 
   pub found_place : (knows : KnownObjects → Type 0) (passed rest : List Link) (p : IsPlace known name values b word links knows passed rest)
       → (now : Standing) (own : Thread) (knows_after : KnownObjects → Type 0)
@@ -211,6 +216,7 @@ put_back known name values b place value knows e h k =
 
 pub found_after : (mid : Standing) (own : Thread) (front : Datum) (known : KnownObjects) (name : Name) (values : List Datum) (b : ℕ) (word : List ℕ) (links : List Link) (said : Bool) (last : Thread) (knows : KnownObjects → Type 0)
     → Walked mid known name values b word links said last knows → mid.own ≡ pushed own front → Found own front word links said last
-found_after mid own front known name values b word links said last knows walked e =
-    (λ y. let w = walked.0 y in (w.0, w.1, w.2, (w.5).parts, w.3, (w.5).lacks, w.4 ∙ ap (λ o. pushed o (datum.Object (w.1).entry)) e),
-    λ n. let w = walked.1 n in ((w.1).lacks, w.0 ∙ e))
+found_after mid own front known name values b word links said last knows walked e = (
+  λ y. let w = walked.0 y in (w.0, w.1, w.2, (w.5).parts, w.3, (w.5).lacks, w.4 ∙ ap (λ o. pushed o (datum.Object (w.1).entry)) e),
+  λ n. let w = walked.1 n in ((w.1).lacks, w.0 ∙ e),
+)

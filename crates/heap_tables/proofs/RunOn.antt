@@ -1,13 +1,12 @@
 -- Runs of calls, one after another.
-use Rattle.std.proofs.Common.{◌≡◌, ℕ, ◌+◌, ◌-◌, ◌*◌, ◌^◌, ◌≤◌, ◌<◌, min, Bool, true, false, cond, List, [], ◌∷◌, ◌++◌, refl, ◌∙◌, arith, ap, sym, subst, Option, Some, None, rules}
-use Rattle.std.specs.List.{All}
+use Rattle.std.proofs.Common.{◌≡◌, ℕ, ◌+◌, ◌-◌, ◌^◌, min, List, [], ◌++◌, refl, ◌∙◌, arith, ap, sym, subst, Option, Some, None}
 use Rattle.std.proofs.lemmas.List.{append_assoc, append-nil}
 use Rattle.std.proofs.lemmas.List.Elements.{All-append, All-nil}
 use Rattle.yak_model.specs.Graph.{Thread}
 use Rattle.yak_model.specs.History.{Entry}
 use Rattle.yak_model.specs.Private.{KnownObjects}
 use Rattle.yak_model.specs.Standing.{Standing, Stays, counted_on}
-use Rattle.heap_tables.specs.Runs.{next_of, GrowsPlainly, IsPlainEntry, IsQuiet, IsRefused, Ran, RanOut, Since}
+use Rattle.heap_tables.specs.Runs.{next_of, GrowsPlainly, IsPlainEntry, Ran, RanOut, Since}
 
 counted-cases : (a b c v w M : ℕ) → min (b + 0) M ≡ min (a + v) M → min (c + 0) M ≡ min (b + w) M → min (c + 0) M ≡ min (a + (v + w)) M
 counted-cases a b c v w M r q = omega (arith, r, q)

@@ -1,10 +1,10 @@
 -- Ways to a place in a chain.
-use Rattle.std.proofs.Common.{zero, suc, ◌≡◌, ◌≢◌, ◌⊎◌, inl, inr, ℕ, ◌+◌, ◌<◌, ◌≤◌, Bool, true, false, List, [], ◌∷◌, ◌++◌, get_or, set, drop, refl, ◌∙◌, ap, sym, subst, true≢false, length, Some, None, arith, length-set, get_or-set_same}
+use Rattle.std.proofs.Common.{zero, suc, ◌≡◌, ◌≢◌, ℕ, ◌+◌, ◌<◌, ◌≤◌, true, false, List, [], ◌∷◌, get_or, set, drop, refl, ◌∙◌, ap, sym, subst, true≢false, length, Some, None, arith, length-set, get_or-set_same}
 use Rattle.std.specs.FinMap.{get, insert}
 use Rattle.object_layout.specs.declared.names.Name.{Name}
 use Rattle.yak_model.specs.declared.datum.Datum.{Datum}
 use Rattle.yak_model.specs.declared.datum.Datum.TheVariants as datum
-use Rattle.yak_model.specs.Graph.{Content, Fields, Thread}
+use Rattle.yak_model.specs.Graph.{Fields, Thread}
 use Rattle.yak_model.specs.Private.{KnownObjects}
 use Rattle.yak_model.proofs.Names.{get-same}
 use Rattle.yak_model.specs.Standing.{Standing}
@@ -70,22 +70,27 @@ module _ (s : Standing) (known : KnownObjects) (table : ℕ) (name : Name) (valu
 
   -- what is at a place
   pub at_skip : (knows : KnownObjects → Type 0) (rest : List Link) (p : IsSkipped known name values b rest knows) (now : Standing) → get_or now.own.stack table datum.Null ≡ datum.Object name → IsAtChain now (with_place known name values b p.place) table b name (set values b p.place) rest
-  at_skip knows rest p now slot =
-      ((slot, get-same known name (Fields (set values b p.place))),
-        subst (λ n. b < n) (sym (length-set values b p.place)) at.1,
-        subst (λ d. IsChain (with_place known name values b p.place) d rest) (sym (get_or-set_same values b p.place datum.Null at.1)) p.chain)
+  at_skip knows rest p now slot = (
+    (slot, get-same known name (Fields (set values b p.place))),
+    subst (λ n. b < n) (sym (length-set values b p.place)) at.1,
+    subst (λ d. IsChain (with_place known name values b p.place) d rest) (sym (get_or-set_same values b p.place datum.Null at.1)) p.chain,
+  )
 
   pub more_skip : (knows ka : KnownObjects → Type 0) (rest : List Link) (p : IsSkipped known name values b rest knows) → IsApart name rest
       → Passed (with_place known name values b p.place) name (set values b p.place) b rest true ka
       → (link : Link) × (after : List Link) × (rest ≡ link ∷ after) × IsSkipped known name values b after ka
   more_skip knows ka [] p apart passed = absurd (true≢false passed.0)
   more_skip knows ka (link ∷ after) p apart passed =
-      let r = passed.1 in
-      (link, after, refl, record {
-        place = r.0;
-        chain = chain_agrees (with_place known name values b p.place) (with_place known name values b r.0) name (inserts_agree known name _ _) after r.0 apart.2 r.2;
-        known_now = subst ka (place_again known name values b p.place r.0) r.3;
-      })
+      let r = passed.1 in (
+        link,
+        after,
+        refl,
+        record {
+          place = r.0;
+          chain = chain_agrees (with_place known name values b p.place) (with_place known name values b r.0) name (inserts_agree known name _ _) after r.0 apart.2 r.2;
+          known_now = subst ka (place_again known name values b p.place r.0) r.3;
+        },
+      )
 
   pub end_skip : (knows ka : KnownObjects → Type 0) (rest : List Link) (p : IsSkipped known name values b rest knows)
       → Passed (with_place known name values b p.place) name (set values b p.place) b rest false ka

@@ -1,19 +1,20 @@
 -- A merge of two tables, entry by entry.
-use Rattle.std.proofs.Common.{zero, suc, ◌≡◌, ◌≢◌, ◌⊎◌, inl, inr, ℕ, ◌+◌, ◌*◌, ◌%◌, ◌<◌, ◌≤◌, ◌^◌, List, [], ◌∷◌, ◌++◌, drop, take, get_or, refl, ◌∙◌, ap, sym, subst, Some, None, Option, IsSome, is_some, cond, eqb, arith, length, append_assoc, length-append, true≢false}
+use Rattle.std.proofs.Common.{◌-◌, zero, suc, ◌≡◌, ◌≢◌, inl, inr, ℕ, ◌+◌, ◌*◌, ◌<◌, ◌≤◌, ◌^◌, List, [], ◌∷◌, ◌++◌, drop, take, get_or, refl, ◌∙◌, ap, sym, subst, Some, None, Option, IsSome, is_some, Bool, true, false, cond, arith, length, append_assoc, length-append, true≢false}
+use Rattle.yak_model.specs.declared.TheConstants.{BUCKETS}
 use Rattle.std.proofs.lemmas.Bool.{cases_lt}
 use Rattle.std.proofs.lemmas.List.{append-nil}
-use Rattle.std.specs.FinMap.{get, insert}
+use Rattle.std.specs.FinMap.{get}
 use Rattle.object_layout.specs.declared.TheConstants.{MAX_INT}
 use Rattle.object_layout.specs.declared.names.Name.{Name}
 use Rattle.yak_model.specs.declared.datum.Datum.{Datum}
 use Rattle.yak_model.specs.declared.datum.Datum.TheVariants as datum
-use Rattle.yak_model.specs.Graph.{Content, Fields, Thread}
+use Rattle.yak_model.specs.Graph.{Thread}
 use Rattle.yak_model.specs.Private.{IsKnown, KnownObjects}
 use Rattle.yak_model.specs.Standing.{Standing}
-use Rattle.yak_model.specs.Tables.{AreDifferent, AreInBucket, HasCount, IsChain, IsCountTable, IsEntry, IsKey, IsTable, LacksWord, Link, WordCounts, bucket_of, entry_fields}
-use Rattle.heap_tables.specs.Adds.{AddsCount, IsAddedTo, IsNoEntry, MayAdd, having_made, with_bucket}
+use Rattle.yak_model.specs.Tables.{AreDifferent, AreInBucket, IsChain, IsCountTable, IsKey, IsTable, LacksWord, Link, WordCounts, bucket_of}
+use Rattle.heap_tables.specs.Adds.{AddsCount, IsAddedTo, IsNoEntry, KeepsOthers, MayAdd, StayNowhere, having_made, with_bucket}
 use Rattle.heap_tables.specs.Counted.{count_of, or_zero, raised}
-use Rattle.heap_tables.specs.Merges.{AreSlots, AreSums, Goes, IsEntryAt, IsMerge, IsMerged, IsNowhere, IsShare, KeepsUntouched, Merge, SharesNone, Stops, done_at, news, one_if_none, raised_by, walk, with_shared}
+use Rattle.heap_tables.specs.Merges.{AreSlots, AreSums, Goes, IsEntryAt, IsMerge, IsMerged, IsShare, KeepsUntouched, Merge, MergesEntry, SharesNone, Stops, done_at, news, one_if_none, raised_by, walk, with_shared}
 use Rattle.heap_tables.specs.Runs.{Ran, RanOut, next_of}
 use Rattle.heap_tables.specs.Walks.{IsApart, IsAtChain}
 use Rattle.heap_tables.proofs.Counted.{added_counts, bucket_small, count_found, count_other}
@@ -77,12 +78,13 @@ walk_more buckets b (suc n) h = elim (cases_lt b n) [
 
 pub walk_parts : (buckets : ℕ → List Link) (b p n : ℕ) (link : Link) (rest : List Link) → b < n → drop p (buckets b) ≡ link ∷ rest → (more : List Link) × (walk buckets n ≡ done_at buckets b p ++ link ∷ more)
 walk_parts buckets b p n link rest h e =
-    let r = walk_more buckets b n h in
-    (rest ++ r.0,
+    let r = walk_more buckets b n h in (
+      rest ++ r.0,
       r.1 ∙ ap (λ ls. (walk buckets b ++ ls) ++ r.0) (take_with p (buckets b) rest link e)
-      ∙ append_assoc (walk buckets b) (take p (buckets b) ++ link ∷ rest) r.0
-      ∙ ap (λ ls. walk buckets b ++ ls) (append_assoc (take p (buckets b)) (link ∷ rest) r.0)
-      ∙ sym (append_assoc (walk buckets b) (take p (buckets b)) (link ∷ rest ++ r.0)))
+          ∙ append_assoc (walk buckets b) (take p (buckets b) ++ link ∷ rest) r.0
+          ∙ ap (λ ls. walk buckets b ++ ls) (append_assoc (take p (buckets b)) (link ∷ rest) r.0)
+          ∙ sym (append_assoc (walk buckets b) (take p (buckets b)) (link ∷ rest ++ r.0)),
+    )
 
 -- ---- the counts
 
@@ -118,7 +120,7 @@ take_lacks zero xs rest link different e = tt
 take_lacks (suc p) [] rest link different e = tt
 take_lacks (suc p) (x ∷ xs) rest link different e = ((λ q. lacks_drop x.word p xs rest link different.0 e (sym q)), take_lacks p xs rest link different.1 e)
 
-walk_lacks : (buckets : ℕ → List Link) (w : List ℕ) (n : ℕ) → ((b : ℕ) → b < 128 → AreInBucket b (buckets b)) → n ≤ bucket_of w → n ≤ 128 → LacksWord w (walk buckets n)
+pub walk_lacks : (buckets : ℕ → List Link) (w : List ℕ) (n : ℕ) → ((b : ℕ) → b < BUCKETS → AreInBucket b (buckets b)) → n ≤ bucket_of w → n ≤ BUCKETS → LacksWord w (walk buckets n)
 walk_lacks buckets w zero homes h small = tt
 walk_lacks buckets w (suc n) homes h small =
     lacks_append w (walk buckets n) (buckets n) (walk_lacks buckets w n homes (omega (arith, h)) (omega (arith, small)))
@@ -130,7 +132,7 @@ home_drop b zero (x ∷ xs) rest link homes e = let q : x ≡ link = cc in subst
 home_drop b (suc p) [] rest link homes e = cc
 home_drop b (suc p) (x ∷ xs) rest link homes e = home_drop b p xs rest link homes.1 e
 
-pub done_lacks : (known : KnownObjects) (name : Name) (heads : List Datum) (buckets : ℕ → List Link) (table : IsTable known name heads buckets) (b p : ℕ) → b < 128 → (link : Link) (rest : List Link) → drop p (buckets b) ≡ link ∷ rest → (bucket_of link.word ≡ b) × LacksWord link.word (done_at buckets b p)
+pub done_lacks : (known : KnownObjects) (name : Name) (heads : List Datum) (buckets : ℕ → List Link) (table : IsTable known name heads buckets) (b p : ℕ) → b < BUCKETS → (link : Link) (rest : List Link) → drop p (buckets b) ≡ link ∷ rest → (bucket_of link.word ≡ b) × LacksWord link.word (done_at buckets b p)
 done_lacks known name heads buckets table b p bound link rest e =
     let home = home_drop b p (buckets b) rest link (table.homes b bound) e in
     (home, lacks_append link.word (walk buckets b) (take p (buckets b)) (walk_lacks buckets link.word b table.homes (omega (arith, home)) (omega (arith, bound))) (take_lacks p (buckets b) rest link (table.distinct b bound) e))
@@ -151,39 +153,57 @@ key_nowhere : (known : KnownObjects) (key : Name) (w : List ℕ) → IsKey known
 key_nowhere known key w is [] head chain = tt
 key_nowhere known key w is (l ∷ ls) head chain = ((λ e. key_no_entry known key w chain.1.0 l is chain.1.1 (sym e)), key_nowhere known key w is ls chain.1.0 chain.1.2)
 
-module _ (m : Merge) (is : IsMerge m) (after : KnownObjects) (later : ℕ → List Link) (kept : KeepsUntouched m.known m.into_name (is.into_table).buckets after later) where
-  chain_kept : (ls : List Link) (head : Datum) → IsChain m.known head ls → ((c : ℕ) → c < 128 → SharesNone ls ((is.into_table).buckets c)) → IsChain after head ls
-  chain_kept [] head chain apart = chain
-  chain_kept (l ∷ ls) head chain apart =
-      let into = (is.into_table).table in
+-- a table that shares no entry with another one stays as it was where nothing but the other one and its entries changed
+module _ (known : KnownObjects) (from_name into_name : Name) (from_heads into_heads : List Datum) (from_buckets into_buckets : ℕ → List Link) (from : IsTable known from_name from_heads from_buckets) (into : IsTable known into_name into_heads into_buckets) (different : from_name ≢ into_name)
+    (apart : (b c : ℕ) → b < BUCKETS → c < BUCKETS → SharesNone (from_buckets b) (into_buckets c)) (after : KnownObjects) (later : ℕ → List Link) (kept : KeepsUntouched known into_name into_buckets after later) where
+  chain_kept : (ls : List Link) (head : Datum) → IsChain known head ls → ((c : ℕ) → c < BUCKETS → SharesNone ls (into_buckets c)) → IsChain after head ls
+  chain_kept [] head chain away = chain
+  chain_kept (l ∷ ls) head chain away =
       let entry = chain.1.1 in
-      let other = table_apart m.known m.into_name (is.into_table).heads (is.into_table).buckets into (l ∷ ls) head chain in
-      let same_entry = (kept l.entry (ap is_some entry.0) other.0 (λ c h. (apart c h).0)).0 in
-      let same_key = (kept l.key (ap is_some entry.1.1) other.1 (λ c h. key_nowhere m.known l.key l.word entry.1 ((is.into_table).buckets c) (get_or (is.into_table).heads c datum.Null) (into.chains c h))).0 in
-      (chain.0, (chain.1.0, (same_entry ∙ entry.0, (entry.1.0, same_key ∙ entry.1.1, entry.1.2, entry.1.3)), chain_kept ls chain.1.0 chain.1.2 (λ c h. (apart c h).1)))
+      let other = table_apart known into_name into_heads into_buckets into (l ∷ ls) head chain in
+      let same_entry = (kept l.entry (ap is_some entry.0) other.0 (λ c h. (away c h).0)).0 in
+      let same_key = (kept l.key (ap is_some entry.1.1) other.1 (λ c h. key_nowhere known l.key l.word entry.1 (into_buckets c) (get_or into_heads c datum.Null) (into.chains c h))).0 in
+      (chain.0, (chain.1.0, (same_entry ∙ entry.0, (entry.1.0, same_key ∙ entry.1.1, entry.1.2, entry.1.3)), chain_kept ls chain.1.0 chain.1.2 (λ c h. (away c h).1)))
 
-  pub from_stays : IsTable after m.from_name m.heads m.buckets
-  from_stays =
-      let from = is.from_table in
-      let into = (is.into_table).table in
-      record {
-        object = (kept m.from_name (ap is_some from.object) is.different (λ c h. apart_nowhere m.from_name ((is.into_table).buckets c) (table_apart m.known m.from_name m.heads m.buckets from ((is.into_table).buckets c) (get_or (is.into_table).heads c datum.Null) (into.chains c h)))).0 ∙ from.object;
-        size = from.size;
-        chains = λ b h. chain_kept (m.buckets b) (get_or m.heads b datum.Null) (from.chains b h) (λ c k. is.apart b c h k);
-        homes = from.homes;
-        distinct = from.distinct;
-      }
+  pub table_stays : IsTable after from_name from_heads from_buckets
+  table_stays = record {
+    object = (kept from_name (ap is_some from.object) different (λ c h. apart_nowhere from_name (into_buckets c) (table_apart known from_name from_heads from_buckets from (into_buckets c) (get_or into_heads c datum.Null) (into.chains c h)))).0 ∙ from.object;
+    size = from.size;
+    chains = λ b h. chain_kept (from_buckets b) (get_or from_heads b datum.Null) (from.chains b h) (λ c k. apart b c h k);
+    homes = from.homes;
+    distinct = from.distinct;
+  }
+
+pub from_stays : (m : Merge) (is : IsMerge m) (after : KnownObjects) (later : ℕ → List Link) → KeepsUntouched m.known m.into_name (is.into_table).buckets after later → IsTable after m.from_name m.heads m.buckets
+from_stays m is after later kept =
+    table_stays m.known m.from_name m.into_name m.heads (is.into_table).heads m.buckets (is.into_table).buckets is.from_table (is.into_table).table is.different is.apart after later kept
+
+-- a count table that shares no entry with another one
+abbrev pub counts_stay : (known : KnownObjects) (from_name into_name : Name) (from_counts into_counts : WordCounts) (from : IsCountTable known from_name from_counts) (into : IsCountTable known into_name into_counts) → from_name ≢ into_name
+    → ((b c : ℕ) → b < BUCKETS → c < BUCKETS → SharesNone (from.buckets b) (into.buckets c)) → (after : KnownObjects) (later : ℕ → List Link) → KeepsUntouched known into_name into.buckets after later → IsCountTable after from_name from_counts
+counts_stay known from_name into_name from_counts into_counts from into different apart after later kept = record {
+  heads = from.heads;
+  buckets = from.buckets;
+  table = table_stays known from_name into_name from.heads into.heads from.buckets into.buckets from.table into.table different apart after later kept;
+  counted = from.counted;
+  absent = from.absent;
+}
+
+-- what stays where a word was added
+pub untouched_by_add : (known after : KnownObjects) (name : Name) (buckets later : ℕ → List Link) (word : List ℕ) → KeepsOthers known name (buckets (bucket_of word)) after → StayNowhere known buckets later → KeepsUntouched known name buckets after later
+untouched_by_add known after name buckets later word keeps stay other k ne away = (keeps other k ne (away (bucket_of word) (bucket_small word)), stay other k away)
 
 untouched_step : (known : KnownObjects) (name : Name) (buckets : ℕ → List Link) (mid : KnownObjects) (now : ℕ → List Link) → KeepsUntouched known name buckets mid now → (word : List ℕ) (n : ℕ) (knows : KnownObjects → Type 0) (added : IsAddedTo mid word n name now knows) → KeepsUntouched known name buckets added.after (with_bucket now (bucket_of word) added.links)
 untouched_step known name buckets mid now kept word n knows added other k ne away =
     let r = kept other k ne away in
     let k_mid : IsKnown mid other = subst (λ o. IsSome o) (sym r.0) k in
-    let here = r.1 (bucket_of word) (bucket_small word) in
-    (added.others other k_mid ne here ∙ r.0,
+    let here = r.1 (bucket_of word) (bucket_small word) in (
+      added.others other k_mid ne here ∙ r.0,
       λ c h. elim (eqb_cases (bucket_of word) c) [
         | inl s ↦ subst (λ t. IsNoEntry other (cond t added.links (now c))) (sym s.0) (added.fresh other k_mid here)
         | inr o ↦ subst (λ t. IsNoEntry other (cond t added.links (now c))) (sym o.0) (r.1 c h)
-      ])
+      ],
+    )
 
 longer : (word : List ℕ) (n : ℕ) (links after : List Link) → AddsCount word n links after → length after ≤ length links + 1
 longer word n links after adds = elim adds [
@@ -208,10 +228,10 @@ merged_step m is done knows d word n link e f after added =
       into_table = added_counts d.after m.into_name d.counts d.into_table word n (bucket_small word) after added;
       untouched = untouched_step m.known m.into_name (is.into_table).buckets d.after (d.into_table).buckets d.untouched word n after added;
       few = λ c h.
-        let old = d.few c h in
-        let step = few_step (d.into_table).buckets word n added.links added.adds c in
-        let long = length-append done (link ∷ []) in
-        omega (arith, old, step, long);
+          let old = d.few c h in
+          let step = few_step (d.into_table).buckets word n added.links added.adds c in
+          let long = length-append done (link ∷ []) in
+          omega (arith, old, step, long);
     }
 
 pub merged_as : (m : Merge) (is : IsMerge m) (done : List Link) (knows after : KnownObjects → Type 0) (d : IsMerged m is done knows) → after d.after → IsMerged m is done after
@@ -229,7 +249,7 @@ merged_none m is knows k = record {
 }
 
 -- the word may be added
-pub may_merge : (s : Standing) (into : ℕ) (m : Merge) (is : IsMerge m) (b p : ℕ) (knows : KnownObjects → Type 0) (d : IsMerged m is (done_at m.buckets b p) knows) → b < 128 → p < 2 ^ 32 → length (walk m.buckets b) ≤ b * 2 ^ 32
+pub may_merge : (s : Standing) (into : ℕ) (m : Merge) (is : IsMerge m) (b p : ℕ) (knows : KnownObjects → Type 0) (d : IsMerged m is (done_at m.buckets b p) knows) → b < BUCKETS → p < 2 ^ 32 → length (walk m.buckets b) ≤ b * 2 ^ 32
     → get_or s.own.stack into datum.Null ≡ datum.Object m.into_name → (word : List ℕ) (n : ℕ) (link : Link) (rest : List Link) → IsEntryAt m b p word n link rest
     → MayAdd s d.after into word n m.into_name (d.into_table).heads (d.into_table).buckets
 may_merge s into m is b p knows d bound below walked slot word n link rest at =
@@ -241,20 +261,20 @@ may_merge s into m is b p knows d bound below walked slot word n link rest at =
       slot = slot;
       is_table = (d.into_table).table;
       short =
-        let c = bucket_of word in
-        let small : c < 128 = bucket_small word in
-        let few = d.few c small in
-        let first = is.into_few c small in
-        let long = length-append (walk m.buckets b) (take p (m.buckets b)) in
-        let part = take_length p (m.buckets b) in
-        let count : b * 2 ^ 32 ≤ 127 * 2 ^ 32 = omega (arith, bound) in
-        omega (arith, few, first, long, part, walked, count, below);
+          let c = bucket_of word in
+          let small : c < BUCKETS = bucket_small word in
+          let few = d.few c small in
+          let first = is.into_few c small in
+          let long = length-append (walk m.buckets b) (take p (m.buckets b)) in
+          let part = take_length p (m.buckets b) in
+          let count : b * 2 ^ 32 ≤ (BUCKETS - 1) * 2 ^ 32 = omega (arith, bound) in
+          omega (arith, few, first, long, part, walked, count, below);
       number = let e = at.2 in omega (arith, e, sum);
       sum = λ count h.
-        let e = count_found d.after m.into_name d.counts d.into_table word n (bucket_small word) count h in
-        let f : count_of d.counts word ≡ count_of m.counts link.word = ap or_zero same in
-        let g = at.2 in
-        omega (arith, e, f, g, sum);
+          let e = count_found d.after m.into_name d.counts d.into_table word n (bucket_small word) count h in
+          let f : count_of d.counts word ≡ count_of m.counts link.word = ap or_zero same in
+          let g = at.2 in
+          omega (arith, e, f, g, sum);
     }
   where
     take_length : (n : ℕ) (xs : List Link) → length (take n xs) ≤ n
@@ -262,7 +282,7 @@ may_merge s into m is b p knows d bound below walked slot word n link rest at =
     take_length (suc n) [] = omega arith
     take_length (suc n) (x ∷ xs) = let h = take_length n xs in omega (arith, h)
 
-pub length_walk : (buckets : ℕ → List Link) → ((b : ℕ) → b < 128 → length (buckets b) < 2 ^ 32) → (n : ℕ) → n ≤ 128 → length (walk buckets n) ≤ n * 2 ^ 32
+pub length_walk : (buckets : ℕ → List Link) → ((b : ℕ) → b < BUCKETS → length (buckets b) < 2 ^ 32) → (n : ℕ) → n ≤ BUCKETS → length (walk buckets n) ≤ n * 2 ^ 32
 length_walk buckets few zero h = omega arith
 length_walk buckets few (suc n) h =
     let old = length_walk buckets few n (omega (arith, h)) in
@@ -314,11 +334,11 @@ module _ {S B : Type 0} (base : S → B) (tells : S → ℕ → Thread → Type 
         own = own;
       })
 
-  pub stops_here : (b p : ℕ) (word : List ℕ) (n : ℕ) (link : Link) (rest : List Link) → b < 128 → IsEntryAt m b p word n link rest → (x y : S) (knows : KnownObjects → Type 0)
+  pub stops_here : (b p : ℕ) (word : List ℕ) (n : ℕ) (link : Link) (rest : List Link) → b < BUCKETS → IsEntryAt m b p word n link rest → (x y : S) (knows : KnownObjects → Type 0)
       → IsMerged m is (done_at m.buckets b p) knows → get (raised_by m.counts (done_at m.buckets b p)) link.word ≡ None → RanOut base tells tells_known standing x y 0 3 → (standing y).own ≡ (standing x).own
       → Stops base tells tells_known standing m is (done_at m.buckets b p) x y knows
   stops_here b p word n link rest bound at x y knows merged absent out own =
-      let parts = walk_parts m.buckets b p 128 link rest bound at.0 in
+      let parts = walk_parts m.buckets b p BUCKETS link rest bound at.0 in
       record {
         later = done_at m.buckets b p;
         link = link;
@@ -377,7 +397,7 @@ apart_link name zero (l ∷ ls) rest link apart e = let q : l ≡ link = cc in s
 apart_link name (suc p) [] rest link apart e = cc
 apart_link name (suc p) (l ∷ ls) rest link apart e = apart_link name p ls rest link apart.2 e
 
-module _ (m : Merge) (is : IsMerge m) (b p : ℕ) (bound : b < 128) (knows : KnownObjects → Type 0) (d : IsMerged m is (done_at m.buckets b p) knows) where
+module _ (m : Merge) (is : IsMerge m) (b p : ℕ) (bound : b < BUCKETS) (knows : KnownObjects → Type 0) (d : IsMerged m is (done_at m.buckets b p) knows) where
   from_now : IsTable d.after m.from_name m.heads m.buckets
   from_now = from_stays m is d.after (d.into_table).buckets d.untouched
 
@@ -418,3 +438,12 @@ module _ (m : Merge) (is : IsMerge m) (b p : ℕ) (bound : b < 128) (knows : Kno
       let apart = table_apart d.after m.into_name (d.into_table).heads (d.into_table).buckets t (m.buckets b) (get_or m.heads b datum.Null) (f.chains b bound) in
       shared_table d.after m.into_name (d.into_table).heads (d.into_table).buckets t word n b home bound (subst (λ c. LacksWord word ((d.into_table).buckets c)) home lacks)
       link.key (next_of s) fresh key (λ e. apart_link m.into_name p (m.buckets b) rest link apart at.0 (sym e)) after k
+
+module _ {S B : Type 0} (base : S → B) (tells : S → ℕ → Thread → Type 0) (tells_known : S → ℕ → KnownObjects → Type 0) (standing : S → Standing) (m : Merge) (is : IsMerge m) (b p : ℕ) (x y : S) (knows : KnownObjects → Type 0) where
+  pub merges_end : (more : Bool) → more ≡ false → MergesEntry base tells tells_known standing m is b p more x y knows → (drop p (m.buckets b) ≡ []) × Goes base tells tells_known standing m is (done_at m.buckets b p) (done_at m.buckets b p) x y knows
+  merges_end false e h = h
+  merges_end true e h = absurd (true≢false e)
+
+  pub merges_on : (more : Bool) → more ≡ true → MergesEntry base tells tells_known standing m is b p more x y knows → Goes base tells tells_known standing m is (done_at m.buckets b p) (done_at m.buckets b (p + 1)) x y knows
+  merges_on true e h = h
+  merges_on false e h = absurd (true≢false (sym e))

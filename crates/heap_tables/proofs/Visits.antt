@@ -1,5 +1,6 @@
 -- The walk through the buckets of a table.
-use Rattle.std.proofs.Common.{zero, suc, ◌≡◌, ◌≢◌, ◌⊎◌, inl, inr, ℕ, ◌+◌, ◌*◌, ◌%◌, ◌<◌, ◌≤◌, List, [], ◌∷◌, ◌++◌, drop, take, refl, ◌∙◌, ap, sym, subst, Some, None, Option, IsSome, is_some, cond, eqb, arith, length, get_or, append_assoc}
+use Rattle.std.proofs.Common.{zero, suc, ◌≡◌, ◌⊎◌, inl, inr, ℕ, ◌+◌, ◌<◌, ◌≤◌, List, [], ◌∷◌, ◌++◌, drop, take, refl, ◌∙◌, ap, sym, subst, Some, None, Option, IsSome, is_some, cond, arith, length, get_or, append_assoc}
+use Rattle.yak_model.specs.declared.TheConstants.{BUCKETS}
 use Rattle.std.proofs.lemmas.Bool.{cases_lt}
 use Rattle.std.specs.FinMap.{get}
 use Rattle.object_layout.specs.declared.TheConstants.{WORD_LIMIT}
@@ -12,7 +13,7 @@ use Rattle.heap_tables.specs.Cursors.{IsFound, IsNext, IsPast, IsVisited, MayWal
 use Rattle.heap_tables.specs.Reads.{AreShort, IsCopied, Took}
 use Rattle.heap_tables.specs.Walks.{IsApart, IsAtChain}
 use Rattle.heap_tables.specs.declared.cursors.Cursor.{Cursor}
-use Rattle.heap_tables.proofs.Counted.{one_count, same_some}
+use Rattle.heap_tables.proofs.Counted.{one_count}
 use Rattle.heap_tables.proofs.Effects.{value_same}
 use Rattle.heap_tables.proofs.Raised.{distinct_parts, eqb_cases, has_count_at, home_at, lacks_at, table_apart}
 use Rattle.heap_tables.proofs.Sought.{short_first}
@@ -80,13 +81,13 @@ none_past buckets at b none gone c p past = elim (cases_lt b c) [
       absurd (omega (arith, start, short, within))
 ]
 
-pub is_next : (buckets : ℕ → List Link) (at : Cursor) (b : ℕ) → b < 128 → at.bucket ≤ b → ((c p : ℕ) → IsPast buckets at c p → b ≤ c) → (said : ℕ × ℕ × Cursor) (buffer : List ℕ) → AreShort (buckets b) → IsVisited at b (buckets b) (Some said) buffer → IsFound buckets at (Some said) buffer
+pub is_next : (buckets : ℕ → List Link) (at : Cursor) (b : ℕ) → b < BUCKETS → at.bucket ≤ b → ((c p : ℕ) → IsPast buckets at c p → b ≤ c) → (said : ℕ × ℕ × Cursor) (buffer : List ℕ) → AreShort (buckets b) → IsVisited at b (buckets b) (Some said) buffer → IsFound buckets at (Some said) buffer
 is_next buckets at b bound low gone said buffer short v =
     let start = start_in at b in
     let link = v.0 in
     let long = short_first start (buckets b) v.1 link short v.2 in
-    let size = v.3.0 in
-    (omega (arith, size, long),
+    let size = v.3.0 in (
+      omega (arith, size, long),
       subst (λ n. IsNext buckets at (take said.0 buffer) said.1 n) (sym v.5) (record {
         place = start;
         link = link;
@@ -100,9 +101,10 @@ is_next buckets at b bound low gone said buffer short v =
         words = v.3.1;
         counts = v.4;
         after = refl;
-      }))
+      }),
+    )
 
-module _ (known : KnownObjects) (name : Name) (counts : WordCounts) (table : IsCountTable known name counts) (b : ℕ) (bound : b < 128) where
+module _ (known : KnownObjects) (name : Name) (counts : WordCounts) (table : IsCountTable known name counts) (b : ℕ) (bound : b < BUCKETS) where
   -- an entry of a bucket has the count of its word
   pub counted_at : (passed rest : List Link) (link : Link) → table.buckets b ≡ passed ++ link ∷ rest → get counts link.word ≡ Some link.count
   counted_at passed rest link parts = by_option (get counts link.word) refl
@@ -122,7 +124,7 @@ module _ (known : KnownObjects) (name : Name) (counts : WordCounts) (table : IsC
   short_rest short passed (link ∷ rest) parts =
       (short link.word (ap is_some (counted_at passed rest link parts)), short_rest short (passed ++ link ∷ []) rest (parts ∙ sym (append_assoc passed (link ∷ []) rest)))
 
-module _ (s : Standing) (known : KnownObjects) (table : ℕ) (name : Name) (counts : WordCounts) (may : MayWalk s known table name counts) (b : ℕ) (bound : b < 128) where
+module _ (s : Standing) (known : KnownObjects) (table : ℕ) (name : Name) (counts : WordCounts) (may : MayWalk s known table name counts) (b : ℕ) (bound : b < BUCKETS) where
   pub walk_short : AreShort ((may.is_table).buckets b)
   walk_short = short_rest known name counts may.is_table b bound may.short [] ((may.is_table).buckets b) refl
 

@@ -12,7 +12,7 @@ use Rattle.yak_model.specs.Graph.{Content, Fields}
 use Rattle.yak_model.specs.Tables.{Link, LacksWord, HasCount, IsTable, entry_fields}
 use Rattle.heap_tables.specs.Walks.{IsEntryInSlot}
 use Rattle.object_layout.specs.declared.TheConstants.{MAX_INT}
-use Rattle.yak_model.specs.declared.TheConstants.{ENTRY_FIELDS}
+use Rattle.yak_model.specs.declared.TheConstants.{BUCKETS, ENTRY_FIELDS}
 use Rattle.yak_model.specs.Graph.{Thread}
 use Rattle.yak_model.specs.Room.{entry_words, key_words}
 use Rattle.yak_model.specs.Tables.{groups}
@@ -32,6 +32,14 @@ with_bucket buckets b links c = cond (eqb c b) links (buckets c)
 abbrev pub IsNoEntry : Name → List Link → Type 0
 IsNoEntry name [] = Unit {0}
 IsNoEntry name (link ∷ links) = (link.entry ≢ name) × IsNoEntry name links
+
+-- The object is no entry of any bucket.
+abbrev pub IsNowhere : Name → (ℕ → List Link) → Type 0
+IsNowhere name buckets = (c : ℕ) → c < BUCKETS → IsNoEntry name (buckets c)
+
+-- Known objects become no entries.
+abbrev pub StayNowhere : KnownObjects → (ℕ → List Link) → (ℕ → List Link) → Type 0
+StayNowhere known buckets later = (other : Name) → IsKnown known other → IsNowhere other buckets → IsNowhere other later
 
 -- Known objects but the table and the entries of one chain stay as they were.
 abbrev pub KeepsOthers : KnownObjects → Name → List Link → KnownObjects → Type 0
@@ -77,7 +85,7 @@ AddsPresent known word n name buckets said knows =
 
 -- A slot refers to a known object of three fields.
 abbrev pub HasBlank : Standing → (KnownObjects → Type 0) → ℕ → Type 0
-HasBlank s knows i = (known : KnownObjects) × (name : Name) × (values : List Datum) × knows known × IsInSlot s known i name values × (length values ≡ 3)
+HasBlank s knows i = (known : KnownObjects) × (name : Name) × (values : List Datum) × knows known × IsInSlot s known i name values × (length values ≡ ENTRY_FIELDS)
 
 -- the known objects with an object of these three fields
 abbrev pub with_fields : KnownObjects → Name → Datum → Datum → ℕ → KnownObjects

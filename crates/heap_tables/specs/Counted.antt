@@ -4,13 +4,12 @@ use Rattle.std.specs.FinMap as finite
 use Rattle.object_layout.specs.declared.TheConstants.{MAX_INT}
 use Rattle.object_layout.specs.declared.names.Name.{Name}
 use Rattle.yak_model.specs.declared.datum.Datum.TheVariants as datum
-use Rattle.yak_model.specs.declared.TheConstants.{BUCKETS}
-use Rattle.yak_model.specs.Private.{KnownObjects, IsKnown}
+use Rattle.yak_model.specs.Private.{KnownObjects}
 use Rattle.yak_model.specs.Standing.{Standing}
 use Rattle.heap_tables.specs.Runs.{slot_in}
 use Rattle.yak_model.specs.Tables.{bucket_of}
-use Rattle.yak_model.specs.Tables.{Link, WordCounts, IsCountTable}
-use Rattle.heap_tables.specs.Adds.{Grows, IsNoEntry, KeepsOthers}
+use Rattle.yak_model.specs.Tables.{WordCounts, IsCountTable}
+use Rattle.heap_tables.specs.Adds.{Grows, KeepsOthers, StayNowhere}
 
 abbrev pub or_zero : Option ℕ → ℕ
 or_zero None = 0
@@ -38,21 +37,13 @@ abbrev pub MakesUncounted : Standing → Standing → WordCounts → List ℕ �
 MakesUncounted s after counts word =
     (IsSome (finite.get counts word) → after.own.made ≡ s.own.made) × (finite.get counts word ≡ None → after.own.made ≡ s.own.made + 2)
 
--- The object is no entry of any chain.
-abbrev pub IsNoEntryOf : Name → (ℕ → List Link) → Type 0
-IsNoEntryOf other buckets = (b : ℕ) → b < BUCKETS → IsNoEntry other (buckets b)
-
--- A known object that was no entry of a table is none of what the table is now: new entries are new objects.
-abbrev pub KeepsApart : KnownObjects → (ℕ → List Link) → (ℕ → List Link) → Type 0
-KeepsApart known buckets after = (other : Name) → IsKnown known other → IsNoEntryOf other buckets → IsNoEntryOf other after
-
 -- A known map has the table with the word's count raised by n, and other objects as they were.
 abbrev pub IsCounted : (s after : Standing) (known : KnownObjects) (table : ℕ) (word : List ℕ) (n : ℕ) (name : Name) (counts : WordCounts) → MayCount s known table word n name counts → (KnownObjects → Type 0) → Type 0
 IsCounted s after known table word n name counts may knows =
     MakesUncounted s after counts word
-    × ((later : KnownObjects) × knows later × (table : IsCountTable later name (raised counts word n)) × KeepsOthers known name ((may.is_table).buckets (bucket_of word)) later × KeepsApart known (may.is_table).buckets table.buckets)
+    × ((later : KnownObjects) × knows later × (table : IsCountTable later name (raised counts word n)) × KeepsOthers known name ((may.is_table).buckets (bucket_of word)) later × StayNowhere known (may.is_table).buckets table.buckets)
 
 -- The word is not counted, and a known map has the table with the same counts, and all other objects as they were.
-abbrev pub IsUncounted : KnownObjects → List ℕ → Name → WordCounts → (KnownObjects → Type 0) → Type 0
-IsUncounted known word name counts knows =
-    (finite.get counts word ≡ None) × ((later : KnownObjects) × knows later × IsCountTable later name counts × Grows known later)
+abbrev pub IsUncounted : (s : Standing) (known : KnownObjects) (table : ℕ) (word : List ℕ) (n : ℕ) (name : Name) (counts : WordCounts) → MayCount s known table word n name counts → (KnownObjects → Type 0) → Type 0
+IsUncounted s known table word n name counts may knows =
+    (finite.get counts word ≡ None) × ((later : KnownObjects) × knows later × (after : IsCountTable later name counts) × Grows known later × (after.buckets ≡ (may.is_table).buckets))

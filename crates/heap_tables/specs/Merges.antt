@@ -11,7 +11,7 @@ use Rattle.yak_model.specs.Private.{IsKnown, KnownObjects}
 use Rattle.yak_model.specs.Room.{entry_words}
 use Rattle.yak_model.specs.Standing.{Standing}
 use Rattle.yak_model.specs.Tables.{IsCountTable, IsTable, Link, WordCounts}
-use Rattle.heap_tables.specs.Adds.{IsNoEntry, having_made, with_fields}
+use Rattle.heap_tables.specs.Adds.{IsNoEntry, IsNowhere, having_made, with_fields}
 use Rattle.heap_tables.specs.Counted.{count_of, or_zero, raised}
 use Rattle.heap_tables.specs.Reads.{AreShort}
 use Rattle.heap_tables.specs.Runs.{IsInSlot, Ran, RanOut, next_of, slot_in}
@@ -100,10 +100,6 @@ pub record IsMerge (m : Merge) : Type 0 where
 -- Slots refer to the two tables.
 abbrev pub AreSlots : Standing → ℕ → ℕ → Merge → Type 0
 AreSlots s from into m = (slot_in s from ≡ datum.Object m.from_name) × (slot_in s into ≡ datum.Object m.into_name)
-
--- The object is no entry of any bucket.
-abbrev pub IsNowhere : Name → (ℕ → List Link) → Type 0
-IsNowhere name buckets = (c : ℕ) → c < BUCKETS → IsNoEntry name (buckets c)
 
 -- Known objects but the table and its entries stay as they were, and become no entries.
 abbrev pub KeepsUntouched : KnownObjects → Name → (ℕ → List Link) → KnownObjects → (ℕ → List Link) → Type 0
@@ -200,7 +196,8 @@ pub record IsMergedWhole {S B : Type 0} (base : S → B) (tells : S → ℕ → 
   pub sums : WordCounts
   pub into_table : IsCountTable later into_name sums
   pub sums_are : (word : List ℕ) → finite.get sums word ≡ sum_of (finite.get into_counts word) (finite.get from_counts word)
-  pub others : (other : Name) → IsKnown known other → other ≢ into_name → IsNowhere other into_buckets → finite.get later other ≡ finite.get known other
+  pub from_same : from_table.buckets ≡ from_buckets
+  pub untouched : KeepsUntouched known into_name into_buckets later into_table.buckets
   pub made : ℕ
   pub new_words : made ≡ news into_counts (walk from_buckets BUCKETS)
   pub ran : Ran base tells tells_known standing a b (made * entry_words)
@@ -220,7 +217,8 @@ pub record IsMergedPart {S B : Type 0} (base : S → B) (tells : S → ℕ → T
   pub counts : WordCounts
   pub into_table : IsCountTable later into_name counts
   pub counts_are : counts ≡ raised_by into_counts done
-  pub others : (other : Name) → IsKnown known other → other ≢ into_name → IsNowhere other into_buckets → finite.get later other ≡ finite.get known other
+  pub from_same : from_table.buckets ≡ from_buckets
+  pub untouched : KeepsUntouched known into_name into_buckets later into_table.buckets
   pub made : ℕ
   pub new_words : made ≡ news into_counts done
   pub ran_out : RanOut base tells tells_known standing a b (made * entry_words) ENTRY_FIELDS

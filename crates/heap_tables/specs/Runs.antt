@@ -1,5 +1,5 @@
 -- What a run of calls of a caller leaves.
-use Rattle.std.specs.Prelude.{◌≡◌, ◌≢◌, ℕ, ◌+◌, ◌-◌, ◌<◌, ◌≤◌, List, [], ◌∷◌, ◌++◌, length, replicate, slice_index_or, slice_set, take, Option, Some, None}
+use Rattle.std.specs.Prelude.{◌≡◌, ℕ, ◌+◌, ◌-◌, ◌<◌, List, [], ◌∷◌, ◌++◌, length, replicate, slice_index_or, slice_set, take, Option, Some, None}
 use Rattle.std.specs.List.{All}
 use Rattle.std.specs.FinMap as finite
 use Rattle.object_layout.specs.declared.names.Name.{Name}
@@ -11,7 +11,7 @@ use Rattle.object_layout.specs.declared.replies.Reply.TheVariants as reply
 use Rattle.object_layout.specs.declared.TheConstants.{OBJECT_WORDS}
 use Rattle.yak_model.specs.declared.datum.Datum.{Datum}
 use Rattle.yak_model.specs.declared.datum.Datum.TheVariants as datum
-use Rattle.yak_model.specs.Graph.{Content, Fields, Thread}
+use Rattle.yak_model.specs.Graph.{Fields, Thread}
 use Rattle.yak_model.specs.History.{Entry, Said, Collected}
 use Rattle.yak_model.specs.Private.{KnownObjects}
 use Rattle.yak_model.specs.Standing.{Standing, Stays, counted_on}

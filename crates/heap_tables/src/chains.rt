@@ -11,8 +11,8 @@ ghost use Rattle.yak_model.specs.Tables.{Link};
 ghost use Rattle.heap_tables.specs.Walks.{HasEntry, IsEntryInSlot, HasChain, HasPlace, IsAtChain, Examined, Looked, HasWalk, IsApart, Walked, Found};
 
 use crate::keys::is_key;
-use yak_model::Caller;
 use crate::steps::{copy_field, load, pop, slot_is_null, store};
+use yak_model::Caller;
 
 /// What a look at a chain finds.
 #[derive(Clone, Copy, Debug, PartialEq, Eq, Drop)]
@@ -97,7 +97,13 @@ fn walk<C: Caller>(caller: &mut C, table: u32, bucket: u32, word: &[u8], top: u3
 }
 
 /// Pushes the front of a chain of the table, and the word's entry if there is one.
-pub(crate) fn find<C: Caller>(caller: &mut C, table: u32, bucket: u32, word: &[u8], top: u32) -> bool
+pub(crate) fn find<C: Caller>(
+    caller: &mut C,
+    table: u32,
+    bucket: u32,
+    word: &[u8],
+    top: u32,
+) -> bool
     requires chain { HasWalk (C.standing caller.old) (C.knows caller.old) table bucket }
     requires word { length word.now ≤ WORD_LIMIT }
     requires room { length (stack_in (C.standing caller.old)) + 3 < STACK_SLOTS }

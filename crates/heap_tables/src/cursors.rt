@@ -44,12 +44,23 @@ impl Model for Entry {
 fn start_in(at: Cursor, bucket: u32) -> u32
     ensures { result ≡ start_in at bucket }
 {
-    if bucket == u32::from(at.bucket) { at.place } else { 0 }
+    if bucket == u32::from(at.bucket) {
+        at.place
+    } else {
+        0
+    }
 }
 
 /// Copies the word of the first entry of a bucket that is at the cursor or past it into the buffer. Gives its length, its count
 /// and the place after it.
-fn visit<C: Caller>(caller: &mut C, table: u32, at: Cursor, bucket: u32, buffer: &mut [u8], top: u32) -> Option<(usize, u64, Cursor)>
+fn visit<C: Caller>(
+    caller: &mut C,
+    table: u32,
+    at: Cursor,
+    bucket: u32,
+    buffer: &mut [u8],
+    top: u32,
+) -> Option<(usize, u64, Cursor)>
     requires chain { HasShortWalk (C.standing caller.old) (C.knows caller.old) table bucket }
     requires few { HasFew (C.standing caller.old) (C.knows caller.old) table bucket }
     requires bucket { bucket < BUCKETS }
@@ -63,14 +74,27 @@ fn visit<C: Caller>(caller: &mut C, table: u32, at: Cursor, bucket: u32, buffer:
 {
     let place = start_in(at, bucket);
     match take_entry(caller, table, bucket, place, buffer, top) {
-        Some((size, count)) => Some((size, count, Cursor { bucket: bucket as u8, place: place + 1 })),
+        Some((size, count)) => Some((
+            size,
+            count,
+            Cursor {
+                bucket: bucket as u8,
+                place: place + 1,
+            },
+        )),
         None => None,
     }
 }
 
 /// Copies the word of the first entry at the cursor or past it into the buffer. Gives its length, its count and the place after
 /// it.
-fn find_next<C: Caller>(caller: &mut C, table: u32, at: Cursor, buffer: &mut [u8], top: u32) -> Option<(usize, u64, Cursor)>
+fn find_next<C: Caller>(
+    caller: &mut C,
+    table: u32,
+    at: Cursor,
+    buffer: &mut [u8],
+    top: u32,
+) -> Option<(usize, u64, Cursor)>
     requires table { HasTableWalk (C.standing caller.old) (C.knows caller.old) table }
     requires buffer { WORD_LIMIT ≤ length buffer.old }
     requires room { length (stack_in (C.standing caller.old)) + 3 < STACK_SLOTS }
@@ -105,7 +129,12 @@ fn copy_word(alloc: Global, bytes: &[u8]) -> Result<Vec<u8>, NoMemory>
 /// # Errors
 ///
 /// `NoMemory` where the word found no room.
-pub fn next_entry<C: Caller>(alloc: Global, caller: &mut C, table: u32, at: Cursor) -> Result<Option<Entry>, NoMemory>
+pub fn next_entry<C: Caller>(
+    alloc: Global,
+    caller: &mut C,
+    table: u32,
+    at: Cursor,
+) -> Result<Option<Entry>, NoMemory>
     requires table { HasTableWalk (C.standing caller.old) (C.knows caller.old) table }
     requires room { length (stack_in (C.standing caller.old)) + FREE_SLOTS ≤ STACK_SLOTS }
     ensures ran { Ran C.base C.tells C.tells_known C.standing caller.old caller.new 0 }

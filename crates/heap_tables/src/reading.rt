@@ -84,7 +84,14 @@ fn entry_word<C: Caller>(caller: &mut C, entry: u32, buffer: &mut [u8], top: u32
 
 /// Copies the word of the entry at a place of a bucket's chain into the buffer, and gives its length and the count, or `None`
 /// past the end of the chain.
-pub(crate) fn take_entry<C: Caller>(caller: &mut C, table: u32, bucket: u32, place: u32, buffer: &mut [u8], top: u32) -> Option<(usize, u64)>
+pub(crate) fn take_entry<C: Caller>(
+    caller: &mut C,
+    table: u32,
+    bucket: u32,
+    place: u32,
+    buffer: &mut [u8],
+    top: u32,
+) -> Option<(usize, u64)>
     requires chain { HasShortWalk (C.standing caller.old) (C.knows caller.old) table bucket }
     requires buffer { WORD_LIMIT ≤ length buffer.old }
     requires room { length (stack_in (C.standing caller.old)) + 3 < STACK_SLOTS }

@@ -16,11 +16,11 @@ ghost use Rattle.yak_model.specs.Tables.{bucket_of};
 ghost use Rattle.heap_tables.specs.Walks.{IsEntryInSlot};
 ghost use Rattle.heap_tables.specs.Adds.{AddRan, AddRanOut, AddsPresent, HasTable, MakesForNew, MayAdd, MayRaise, with_count, HasBlank, with_fields, with_linked, IsAddedTo, Grows};
 
-use object_layout::OutOfHeap;
-use yak_model::{BUCKETS, Caller, ENTRY_FIELDS};
 use crate::chains::find;
 use crate::keys::{bucket_of, make_key};
 use crate::steps::{field_int, load, pop, push_new, put_int, stack_size, store};
+use object_layout::OutOfHeap;
+use yak_model::{BUCKETS, Caller, ENTRY_FIELDS};
 
 /// Raises the count of an entry.
 fn raise<C: Caller>(caller: &mut C, entry: u32, n: u64, top: u32)
@@ -35,8 +35,11 @@ fn raise<C: Caller>(caller: &mut C, entry: u32, n: u64, top: u32)
     put_int(caller, entry, 2, count + n, top);
 }
 
-
 /// Pushes a new table of no words.
+///
+/// # Errors
+///
+/// `OutOfHeap` where the heap has no room for the table.
 pub fn make<C: Caller>(caller: &mut C) -> Result<(), OutOfHeap>
     requires some { KnowsSome (C.knows caller.old) }
     requires page { PAGE_WORDS ≤ (C.standing caller.old).limits.page }
@@ -44,7 +47,7 @@ pub fn make<C: Caller>(caller: &mut C) -> Result<(), OutOfHeap>
     requires names { (C.standing caller.old).own.made ≤ MOST_MADE }
     ensures ran { OnOk result (Ran C.base C.tells C.tells_known C.standing caller.old caller.new table_words) }
     ensures pushed { OnOk result ((C.standing caller.new).own ≡ with_made (C.standing caller.old)) }
-    ensures made { OnOk result ((known : KnownObjects) → C.knows caller.old known → C.knows caller.new (with_new (C.standing caller.old) known BUCKETS) × IsCountTable (with_new (C.standing caller.old) known BUCKETS) (next_of (C.standing caller.old)) finite.empty × (finite.get known (next_of (C.standing caller.old)) ≡ None)) }
+    ensures made { OnOk result ((known : KnownObjects) → C.knows caller.old known → C.knows caller.new (with_new (C.standing caller.old) known BUCKETS) × ((table : IsCountTable (with_new (C.standing caller.old) known BUCKETS) (next_of (C.standing caller.old)) finite.empty) × ((b : ℕ) → table.buckets b ≡ [])) × (finite.get known (next_of (C.standing caller.old)) ≡ None)) }
     ensures same { OnErr result ((C.standing caller.new).own ≡ (C.standing caller.old).own) }
     ensures keeps { OnErr result (KeepsKnown (C.knows caller.old) (C.knows caller.new)) }
     ensures ran_out { OnErr result (RanOut C.base C.tells C.tells_known C.standing caller.old caller.new 0 BUCKETS) }
@@ -53,7 +56,13 @@ pub fn make<C: Caller>(caller: &mut C) -> Result<(), OutOfHeap>
 }
 
 /// Adds to the count of a word that is in the table, and tells whether it is.
-pub(crate) fn add_present<C: Caller>(caller: &mut C, table: u32, word: &[u8], n: u64, top: u32) -> bool
+pub(crate) fn add_present<C: Caller>(
+    caller: &mut C,
+    table: u32,
+    word: &[u8],
+    n: u64,
+    top: u32,
+) -> bool
     requires table { HasTable (C.standing caller.old) (C.knows caller.old) table word.now n }
     requires word { length word.now ≤ WORD_LIMIT }
     requires room { length (stack_in (C.standing caller.old)) + 3 < STACK_SLOTS }
@@ -84,7 +93,7 @@ fn fill_entry<C: Caller>(caller: &mut C, entry: u32, next: u32, key: u32, n: u64
     requires top { length (stack_in (C.standing caller.old)) ≡ top }
     ensures ran { Ran C.base C.tells C.tells_known C.standing caller.old caller.new 0 }
     ensures own { (C.standing caller.new).own ≡ (C.standing caller.old).own }
-    ensures filled { (known : KnownObjects) (name : Name) (values : List Datum) → C.knows caller.old known → IsInSlot (C.standing caller.old) known entry name values → length values ≡ 3 → C.knows caller.new (with_fields known name (slot_in (C.standing caller.old) next) (slot_in (C.standing caller.old) key) n) }
+    ensures filled { (known : KnownObjects) (name : Name) (values : List Datum) → C.knows caller.old known → IsInSlot (C.standing caller.old) known entry name values → length values ≡ ENTRY_FIELDS → C.knows caller.new (with_fields known name (slot_in (C.standing caller.old) next) (slot_in (C.standing caller.old) key) n) }
 {
     store(caller, entry, 0, next);
     store(caller, entry, 1, key);
@@ -92,7 +101,13 @@ fn fill_entry<C: Caller>(caller: &mut C, entry: u32, next: u32, key: u32, n: u64
 }
 
 /// Makes an entry for the key in the top slot, and puts it at the front of a bucket, which the slot below has.
-pub(crate) fn link_new<C: Caller>(caller: &mut C, table: u32, bucket: u32, n: u64, front: u32) -> Result<(), OutOfHeap>
+pub(crate) fn link_new<C: Caller>(
+    caller: &mut C,
+    table: u32,
+    bucket: u32,
+    n: u64,
+    front: u32,
+) -> Result<(), OutOfHeap>
     requires number { n ≤ MAX_INT }
     requires table { HasField (C.standing caller.old) (C.knows caller.old) table bucket }
     requires page { PAGE_WORDS ≤ (C.standing caller.old).limits.page }
@@ -114,7 +129,14 @@ pub(crate) fn link_new<C: Caller>(caller: &mut C, table: u32, bucket: u32, n: u6
 }
 
 /// Puts a new entry of a new word at the front of its bucket, which the top slot has.
-fn insert_new<C: Caller>(caller: &mut C, table: u32, bucket: u32, word: &[u8], n: u64, front: u32) -> Result<(), OutOfHeap>
+fn insert_new<C: Caller>(
+    caller: &mut C,
+    table: u32,
+    bucket: u32,
+    word: &[u8],
+    n: u64,
+    front: u32,
+) -> Result<(), OutOfHeap>
     requires number { n ≤ MAX_INT }
     requires table { HasField (C.standing caller.old) (C.knows caller.old) table bucket }
     requires word { length word.now ≤ WORD_LIMIT }
@@ -143,7 +165,13 @@ fn insert_new<C: Caller>(caller: &mut C, table: u32, bucket: u32, word: &[u8], n
 }
 
 /// Adds to the count of a word, as far as chains go.
-fn add_links<C: Caller>(caller: &mut C, table: u32, word: &[u8], n: u64, top: u32) -> Result<(), OutOfHeap>
+fn add_links<C: Caller>(
+    caller: &mut C,
+    table: u32,
+    word: &[u8],
+    n: u64,
+    top: u32,
+) -> Result<(), OutOfHeap>
     requires table { HasTable (C.standing caller.old) (C.knows caller.old) table word.now n }
     requires word { length word.now ≤ WORD_LIMIT }
     requires page { PAGE_WORDS ≤ (C.standing caller.old).limits.page }
@@ -174,7 +202,11 @@ fn add_links<C: Caller>(caller: &mut C, table: u32, word: &[u8], n: u64, top: u3
     }
 }
 
-/// Adds to the count of a word.
+/// Adds to the count of a word. A new word gets a key and an entry at the front of its bucket.
+///
+/// # Errors
+///
+/// `OutOfHeap` where the word is new and the heap has no room for its key or its entry. The table is unchanged then.
 pub fn add<C: Caller>(caller: &mut C, table: u32, word: &[u8], n: u64) -> Result<(), OutOfHeap>
     requires table { HasCountTable (C.standing caller.old) (C.knows caller.old) table word.now n }
     requires word { length word.now ≤ WORD_LIMIT }
@@ -185,7 +217,7 @@ pub fn add<C: Caller>(caller: &mut C, table: u32, word: &[u8], n: u64) -> Result
     ensures ran_out { OnErr result (AddRanOut C.base C.tells C.tells_known C.standing caller.old caller.new word.now) }
     ensures stack { stack_in (C.standing caller.new) ≡ stack_in (C.standing caller.old) }
     ensures counted { OnOk result ((known : KnownObjects) (name : Name) (counts : WordCounts) (may : MayCount (C.standing caller.old) known table word.now n name counts) → C.knows caller.old known → IsCounted (C.standing caller.old) (C.standing caller.new) known table word.now n name counts may (C.knows caller.new)) }
-    ensures kept { OnErr result ((known : KnownObjects) (name : Name) (counts : WordCounts) → MayCount (C.standing caller.old) known table word.now n name counts → C.knows caller.old known → IsUncounted known word.now name counts (C.knows caller.new)) }
+    ensures kept { OnErr result ((known : KnownObjects) (name : Name) (counts : WordCounts) (may : MayCount (C.standing caller.old) known table word.now n name counts) → C.knows caller.old known → IsUncounted (C.standing caller.old) known table word.now n name counts may (C.knows caller.new)) }
 {
     let top = stack_size(caller);
     add_links(caller, table, word, n, top)

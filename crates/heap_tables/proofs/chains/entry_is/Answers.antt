@@ -1,5 +1,5 @@
 use Rattle.heap_tables.proofs.RunOn.{ran_more}
-use Rattle.std.proofs.Common.{◌≡◌, ℕ, ◌+◌, ◌<◌, ◌∙◌, ap, sym, subst, arith, length, get_or, rules}
+use Rattle.std.proofs.Common.{◌∙◌, ap, arith}
 use Rattle.yak_model.specs.declared.datum.Datum.TheVariants as datum
 use Rattle.heap_tables.specs.Runs.{popped}
 use Rattle.heap_tables.proofs.Effects.{popped_pushed, top_after, size_after}
@@ -12,7 +12,7 @@ load-requires-clause-field g c =
     (h.0, (h.2).entry, entry_fields h.1 (h.2).key (h.2).count, h.3, (h.4.0, h.4.1.0), omega arith)
 
 pub is_key-same-requires-clause-key : goal.is_key-same-requires-clause-key
-is_key-same-requires-clause-key g c = 
+is_key-same-requires-clause-key g c =
     let h = c.requires.entry in
     let e = c.load.ensures.pushed h.0 (h.2).entry (entry_fields h.1 (h.2).key (h.2).count) h.3 (h.4.0, h.4.1.0) (omega arith) in
     (h.0, (h.2).key, (h.2).word, c.load.ensures.keeps h.0 h.3, (top_after (g.C.Caller.standing c.args.caller.now).own _ (datum.Object (h.2).key) c.args.top e c.requires.top, h.4.1.1))

@@ -1,8 +1,8 @@
 use Rattle.heap_tables.proofs.RunOn.{ran_more}
-use Rattle.std.proofs.Common.{◌≡◌, ℕ, ◌+◌, ◌<◌, ◌∙◌, ap, sym, subst, refl, arith, length, get_or, set, length-set, rules, List}
+use Rattle.std.proofs.Common.{◌<◌, sym, subst, arith, get_or, set, length-set}
 use Rattle.yak_model.specs.declared.datum.Datum.TheVariants as datum
 use Rattle.heap_tables.proofs.Effects.{slot_after, top_after, size_after}
-use Rattle.heap_tables.specs.Walks.{with_place, Walked}
+use Rattle.heap_tables.specs.Walks.{Walked}
 use Rattle.heap_tables.proofs.Places.{left_place, put_back, found_after}
 use Rattle.heap_tables.proofs.chains.find.Goals as goal
 
@@ -35,8 +35,8 @@ store-requires-clause-field g c =
     let slot = slot_after (g.C.Caller.standing c.args.caller.now).own _ (get_or h.2 c.args.bucket datum.Null) h.0 c.args.table h.1 h.2 e h.5.0 in
     let size = size_after (g.C.Caller.standing c.args.caller.now).own _ (get_or h.2 c.args.bucket datum.Null) e in
     let left = left_place (C.standing c.load.new.caller) h.0 h.1 h.2 c.args.bucket c.args.word.now h.3 _ _ (C.knows c.walk-found.new.caller) c.args.table c.args.top (get_or h.2 c.args.bucket datum.Null)
-      (c.walk-found.ensures.walked h.0 h.1 h.2 h.3 (c.load.ensures.keeps h.0 h.4) (slot, h.5.1, h.5.2) h.6 h.7) slot
-      (top_after (g.C.Caller.standing c.args.caller.now).own _ (get_or h.2 c.args.bucket datum.Null) c.args.top e c.requires.top) (omega (arith, c.requires.top, size)) in
+    (c.walk-found.ensures.walked h.0 h.1 h.2 h.3 (c.load.ensures.keeps h.0 h.4) (slot, h.5.1, h.5.2) h.6 h.7) slot
+    (top_after (g.C.Caller.standing c.args.caller.now).own _ (get_or h.2 c.args.bucket datum.Null) c.args.top e c.requires.top) (omega (arith, c.requires.top, size)) in
     (_, h.1, set h.2 c.args.bucket left.place, left.known_now, (left.slot, left.object), subst (λ n. c.args.bucket < n) (sym (length-set h.2 c.args.bucket left.place)) h.5.1)
 
 pub store-requires-clause-value : goal.store-requires-clause-value
@@ -47,8 +47,8 @@ store-requires-clause-value g c =
     let slot = slot_after (g.C.Caller.standing c.args.caller.now).own _ (get_or h.2 c.args.bucket datum.Null) h.0 c.args.table h.1 h.2 e h.5.0 in
     let size = size_after (g.C.Caller.standing c.args.caller.now).own _ (get_or h.2 c.args.bucket datum.Null) e in
     (left_place (C.standing c.load.new.caller) h.0 h.1 h.2 c.args.bucket c.args.word.now h.3 _ _ (C.knows c.walk-found.new.caller) c.args.table c.args.top (get_or h.2 c.args.bucket datum.Null)
-      (c.walk-found.ensures.walked h.0 h.1 h.2 h.3 (c.load.ensures.keeps h.0 h.4) (slot, h.5.1, h.5.2) h.6 h.7) slot
-      (top_after (g.C.Caller.standing c.args.caller.now).own _ (get_or h.2 c.args.bucket datum.Null) c.args.top e c.requires.top) (omega (arith, c.requires.top, size))).below
+    (c.walk-found.ensures.walked h.0 h.1 h.2 h.3 (c.load.ensures.keeps h.0 h.4) (slot, h.5.1, h.5.2) h.6 h.7) slot
+    (top_after (g.C.Caller.standing c.args.caller.now).own _ (get_or h.2 c.args.bucket datum.Null) c.args.top e c.requires.top) (omega (arith, c.requires.top, size))).below
 
 pub returns-clause-found : goal.returns-clause-found
 returns-clause-found g c known name values links k at apart bound =
@@ -57,7 +57,7 @@ returns-clause-found g c known name values links k at apart bound =
     let slot = slot_after (g.C.Caller.standing c.args.caller.now).own _ (get_or values c.args.bucket datum.Null) known c.args.table name values e at.0 in
     found_after (C.standing c.load.new.caller) (g.C.Caller.standing c.args.caller.now).own (get_or values c.args.bucket datum.Null) known name values c.args.bucket c.args.word.now links _ _ (C.knows c.walk-found.new.caller)
     (subst (λ o. Walked (C.standing c.load.new.caller) known name values c.args.bucket c.args.word.now links c.walk-found.result o (C.knows c.walk-found.new.caller)) (sym c.store.ensures.own)
-      (c.walk-found.ensures.walked known name values links (c.load.ensures.keeps known k) (slot, at.1, at.2) apart bound)) e
+    (c.walk-found.ensures.walked known name values links (c.load.ensures.keeps known k) (slot, at.1, at.2) apart bound)) e
 
 pub returns-clause-known : goal.returns-clause-known
 returns-clause-known g c known name values links k at apart bound =
@@ -66,8 +66,8 @@ returns-clause-known g c known name values links k at apart bound =
     let slot = slot_after (g.C.Caller.standing c.args.caller.now).own _ (get_or values c.args.bucket datum.Null) known c.args.table name values e at.0 in
     let size = size_after (g.C.Caller.standing c.args.caller.now).own _ (get_or values c.args.bucket datum.Null) e in
     let left = left_place (C.standing c.load.new.caller) known name values c.args.bucket c.args.word.now links _ _ (C.knows c.walk-found.new.caller) c.args.table c.args.top (get_or values c.args.bucket datum.Null)
-      (c.walk-found.ensures.walked known name values links (c.load.ensures.keeps known k) (slot, at.1, at.2) apart bound) slot
-      (top_after (g.C.Caller.standing c.args.caller.now).own _ (get_or values c.args.bucket datum.Null) c.args.top e c.requires.top) (omega (arith, c.requires.top, size)) in
+    (c.walk-found.ensures.walked known name values links (c.load.ensures.keeps known k) (slot, at.1, at.2) apart bound) slot
+    (top_after (g.C.Caller.standing c.args.caller.now).own _ (get_or values c.args.bucket datum.Null) c.args.top e c.requires.top) (omega (arith, c.requires.top, size)) in
     put_back known name values c.args.bucket left.place _ (C.knows c.store.new.caller) left.front_there at.0.1
     (c.store.ensures.stored _ name (set values c.args.bucket left.place) left.known_now (left.slot, left.object) (subst (λ n. c.args.bucket < n) (sym (length-set values c.args.bucket left.place)) at.1))
 

@@ -1,13 +1,9 @@
 use Rattle.heap_tables.proofs.RunOn.{ran_more}
-use Rattle.std.proofs.Common.{◌≡◌, ℕ, ◌+◌, ◌<◌, ◌∙◌, ap, sym, subst, refl, arith, length, get_or, rules, true≢false, [], ◌∷◌, List}
-use Rattle.yak_model.specs.Graph.{Thread}
-use Rattle.yak_model.specs.declared.datum.Datum.{Datum}
+use Rattle.std.proofs.Common.{◌∙◌, ap, sym, refl, arith, get_or, true≢false}
 use Rattle.yak_model.specs.declared.datum.Datum.TheVariants as datum
-use Rattle.yak_model.specs.Private.{KnownObjects}
 use Rattle.heap_tables.specs.Runs.{popped}
-use Rattle.heap_tables.proofs.Effects.{popped_pushed, slot_same, slot_after, top_after, size_after}
+use Rattle.heap_tables.proofs.Effects.{popped_pushed, slot_after, top_after, size_after}
 use Rattle.heap_tables.proofs.Looks.{looked_end, looked_found, looked_further, first_entry}
-use Rattle.yak_model.specs.Tables.{Link, IsChain, IsEntry, entry_fields}
 use Rattle.heap_tables.proofs.chains.look_on.Goals as goal
 
 pub load-requires-clause-field : goal.load-requires-clause-field
@@ -46,10 +42,17 @@ examine-requires-clause-place g c =
     let e = c.load.ensures.pushed h.0 h.1 h.2 h.4 h.5.0 h.5.1 in
     let there = top_after (g.C.Caller.standing c.args.caller.now).own _ (get_or h.2 c.args.bucket datum.Null) c.args.top e c.requires.top in
     let after = c.slot_is_null.ensures.own ∙ e in
-    let first = first_entry (g.C.Caller.standing c.args.caller.now) h.0 h.1 h.2 c.args.bucket c.args.word.now (g.C.Caller.standing c.args.caller.now).own (g.C.Caller.knows c.args.caller.now) h.3 h.5.2 (λ null. true≢false (sym (c.if-slot_is_null.ensures.answer.1 (there ∙ null)))) in
-    (h.0, h.1, h.2, first.0, first.1, c.slot_is_null.ensures.keeps h.0 (c.load.ensures.keeps h.0 h.4),
-      slot_after (g.C.Caller.standing c.args.caller.now).own _ (get_or h.2 c.args.bucket datum.Null) h.0 c.args.table h.1 h.2 after h.5.0, h.5.1,
-      (top_after (g.C.Caller.standing c.args.caller.now).own _ (get_or h.2 c.args.bucket datum.Null) c.args.top after c.requires.top ∙ first.2, first.3))
+    let first = first_entry (g.C.Caller.standing c.args.caller.now) h.0 h.1 h.2 c.args.bucket c.args.word.now (g.C.Caller.standing c.args.caller.now).own (g.C.Caller.knows c.args.caller.now) h.3 h.5.2 (λ null. true≢false (sym (c.if-slot_is_null.ensures.answer.1 (there ∙ null)))) in (
+      h.0,
+      h.1,
+      h.2,
+      first.0,
+      first.1,
+      c.slot_is_null.ensures.keeps h.0 (c.load.ensures.keeps h.0 h.4),
+      slot_after (g.C.Caller.standing c.args.caller.now).own _ (get_or h.2 c.args.bucket datum.Null) h.0 c.args.table h.1 h.2 after h.5.0,
+      h.5.1,
+      (top_after (g.C.Caller.standing c.args.caller.now).own _ (get_or h.2 c.args.bucket datum.Null) c.args.top after c.requires.top ∙ first.2, first.3),
+    )
 
 pub examine-requires-clause-room : goal.examine-requires-clause-room
 examine-requires-clause-room g c =
@@ -71,8 +74,8 @@ returns-then-examine-clause-looked g c known name values links k at =
     looked_found (g.C.Caller.standing c.args.caller.now) known name values c.args.bucket c.args.word.now _ (g.C.Caller.knows c.examine.new.caller) (g.C.Caller.standing c.slot_is_null.new.caller) links at.2
     (λ null. true≢false (sym (c.if-slot_is_null.ensures.answer.1 (there ∙ null))))
     (λ next link head entry. c.if-examine.ensures.examined known name values next link (c.slot_is_null.ensures.keeps known (c.load.ensures.keeps known k))
-      (slot_after (g.C.Caller.standing c.args.caller.now).own _ (get_or values c.args.bucket datum.Null) known c.args.table name values after at.0) at.1
-      (top_after (g.C.Caller.standing c.args.caller.now).own _ (get_or values c.args.bucket datum.Null) c.args.top after c.requires.top ∙ head, entry))
+    (slot_after (g.C.Caller.standing c.args.caller.now).own _ (get_or values c.args.bucket datum.Null) known c.args.table name values after at.0) at.1
+    (top_after (g.C.Caller.standing c.args.caller.now).own _ (get_or values c.args.bucket datum.Null) c.args.top after c.requires.top ∙ head, entry))
     after
 
 pub returns-else-examine-clause-looked : goal.returns-else-examine-clause-looked
@@ -83,8 +86,8 @@ returns-else-examine-clause-looked g c known name values links k at =
     looked_further (g.C.Caller.standing c.args.caller.now) known name values c.args.bucket c.args.word.now _ (g.C.Caller.knows c.examine.new.caller) (g.C.Caller.standing c.slot_is_null.new.caller) links at.2
     (λ null. true≢false (sym (c.if-slot_is_null.ensures.answer.1 (there ∙ null))))
     (λ next link head entry. c.if-examine.ensures.examined known name values next link (c.slot_is_null.ensures.keeps known (c.load.ensures.keeps known k))
-      (slot_after (g.C.Caller.standing c.args.caller.now).own _ (get_or values c.args.bucket datum.Null) known c.args.table name values after at.0) at.1
-      (top_after (g.C.Caller.standing c.args.caller.now).own _ (get_or values c.args.bucket datum.Null) c.args.top after c.requires.top ∙ head, entry))
+    (slot_after (g.C.Caller.standing c.args.caller.now).own _ (get_or values c.args.bucket datum.Null) known c.args.table name values after at.0) at.1
+    (top_after (g.C.Caller.standing c.args.caller.now).own _ (get_or values c.args.bucket datum.Null) c.args.top after c.requires.top ∙ head, entry))
     after
 
 pub returns-then-slot_is_null-clause-ran : goal.returns-then-slot_is_null-clause-ran

@@ -1,4 +1,5 @@
-use Rattle.std.proofs.Common.{◌≡◌, ◌⊎◌, inl, inr, ℕ, ◌+◌, ◌<◌, ◌≤◌, ◌∙◌, ap, sym, subst, refl, arith, length}
+use Rattle.std.proofs.Common.{inl, inr, ◌<◌, ◌∙◌, ap, refl, arith, length}
+use Rattle.yak_model.specs.declared.TheConstants.{BUCKETS}
 use Rattle.yak_model.specs.Graph.{Thread}
 use Rattle.heap_tables.proofs.RunOn.{ran_none, ran_more}
 use Rattle.heap_tables.proofs.Visits.{is_next, none_past, walk_apart, walk_at, walk_short}
@@ -19,10 +20,18 @@ visit-requires-clause-chain g c =
     let h = c.requires.table in
     let s = C.standing c.args.caller.now in
     let b = c.loop-bucket.bucket in
-    let bound : b < 128 = omega (arith, c.loop-bucket-test.true) in
-    let few = (h.4).few b bound in
-    (h.0, h.1, ((h.4).is_table).heads, ((h.4).is_table).buckets b, (c.loop-bucket.invariant.gone h.0 h.1 h.2 h.4 h.3).0,
-      walk_at s h.0 c.args.table h.1 h.2 h.4 b bound (C.standing c.loop-bucket.caller) c.loop-bucket.invariant.own, walk_apart s h.0 c.args.table h.1 h.2 h.4 b bound, omega (arith, few), walk_short s h.0 c.args.table h.1 h.2 h.4 b bound)
+    let bound : b < BUCKETS = omega (arith, c.loop-bucket-test.true) in
+    let few = (h.4).few b bound in (
+      h.0,
+      h.1,
+      ((h.4).is_table).heads,
+      ((h.4).is_table).buckets b,
+      (c.loop-bucket.invariant.gone h.0 h.1 h.2 h.4 h.3).0,
+      walk_at s h.0 c.args.table h.1 h.2 h.4 b bound (C.standing c.loop-bucket.caller) c.loop-bucket.invariant.own,
+      walk_apart s h.0 c.args.table h.1 h.2 h.4 b bound,
+      omega (arith, few),
+      walk_short s h.0 c.args.table h.1 h.2 h.4 b bound,
+    )
 
 pub visit-requires-clause-few : goal.visit-requires-clause-few
 visit-requires-clause-few g c =
@@ -30,9 +39,16 @@ visit-requires-clause-few g c =
     let h = c.requires.table in
     let s = C.standing c.args.caller.now in
     let b = c.loop-bucket.bucket in
-    let bound : b < 128 = omega (arith, c.loop-bucket-test.true) in
-    (h.0, h.1, ((h.4).is_table).heads, ((h.4).is_table).buckets b, (c.loop-bucket.invariant.gone h.0 h.1 h.2 h.4 h.3).0,
-      walk_at s h.0 c.args.table h.1 h.2 h.4 b bound (C.standing c.loop-bucket.caller) c.loop-bucket.invariant.own, walk_apart s h.0 c.args.table h.1 h.2 h.4 b bound, (h.4).few b bound)
+    let bound : b < BUCKETS = omega (arith, c.loop-bucket-test.true) in (
+      h.0,
+      h.1,
+      ((h.4).is_table).heads,
+      ((h.4).is_table).buckets b,
+      (c.loop-bucket.invariant.gone h.0 h.1 h.2 h.4 h.3).0,
+      walk_at s h.0 c.args.table h.1 h.2 h.4 b bound (C.standing c.loop-bucket.caller) c.loop-bucket.invariant.own,
+      walk_apart s h.0 c.args.table h.1 h.2 h.4 b bound,
+      (h.4).few b bound,
+    )
 
 pub visit-requires-clause-room : goal.visit-requires-clause-room
 visit-requires-clause-room g c = omega (arith, c.requires.room, ap (λ (o : Thread). length o.stack) c.loop-bucket.invariant.own)
@@ -51,7 +67,7 @@ returns-in-Some-clause-found g c known name counts may k =
     let C = g.C.Caller in
     let s = C.standing c.args.caller.now in
     let b = c.loop-bucket.bucket in
-    let bound : b < 128 = omega (arith, c.loop-bucket-test.true) in
+    let bound : b < BUCKETS = omega (arith, c.loop-bucket-test.true) in
     let r = c.loop-bucket.invariant.gone known name counts may k in
     let v = c.in-Some.ensures.visited known name (may.is_table).heads ((may.is_table).buckets b) r.0 (walk_at s known c.args.table name counts may b bound (C.standing c.loop-bucket.caller) c.loop-bucket.invariant.own) (walk_apart s known c.args.table name counts may b bound) in
     (is_next (may.is_table).buckets c.args.at b bound c.loop-bucket.invariant.low r.1 c.in-Some.found c.visit.new.buffer (walk_short s known c.args.table name counts may b bound) v.0, v.1)
@@ -62,16 +78,16 @@ loop-bucket-preserved g c =
     let s = C.standing c.args.caller.now in
     let inv = c.loop-bucket.invariant in
     let b = c.loop-bucket.bucket in
-    let bound : b < 128 = omega (arith, c.loop-bucket-test.true) in
+    let bound : b < BUCKETS = omega (arith, c.loop-bucket-test.true) in
     record {
       ran = ran_more C.base C.tells C.tells_known C.standing _ _ _ inv.ran c.visit.ensures.ran;
       own = c.visit.ensures.own ∙ inv.own;
       buffer = c.visit.ensures.buffer ∙ inv.buffer;
       low = let h = inv.low in omega (arith, h);
       gone = λ known name counts may k.
-        let r = inv.gone known name counts may k in
-        let v = c.in-None.ensures.visited known name (may.is_table).heads ((may.is_table).buckets b) r.0 (walk_at s known c.args.table name counts may b bound (C.standing c.loop-bucket.caller) inv.own) (walk_apart s known c.args.table name counts may b bound) in
-        (v.1, none_past (may.is_table).buckets c.args.at b v.0 r.1);
+          let r = inv.gone known name counts may k in
+          let v = c.in-None.ensures.visited known name (may.is_table).heads ((may.is_table).buckets b) r.0 (walk_at s known c.args.table name counts may b bound (C.standing c.loop-bucket.caller) inv.own) (walk_apart s known c.args.table name counts may b bound) in
+          (v.1, none_past (may.is_table).buckets c.args.at b v.0 r.1);
     }
 
 pub returns-clause-found : goal.returns-clause-found

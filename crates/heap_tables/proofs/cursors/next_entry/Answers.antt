@@ -1,4 +1,4 @@
-use Rattle.std.proofs.Common.{◌≡◌, ℕ, ◌+◌, ◌<◌, ◌∙◌, ap, sym, subst, refl, arith, length, List, Ok, Err}
+use Rattle.std.proofs.Common.{◌≡◌, ℕ, ◌∙◌, ap, sym, subst, arith, length}
 use Rattle.yak_model.specs.Graph.{Thread}
 use Rattle.heap_tables.specs.Cursors.{IsNext}
 use Rattle.std.proofs.lemmas.List.{length-replicate}
@@ -57,7 +57,7 @@ returns-in_ok-word-in-Some-clause-next g c known name counts may k =
     let now = walk_now (C.standing c.args.caller.now) (C.standing c.stack_size-top.new.caller) known c.args.table name counts may c.stack_size-top.ensures.own in
     let found = (c.in-Some.ensures.found known name counts now (c.stack_size-top.ensures.keeps known k)).0 in
     let next : IsNext (may.is_table).buckets c.args.at c.in_ok-word-in-Some.word.items c.in-Some.count c.in-Some.next =
-      subst (λ w. IsNext (may.is_table).buckets c.args.at w c.in-Some.count c.in-Some.next) (sym c.in_ok-word-in-Some.ensures) found.1 in
+    subst (λ w. IsNext (may.is_table).buckets c.args.at w c.in-Some.count c.in-Some.next) (sym c.in_ok-word-in-Some.ensures) found.1 in
     (next, next_count known name counts may.is_table c.args.at c.in_ok-word-in-Some.word.items c.in-Some.count c.in-Some.next next)
 
 pub returns-in-None-clause-ran : goal.returns-in-None-clause-ran

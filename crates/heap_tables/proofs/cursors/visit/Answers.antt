@@ -1,4 +1,4 @@
-use Rattle.std.proofs.Common.{◌≡◌, ℕ, ◌+◌, ◌<◌, ◌∙◌, ap, sym, subst, refl, arith, length, drop}
+use Rattle.std.proofs.Common.{◌∙◌, ap, sym, arith, drop}
 use Rattle.heap_tables.proofs.Visits.{drop_below, took_nothing, took_parts, took_visited}
 use Rattle.heap_tables.proofs.cursors.visit.Goals as goal
 

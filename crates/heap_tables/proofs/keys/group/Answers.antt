@@ -1,4 +1,5 @@
-use Rattle.std.proofs.Common.{◌+◌, ◌*◌, ◌^◌, ◌<◌, ◌≡◌, arith, refl, rules, ap, subst, ◌∙◌, ℕ}
+use Rattle.std.proofs.Common.{◌*◌, ◌^◌, ◌<◌, ◌≡◌, arith, ap, subst, ◌∙◌}
+use Rattle.yak_model.specs.declared.TheConstants.{BYTE_VALUES, GROUP_BYTES}
 use Rattle.heap_tables.proofs.Groups.{power_bound}
 use Rattle.yak_model.specs.Tables.{digits, group}
 use Rattle.heap_tables.proofs.keys.group.Goals as goal
@@ -11,11 +12,11 @@ overflow_add-value c = let h = c.loop-j-test.true in omega (arith, c.loop-j.inva
 
 pub returns-clause-same : goal.returns-clause-same
 unfolding group
-returns-clause-same c = let h = c.loop-j.auto.j-end in let e : c.loop-j.j ≡ 7 = omega (arith, h, c.loop-j-test.false) in c.loop-j.invariant.1 ∙ ap (λ n. digits c.args.word.now (7 * c.args.i) n) e
+returns-clause-same c = let h = c.loop-j.auto.j-end in let e : c.loop-j.j ≡ GROUP_BYTES = omega (arith, h, c.loop-j-test.false) in c.loop-j.invariant.1 ∙ ap (λ n. digits c.args.word.now (GROUP_BYTES * c.args.i) n) e
 
 pub returns-clause-small : goal.returns-clause-small
 returns-clause-small c =
     let h = c.loop-j.auto.j-end in
-    let e : c.loop-j.j ≡ 7 = omega (arith, h, c.loop-j-test.false) in
-    let low : c.loop-j.value < 256 ^ 7 = subst (λ n. c.loop-j.value < 256 ^ n) e c.loop-j.invariant.0 in
+    let e : c.loop-j.j ≡ GROUP_BYTES = omega (arith, h, c.loop-j-test.false) in
+    let low : c.loop-j.value < BYTE_VALUES ^ GROUP_BYTES = subst (λ n. c.loop-j.value < BYTE_VALUES ^ n) e c.loop-j.invariant.0 in
     omega (arith, low)

@@ -1,6 +1,5 @@
-use Rattle.std.proofs.Common.{◌≡◌, ℕ, ◌+◌, ◌<◌, ◌/◌, ◌∙◌, ap, sym, subst, refl, arith, length, get_or, rules, below_more, List}
+use Rattle.std.proofs.Common.{◌≡◌, ℕ, ◌∙◌, ap, sym, refl, arith, get_or, below_more}
 use Rattle.yak_model.specs.Graph.{Thread}
-use Rattle.yak_model.specs.declared.datum.Datum.{Datum}
 use Rattle.yak_model.specs.declared.datum.Datum.TheVariants as datum
 use Rattle.heap_tables.proofs.RunOn.{ran_more}
 use Rattle.yak_model.specs.Tables.{group, groups}
@@ -31,12 +30,12 @@ loop-i-preserved g c =
       keeps = λ known k. c.field_is-in-loop-i.ensures.keeps known (inv.keeps known k);
       own = c.field_is-in-loop-i.ensures.own ∙ inv.own;
       same = λ known name other k key.
-        let old = inv.same known name other k key in
-        let slot = ap (λ (o : Thread). get_or o.stack c.args.key datum.Null) inv.own ∙ key.0 in
-        let fits = ap (λ n. groups n) old.0 in
-        let answer = (c.if-not-field_is-2.ensures.answer known name key.1.0 (inv.keeps known k) (slot, key.1.1) (omega (arith, key.1.2.size, fits, c.loop-i-test.true, c.groups-count.ensures.groups))).0 refl in
-        let here = same_int _ _ (sym (key.1.2.rest c.loop-i.i (omega (arith, fits, c.loop-i-test.true, c.groups-count.ensures.groups))) ∙ answer) ∙ c.group.ensures.same in
-        (old.0, below_more (λ j. group other j ≡ group c.args.word.now j) c.loop-i.i old.1 here);
+          let old = inv.same known name other k key in
+          let slot = ap (λ (o : Thread). get_or o.stack c.args.key datum.Null) inv.own ∙ key.0 in
+          let fits = ap (λ n. groups n) old.0 in
+          let answer = (c.if-not-field_is-2.ensures.answer known name key.1.0 (inv.keeps known k) (slot, key.1.1) (omega (arith, key.1.2.size, fits, c.loop-i-test.true, c.groups-count.ensures.groups))).0 refl in
+          let here = same_int _ _ (sym (key.1.2.rest c.loop-i.i (omega (arith, fits, c.loop-i-test.true, c.groups-count.ensures.groups))) ∙ answer) ∙ c.group.ensures.same in
+          (old.0, below_more (λ j. group other j ≡ group c.args.word.now j) c.loop-i.i old.1 here);
     }
 
 pub returns-clause-answer : goal.returns-clause-answer

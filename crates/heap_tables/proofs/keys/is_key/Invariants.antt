@@ -1,8 +1,8 @@
 use Rattle.std.proofs.Common.{◌≡◌, ℕ, ◌<◌, List, length}
 use Rattle.object_layout.specs.declared.names.Name.{Name}
 use Rattle.yak_model.specs.Private.{KnownObjects}
-use Rattle.heap_tables.specs.Runs.{KeepsKnown, Ran, stack_in}
-use Rattle.yak_model.specs.Tables.{group, groups}
+use Rattle.heap_tables.specs.Runs.{KeepsKnown, Ran}
+use Rattle.yak_model.specs.Tables.{group}
 use Rattle.heap_tables.specs.Keys.{IsKeyInSlot}
 use Rattle.heap_tables.proofs.keys.is_key.Given as goal
 

@@ -1,4 +1,4 @@
-use Rattle.std.proofs.Common.{◌≡◌, ℕ, ◌+◌, ◌-◌, ◌<◌, ◌≤◌, List}
+use Rattle.std.proofs.Common.{◌≡◌, ℕ, ◌+◌, ◌-◌, List}
 use Rattle.yak_model.specs.declared.TheConstants.{GROUP_BYTES}
 use Rattle.yak_model.specs.Tables.{AreBytes, digits}
 use Rattle.heap_tables.proofs.reading.byte_of.Given as goal

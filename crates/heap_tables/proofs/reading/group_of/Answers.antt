@@ -1,4 +1,5 @@
-use Rattle.std.proofs.Common.{◌≡◌, ◌≢◌, ℕ, ◌+◌, ◌/◌, ◌%◌, ◌<◌, ◌≤◌, ap, sym, refl, arith, length}
+use Rattle.std.proofs.Common.{◌/◌, arith}
+use Rattle.yak_model.specs.declared.TheConstants.{GROUP_BYTES}
 use Rattle.heap_tables.proofs.reading.group_of.Goals as goal
 
 pub field_int-requires-clause-field : goal.field_int-requires-clause-field
@@ -8,4 +9,4 @@ field_int-requires-clause-field g c =
 
 pub returns-clause-group : goal.returns-clause-group
 returns-clause-group g c known name word k key below last =
-    c.field_int.ensures.value known name key.1.0 _ k (key.0, key.1.1) (omega (arith, key.1.2.size, below)) (key.1.2.rest (c.args.i / 7) (omega (arith, below)))
+    c.field_int.ensures.value known name key.1.0 _ k (key.0, key.1.1) (omega (arith, key.1.2.size, below)) (key.1.2.rest (c.args.i / GROUP_BYTES) (omega (arith, below)))

@@ -1,7 +1,6 @@
-use Rattle.std.proofs.Common.{◌≡◌, ◌≢◌, ℕ, ◌+◌, ◌*◌, ◌/◌, ◌%◌, ◌<◌, ◌≤◌, ◌∙◌, ap, sym, subst, refl, arith, length, length-set, get_or}
-use Rattle.yak_model.specs.Graph.{Thread}
-use Rattle.yak_model.specs.declared.datum.Datum.TheVariants as datum
-use Rattle.yak_model.specs.Tables.{digits, group}
+use Rattle.std.proofs.Common.{◌≡◌, ◌+◌, ◌*◌, ◌/◌, ◌%◌, ◌<◌, ◌∙◌, ap, refl, arith, length, length-set, get_or}
+use Rattle.yak_model.specs.declared.TheConstants.{GROUP_BYTES}
+use Rattle.yak_model.specs.Tables.{group}
 use Rattle.heap_tables.proofs.Bytes.{front_more, group_digits, next_group, same_front}
 use Rattle.heap_tables.proofs.Effects.{value_same}
 use Rattle.heap_tables.proofs.RunOn.{ran_more}
@@ -18,9 +17,11 @@ loop-i-init g c = let C = g.C.Caller in record {
   keeps = c.field_int-size.ensures.keeps;
   own = c.field_int-size.ensures.own;
   buffer = refl;
-  read = λ known name word k key.
-    (c.field_int-size.ensures.value known name key.1.0 (length word) k (key.0, key.1.1) (omega (arith, key.1.2.size)) key.1.2.first,
-      λ ne. absurd (ne refl), λ j h. absurd (omega (arith, h)));
+  read = λ known name word k key. (
+    c.field_int-size.ensures.value known name key.1.0 (length word) k (key.0, key.1.1) (omega (arith, key.1.2.size)) key.1.2.first,
+    λ ne. absurd (ne refl),
+    λ j h. absurd (omega (arith, h)),
+  );
 }
 
 pub group_of-group-requires-clause-key : goal.group_of-group-requires-clause-key
@@ -45,14 +46,16 @@ loop-i-preserved g c =
       own = c.group_of-group.ensures.own ∙ inv.own;
       buffer = length-set c.loop-i.buffer i c.byte_of.result ∙ inv.buffer;
       read = λ known name word k key.
-        let r = inv.read known name word k key in
-        let size = r.0 in
-        let below : i < length word = omega (arith, c.loop-i-test.true, size) in
-        let e = c.group_of-group.ensures.group known name word (inv.keeps known k) (value_same _ _ c.args.key inv.own ∙ key.0, key.1) below r.1 in
-        let place : 7 * (i / 7) + i % 7 ≡ i = omega arith in
-        let byte = c.byte_of.ensures word (7 * (i / 7)) key.1.3 (e ∙ group_digits word (i / 7)) ∙ ap (λ j. get_or word j 0) place in
-        (r.0, (λ ne. let same : i / 7 ≡ (i + 1) / 7 = next_group i ne in e ∙ ap (group word) same),
-          (λ j h. front_more word c.loop-i.buffer i c.byte_of.result within r.2 byte j h));
+          let r = inv.read known name word k key in
+          let size = r.0 in
+          let below : i < length word = omega (arith, c.loop-i-test.true, size) in
+          let e = c.group_of-group.ensures.group known name word (inv.keeps known k) (value_same _ _ c.args.key inv.own ∙ key.0, key.1) below r.1 in
+          let place : GROUP_BYTES * (i / GROUP_BYTES) + i % GROUP_BYTES ≡ i = omega arith in
+          let byte = c.byte_of.ensures word (GROUP_BYTES * (i / GROUP_BYTES)) key.1.3 (e ∙ group_digits word (i / GROUP_BYTES)) ∙ ap (λ j. get_or word j 0) place in (
+            r.0,
+            (λ ne. let same : i / GROUP_BYTES ≡ (i + 1) / GROUP_BYTES = next_group i ne in e ∙ ap (group word) same),
+            (λ j h. front_more word c.loop-i.buffer i c.byte_of.result within r.2 byte j h),
+          );
     }
 
 pub returns-clause-copied : goal.returns-clause-copied

@@ -1,4 +1,4 @@
-use Rattle.std.proofs.Common.{◌≡◌, ℕ, ◌+◌, ◌<◌, ◌∙◌, ap, sym, subst, refl, arith, length, drop, get_or, true≢false}
+use Rattle.std.proofs.Common.{◌+◌, ◌∙◌, ap, sym, refl, arith, length, drop, get_or, true≢false}
 use Rattle.yak_model.specs.Graph.{Thread}
 use Rattle.yak_model.specs.declared.datum.Datum.TheVariants as datum
 use Rattle.yak_model.specs.Tables.{entry_fields}

@@ -1,5 +1,4 @@
-use Rattle.std.proofs.Common.{◌≡◌, ℕ, ◌+◌, ◌<◌, ◌∙◌, ap, sym, subst, refl, arith, length, get_or, rules, true≢false}
-use Rattle.yak_model.specs.Graph.{Thread}
+use Rattle.std.proofs.Common.{◌∙◌, ap, sym, refl, arith, get_or, true≢false}
 use Rattle.yak_model.specs.declared.datum.Datum.TheVariants as datum
 use Rattle.heap_tables.specs.Runs.{popped}
 use Rattle.heap_tables.proofs.Effects.{popped_pushed, slot_after, top_after, size_after}
@@ -51,10 +50,18 @@ copy_field-requires-clause-both g c =
     let e = c.load.ensures.pushed h.0 h.1 h.2 h.4 h.5.0 h.5.1 in
     let there = top_after (g.C.Caller.standing c.args.caller.now).own _ (get_or h.2 c.args.bucket datum.Null) c.args.top e c.requires.top in
     let after = c.slot_is_null.ensures.own ∙ e in
-    let first = first_link h.0 (get_or h.2 c.args.bucket datum.Null) h.3 h.5.2 (λ null. true≢false (sym (c.if-slot_is_null.ensures.answer.1 (there ∙ null)))) in
-    (h.0, (first.1).entry, entry_fields first.0 (first.1).key (first.1).count, h.1, h.2, c.slot_is_null.ensures.keeps h.0 (c.load.ensures.keeps h.0 h.4),
-      (top_after (g.C.Caller.standing c.args.caller.now).own _ (get_or h.2 c.args.bucket datum.Null) c.args.top after c.requires.top ∙ first.2, first.3.0), omega arith,
-      slot_after (g.C.Caller.standing c.args.caller.now).own _ (get_or h.2 c.args.bucket datum.Null) h.0 c.args.table h.1 h.2 after h.5.0, h.5.1)
+    let first = first_link h.0 (get_or h.2 c.args.bucket datum.Null) h.3 h.5.2 (λ null. true≢false (sym (c.if-slot_is_null.ensures.answer.1 (there ∙ null)))) in (
+      h.0,
+      (first.1).entry,
+      entry_fields first.0 (first.1).key (first.1).count,
+      h.1,
+      h.2,
+      c.slot_is_null.ensures.keeps h.0 (c.load.ensures.keeps h.0 h.4),
+      (top_after (g.C.Caller.standing c.args.caller.now).own _ (get_or h.2 c.args.bucket datum.Null) c.args.top after c.requires.top ∙ first.2, first.3.0),
+      omega arith,
+      slot_after (g.C.Caller.standing c.args.caller.now).own _ (get_or h.2 c.args.bucket datum.Null) h.0 c.args.table h.1 h.2 after h.5.0,
+      h.5.1,
+    )
 
 pub copy_field-requires-clause-room : goal.copy_field-requires-clause-room
 copy_field-requires-clause-room g c =
@@ -74,10 +81,12 @@ pop-requires-2-clause-some g c =
     let e = c.load.ensures.pushed h.0 h.1 h.2 h.4 h.5.0 h.5.1 in
     let there = top_after (g.C.Caller.standing c.args.caller.now).own _ (get_or h.2 c.args.bucket datum.Null) c.args.top e c.requires.top in
     let after = c.slot_is_null.ensures.own ∙ e in
-    let first = first_link h.0 (get_or h.2 c.args.bucket datum.Null) h.3 h.5.2 (λ null. true≢false (sym (c.if-slot_is_null.ensures.answer.1 (there ∙ null)))) in
-    (_, c.copy_field.ensures.stored h.0 (first.1).entry h.1 (entry_fields first.0 (first.1).key (first.1).count) h.2 (c.slot_is_null.ensures.keeps h.0 (c.load.ensures.keeps h.0 h.4))
-      (top_after (g.C.Caller.standing c.args.caller.now).own _ (get_or h.2 c.args.bucket datum.Null) c.args.top after c.requires.top ∙ first.2, first.3.0) (omega arith)
-      (slot_after (g.C.Caller.standing c.args.caller.now).own _ (get_or h.2 c.args.bucket datum.Null) h.0 c.args.table h.1 h.2 after h.5.0) h.5.1)
+    let first = first_link h.0 (get_or h.2 c.args.bucket datum.Null) h.3 h.5.2 (λ null. true≢false (sym (c.if-slot_is_null.ensures.answer.1 (there ∙ null)))) in (
+      _,
+      c.copy_field.ensures.stored h.0 (first.1).entry h.1 (entry_fields first.0 (first.1).key (first.1).count) h.2 (c.slot_is_null.ensures.keeps h.0 (c.load.ensures.keeps h.0 h.4))
+          (top_after (g.C.Caller.standing c.args.caller.now).own _ (get_or h.2 c.args.bucket datum.Null) c.args.top after c.requires.top ∙ first.2, first.3.0) (omega arith)
+          (slot_after (g.C.Caller.standing c.args.caller.now).own _ (get_or h.2 c.args.bucket datum.Null) h.0 c.args.table h.1 h.2 after h.5.0) h.5.1,
+    )
 
 pub pop-requires-2-clause-slot : goal.pop-requires-2-clause-slot
 pop-requires-2-clause-slot g c =
@@ -101,5 +110,5 @@ returns-clause-passed g c known name values links k at =
     let after = c.slot_is_null.ensures.own ∙ e in
     passed_on known name values c.args.bucket (g.C.Caller.knows c.pop-2.new.caller) links at.2 (λ null. true≢false (sym (c.if-slot_is_null.ensures.answer.1 (there ∙ null))))
     (λ next link head entry. c.pop-2.ensures.keeps _ (c.copy_field.ensures.stored known link.entry name (entry_fields next link.key link.count) values (c.slot_is_null.ensures.keeps known (c.load.ensures.keeps known k))
-      (top_after (g.C.Caller.standing c.args.caller.now).own _ (get_or values c.args.bucket datum.Null) c.args.top after c.requires.top ∙ head, entry.0) (omega arith)
-      (slot_after (g.C.Caller.standing c.args.caller.now).own _ (get_or values c.args.bucket datum.Null) known c.args.table name values after at.0) at.1))
+    (top_after (g.C.Caller.standing c.args.caller.now).own _ (get_or values c.args.bucket datum.Null) c.args.top after c.requires.top ∙ head, entry.0) (omega arith)
+    (slot_after (g.C.Caller.standing c.args.caller.now).own _ (get_or values c.args.bucket datum.Null) known c.args.table name values after at.0) at.1))

@@ -1,5 +1,4 @@
-use Rattle.std.proofs.Common.{◌≡◌, ℕ, ◌+◌, ◌<◌, ◌∙◌, ap, sym, subst, refl, arith, length, get_or, set, drop, rules, List}
-use Rattle.yak_model.specs.Graph.{Thread}
+use Rattle.std.proofs.Common.{◌∙◌, ap, arith, get_or, set, drop}
 use Rattle.yak_model.specs.declared.datum.Datum.TheVariants as datum
 use Rattle.heap_tables.specs.Runs.{pushed}
 use Rattle.heap_tables.specs.Seeks.{first_of}
@@ -86,6 +85,7 @@ returns-clause-sought g c known name values links k here apart =
     let rest = drop c.args.place links in
     let t = sought s known c.args.table name values c.args.bucket links here c.args.top c.requires.top rest (C.knows c.skip.new.caller) p (C.standing c.skip.new.caller).own (C.standing c.load-2.new.caller).own (c.skip.ensures.own ∙ e) in
     let up = c.load-2.ensures.pushed _ name (set values c.args.bucket t.place) t.known_now (t.slot_mid, t.object) t.within ∙ ap (pushed (C.standing c.skip.new.caller).own) t.value in
-    let stored = c.store.ensures.stored _ name (set values c.args.bucket t.place) (c.load-2.ensures.keeps _ t.known_now) (t.slot_own up, t.object) t.within in
-    (c.store.ensures.own ∙ up ∙ ap (λ o. pushed o (first_of rest)) (c.skip.ensures.own ∙ e),
-      put_back known name values c.args.bucket t.place _ (C.knows c.store.new.caller) (t.front_own up) here.0.1 stored)
+    let stored = c.store.ensures.stored _ name (set values c.args.bucket t.place) (c.load-2.ensures.keeps _ t.known_now) (t.slot_own up, t.object) t.within in (
+      c.store.ensures.own ∙ up ∙ ap (λ o. pushed o (first_of rest)) (c.skip.ensures.own ∙ e),
+      put_back known name values c.args.bucket t.place _ (C.knows c.store.new.caller) (t.front_own up) here.0.1 stored,
+    )

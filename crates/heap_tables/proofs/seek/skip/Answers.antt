@@ -1,7 +1,5 @@
-use Rattle.std.proofs.Common.{◌≡◌, ℕ, ◌+◌, ◌<◌, ◌≤◌, ◌∙◌, ap, sym, subst, refl, arith, length, get_or, set, drop, rules, true≢false, [], ◌∷◌, List}
+use Rattle.std.proofs.Common.{◌≡◌, ◌∙◌, ap, sym, subst, refl, arith, length, set, drop}
 use Rattle.yak_model.specs.Graph.{Thread}
-use Rattle.yak_model.specs.declared.datum.Datum.TheVariants as datum
-use Rattle.yak_model.specs.Tables.{Link}
 use Rattle.heap_tables.specs.Seeks.{IsSkipped}
 use Rattle.heap_tables.specs.Walks.{with_place}
 use Rattle.heap_tables.proofs.Effects.{value_same}
@@ -21,9 +19,14 @@ pass-requires-clause-chain g c =
     let C = g.C.Caller in
     let h = c.requires.chain in
     let p = c.loop-i.invariant.place h.0 h.1 h.2 h.3 h.4 h.5 h.6 in
-    let own = c.loop-i.invariant.own in
-    (with_place h.0 h.1 h.2 c.args.bucket p.place, h.1, set h.2 c.args.bucket p.place, drop c.loop-i.i h.3, p.known_now,
-      at_skip (C.standing c.args.caller.now) h.0 c.args.table h.1 h.2 c.args.bucket h.3 h.5 (C.knows c.loop-i.caller) (drop c.loop-i.i h.3) p (C.standing c.loop-i.caller) (value_same _ _ c.args.table own ∙ h.5.0.0))
+    let own = c.loop-i.invariant.own in (
+      with_place h.0 h.1 h.2 c.args.bucket p.place,
+      h.1,
+      set h.2 c.args.bucket p.place,
+      drop c.loop-i.i h.3,
+      p.known_now,
+      at_skip (C.standing c.args.caller.now) h.0 c.args.table h.1 h.2 c.args.bucket h.3 h.5 (C.knows c.loop-i.caller) (drop c.loop-i.i h.3) p (C.standing c.loop-i.caller) (value_same _ _ c.args.table own ∙ h.5.0.0),
+    )
 
 pub pass-requires-clause-room : goal.pass-requires-clause-room
 pass-requires-clause-room g c = omega (arith, c.requires.room, ap (λ (o : Thread). length o.stack) c.loop-i.invariant.own)
@@ -39,12 +42,12 @@ loop-i-preserved g c =
       ran = ran_more C.base C.tells C.tells_known C.standing _ _ _ inv.ran c.pass.ensures.ran;
       own = c.pass.ensures.own ∙ inv.own;
       place = λ known name values links k at apart.
-        let p = inv.place known name values links k at apart in
-        let s = C.standing c.args.caller.now in
-        let rest = drop c.loop-i.i links in
-        let passed = c.if-not-pass.ensures.passed _ name (set values c.args.bucket p.place) rest p.known_now (at_skip s known c.args.table name values c.args.bucket links at (C.knows c.loop-i.caller) rest p (C.standing c.loop-i.caller) (value_same _ _ c.args.table inv.own ∙ at.0.0)) in
-        let r = more_skip s known c.args.table name values c.args.bucket links at (C.knows c.loop-i.caller) (C.knows c.pass.new.caller) rest p (apart_drop name c.loop-i.i links apart) passed in
-        subst (λ ls. IsSkipped known name values c.args.bucket ls (C.knows c.pass.new.caller)) (sym (drop_more c.loop-i.i links r.1 r.0 r.2)) r.3;
+          let p = inv.place known name values links k at apart in
+          let s = C.standing c.args.caller.now in
+          let rest = drop c.loop-i.i links in
+          let passed = c.if-not-pass.ensures.passed _ name (set values c.args.bucket p.place) rest p.known_now (at_skip s known c.args.table name values c.args.bucket links at (C.knows c.loop-i.caller) rest p (C.standing c.loop-i.caller) (value_same _ _ c.args.table inv.own ∙ at.0.0)) in
+          let r = more_skip s known c.args.table name values c.args.bucket links at (C.knows c.loop-i.caller) (C.knows c.pass.new.caller) rest p (apart_drop name c.loop-i.i links apart) passed in
+          subst (λ ls. IsSkipped known name values c.args.bucket ls (C.knows c.pass.new.caller)) (sym (drop_more c.loop-i.i links r.1 r.0 r.2)) r.3;
     }
 
 pub returns-then-not-pass-clause-ran : goal.returns-then-not-pass-clause-ran

@@ -1,6 +1,5 @@
 use Rattle.heap_tables.proofs.RunOn.{ran_more}
-use Rattle.std.proofs.Common.{◌≡◌, ℕ, ◌+◌, ◌<◌, ◌∙◌, ap, sym, subst, arith, length, get_or, rules}
-use Rattle.std.specs.FinMap.{insert}
+use Rattle.std.proofs.Common.{◌∙◌, ap, subst, arith, get_or}
 use Rattle.yak_model.specs.declared.datum.Datum.TheVariants as datum
 use Rattle.heap_tables.specs.Runs.{popped, with_field}
 use Rattle.heap_tables.proofs.Effects.{popped_pushed, slot_after, top_after, size_after}

@@ -1,8 +1,8 @@
 use Rattle.heap_tables.proofs.RunOn.{ran_more}
-use Rattle.std.proofs.Common.{◌≡◌, ℕ, ◌+◌, ◌<◌, ◌∙◌, ap, sym, subst, arith, length, get_or, rules}
+use Rattle.std.proofs.Common.{◌≡◌, ◌<◌, ◌∙◌, ap, subst, arith, length, get_or}
 use Rattle.yak_model.specs.Graph.{Thread}
 use Rattle.yak_model.specs.declared.datum.Datum.TheVariants as datum
-use Rattle.heap_tables.specs.Runs.{IsShown, slot_in, stack_in, pushed, popped}
+use Rattle.heap_tables.specs.Runs.{IsShown, slot_in, stack_in, popped}
 use Rattle.heap_tables.proofs.Effects.{popped_pushed, slot_push, length_push}
 use Rattle.heap_tables.proofs.steps.peek.Goals as goal
 
@@ -28,9 +28,9 @@ pub returns-clause-shown : goal.returns-clause-shown
 returns-clause-shown g c known name values k slot bound =
     let e = c.load.ensures.pushed known name values k slot bound in
     let there : slot_in (g.C.Caller.standing c.load.new.caller) c.args.top ≡ get_or values c.args.f datum.Null =
-      ap (λ (o : Thread). get_or o.stack c.args.top datum.Null) e ∙ slot_push (stack_in (g.C.Caller.standing c.args.caller.now)) (get_or values c.args.f datum.Null) c.args.top c.requires.top in
+    ap (λ (o : Thread). get_or o.stack c.args.top datum.Null) e ∙ slot_push (stack_in (g.C.Caller.standing c.args.caller.now)) (get_or values c.args.f datum.Null) c.args.top c.requires.top in
     let within : c.args.top < length (stack_in (g.C.Caller.standing c.load.new.caller)) =
-      omega (arith, c.requires.top, ap (λ (o : Thread). length o.stack) e, length_push (stack_in (g.C.Caller.standing c.args.caller.now)) (get_or values c.args.f datum.Null)) in
+    omega (arith, c.requires.top, ap (λ (o : Thread). length o.stack) e, length_push (stack_in (g.C.Caller.standing c.args.caller.now)) (get_or values c.args.f datum.Null)) in
     subst (λ v. IsShown v c.get-shown.result) there (c.get-shown.ensures.shown within)
 
 pub returns-clause-ran : goal.returns-clause-ran

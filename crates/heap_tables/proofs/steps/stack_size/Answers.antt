@@ -1,4 +1,4 @@
-use Rattle.std.proofs.Common.{◌≡◌, ◌⊎◌, inl, inr, ℕ, ◌+◌, ◌<◌, ◌≤◌, ◌∙◌, ap, sym, subst, refl, arith, length, true≢false}
+use Rattle.std.proofs.Common.{inl, inr, ◌<◌, ◌∙◌, ap, sym, refl, arith, length, true≢false}
 use Rattle.std.proofs.lemmas.Bool.{cases_lt}
 use Rattle.yak_model.specs.Graph.{Thread}
 use Rattle.heap_tables.proofs.RunOn.{ran_none, ran_more}

@@ -1,4 +1,4 @@
-use Rattle.std.proofs.Common.{◌≡◌, ℕ, ◌+◌, ◌≤◌, length}
+use Rattle.std.proofs.Common.{◌≡◌, ◌≤◌, length}
 use Rattle.heap_tables.specs.Runs.{KeepsKnown, Ran, stack_in}
 use Rattle.heap_tables.proofs.steps.stack_size.Given as goal
 

@@ -1,12 +1,12 @@
-use Rattle.std.proofs.Common.{◌≡◌, ◌⊎◌, inl, inr, ⊎_elim, ℕ, ◌+◌, ◌<◌, ◌∙◌, ap, sym, subst, refl, arith, length, rules, List, None, Some}
+use Rattle.std.proofs.Common.{◌≡◌, inl, inr, ⊎_elim, ℕ, ◌+◌, ◌∙◌, ap, arith, List, refl}
 use Rattle.object_layout.specs.declared.names.Name.{Name}
 use Rattle.yak_model.specs.Graph.{Thread}
 use Rattle.yak_model.specs.Private.{KnownObjects}
 use Rattle.yak_model.specs.Standing.{Standing}
-use Rattle.yak_model.specs.Tables.{WordCounts, IsCountTable, bucket_of}
+use Rattle.yak_model.specs.Tables.{WordCounts}
 use Rattle.heap_tables.specs.Adds.{MayAdd, having_made}
 use Rattle.heap_tables.specs.Counted.{MayCount, count_of}
-use Rattle.heap_tables.proofs.Counted.{added_apart, added_counts, bucket_small, count_found, grown_counts, lacks_none, makes_uncounted}
+use Rattle.heap_tables.proofs.Counted.{added_counts, bucket_small, count_found, grown_counts, lacks_none, makes_uncounted, stay_nowhere}
 use Rattle.heap_tables.proofs.Effects.{value_same}
 use Rattle.heap_tables.proofs.OnResult.{ok_both, ok_map, err_map}
 use Rattle.heap_tables.proofs.RunOn.{ran_more, then_ran, then_out}
@@ -36,7 +36,7 @@ returns-clause-ran g c =
     let first = c.stack_size-top.ensures.ran in
     ok_map c.add_links.result _ _
     (⊎_elim (λ x. inl (ran_more C.base C.tells C.tells_known C.standing _ _ _ first x.0, x.1 ∙ own))
-      (λ x. inr (then_ran C.base C.tells C.tells_known C.standing _ _ _ _ first x.0, x.1 ∙ ap (λ o. having_made o 2) own)))
+    (λ x. inr (then_ran C.base C.tells C.tells_known C.standing _ _ _ _ first x.0, x.1 ∙ ap (λ o. having_made o 2) own)))
     c.add_links.ensures.ran
 
 pub returns-clause-ran_out : goal.returns-clause-ran_out
@@ -46,29 +46,30 @@ returns-clause-ran_out g c =
     let first = c.stack_size-top.ensures.ran in
     err_map c.add_links.result _ _
     (⊎_elim (λ x. inl (then_out C.base C.tells C.tells_known C.standing _ _ _ 0 _ first x.0, x.1 ∙ own))
-      (λ x. inr (then_out C.base C.tells C.tells_known C.standing _ _ _ _ _ first x.0, x.1 ∙ ap (λ o. having_made o 1) own)))
+    (λ x. inr (then_out C.base C.tells C.tells_known C.standing _ _ _ _ _ first x.0, x.1 ∙ ap (λ o. having_made o 1) own)))
     c.add_links.ensures.ran_out
 
 pub returns-clause-counted : goal.returns-clause-counted
 returns-clause-counted g c = ok_map c.add_links.result _ _
     (λ both known name counts may k.
-      let C = g.C.Caller in
-      let s = C.standing c.args.caller.now in
-      let table = may.is_table in
-      let word = c.args.word.now in
-      let may_too = may_add s _ c.stack_size-top.ensures.own known c.args.table word c.args.n name counts may in
-      let added = both.0 known name table.heads table.buckets (c.stack_size-top.ensures.keeps known k) may_too in
-      let made = both.1 known name table.heads table.buckets (c.stack_size-top.ensures.keeps known k) may_too in
-      let same = ap (λ (o : Thread). o.made) c.stack_size-top.ensures.own in
-      let makes = makes_uncounted (C.standing c.stack_size-top.new.caller) (C.standing c.add_links.new.caller) known name counts table word made in
-      ((λ some. makes.0 some ∙ same, λ none. makes.1 none ∙ ap (λ m. m + 2) same),
-        (added.after, added.known_now, added_counts known name counts table word c.args.n (bucket_small word) (C.knows c.add_links.new.caller) added, added.others, added_apart known name counts table word c.args.n (bucket_small word) (C.knows c.add_links.new.caller) added)))
+    let C = g.C.Caller in
+    let s = C.standing c.args.caller.now in
+    let table = may.is_table in
+    let word = c.args.word.now in
+    let may_too = may_add s _ c.stack_size-top.ensures.own known c.args.table word c.args.n name counts may in
+    let added = both.0 known name table.heads table.buckets (c.stack_size-top.ensures.keeps known k) may_too in
+    let made = both.1 known name table.heads table.buckets (c.stack_size-top.ensures.keeps known k) may_too in
+    let same = ap (λ (o : Thread). o.made) c.stack_size-top.ensures.own in
+    let makes = makes_uncounted (C.standing c.stack_size-top.new.caller) (C.standing c.add_links.new.caller) known name counts table word made in (
+      (λ some. makes.0 some ∙ same, λ none. makes.1 none ∙ ap (λ m. m + 2) same),
+      (added.after, added.known_now, added_counts known name counts table word c.args.n (bucket_small word) (C.knows c.add_links.new.caller) added, added.others, stay_nowhere known table.buckets word c.args.n name (C.knows c.add_links.new.caller) added),
+    ))
     (ok_both c.add_links.result _ _ c.add_links.ensures.added c.add_links.ensures.made)
 
 pub returns-clause-kept : goal.returns-clause-kept
 returns-clause-kept g c = err_map c.add_links.result _ _
     (λ kept known name counts may k.
-      let table = may.is_table in
-      let r = kept known name table.heads table.buckets (c.stack_size-top.ensures.keeps known k) (may_add (g.C.Caller.standing c.args.caller.now) _ c.stack_size-top.ensures.own known c.args.table c.args.word.now c.args.n name counts may) in
-      (lacks_none known name counts table c.args.word.now r.3, (r.0, r.1, grown_counts known r.0 r.2 name counts table, r.2)))
+    let table = may.is_table in
+    let r = kept known name table.heads table.buckets (c.stack_size-top.ensures.keeps known k) (may_add (g.C.Caller.standing c.args.caller.now) _ c.stack_size-top.ensures.own known c.args.table c.args.word.now c.args.n name counts may) in
+    (lacks_none known name counts table c.args.word.now r.3, (r.0, r.1, grown_counts known r.0 r.2 name counts table, r.2, refl)))
     c.add_links.ensures.kept

@@ -4,7 +4,7 @@ use Rattle.yak_model.specs.Room.{entry_words, key_words}
 use Rattle.heap_tables.specs.Adds.{having_made}
 use Rattle.heap_tables.proofs.Effects.{popped_pushed}
 use Rattle.heap_tables.proofs.Linked.{popped_having}
-use Rattle.std.proofs.Common.{◌≡◌, ℕ, ◌+◌, ◌-◌, ◌<◌, ◌∙◌, ap, sym, subst, refl, arith, length, take, get_or, set, rules, List}
+use Rattle.std.proofs.Common.{◌+◌, ◌-◌, ◌<◌, ◌∙◌, ap, sym, subst, refl, arith, length, take, get_or, List}
 use Rattle.yak_model.specs.Graph.{Thread}
 use Rattle.yak_model.specs.declared.datum.Datum.{Datum}
 use Rattle.yak_model.specs.declared.datum.Datum.TheVariants as datum
@@ -12,7 +12,6 @@ use Rattle.heap_tables.specs.Runs.{pushed, popped}
 use Rattle.heap_tables.proofs.Effects.{slot_same, slot_after, top_after, size_after, take_push}
 use Rattle.yak_model.specs.Tables.{LacksWord, bucket_of}
 use Rattle.heap_tables.proofs.Counted.{lacks_count}
-use Rattle.heap_tables.specs.Adds.{IsAddedTo}
 use Rattle.heap_tables.proofs.tables.add_links.Goals as goal
 
 pub load-requires-clause-field : goal.load-requires-clause-field

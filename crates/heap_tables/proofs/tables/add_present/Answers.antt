@@ -1,13 +1,13 @@
 use Rattle.heap_tables.proofs.RunOn.{ran_more}
-use Rattle.std.proofs.Common.{◌≡◌, ℕ, ◌+◌, ◌<◌, ◌∙◌, ap, sym, subst, refl, arith, length, get_or, set, rules, List, true≢false}
+use Rattle.yak_model.specs.declared.TheConstants.{BUCKETS}
+use Rattle.std.proofs.Common.{◌≡◌, ◌+◌, ◌<◌, ◌∙◌, ap, sym, subst, refl, arith, length, get_or, true≢false}
 use Rattle.yak_model.specs.Graph.{Thread}
-use Rattle.yak_model.specs.declared.datum.Datum.{Datum}
 use Rattle.yak_model.specs.declared.datum.Datum.TheVariants as datum
 use Rattle.heap_tables.specs.Runs.{pushed, popped}
 use Rattle.heap_tables.proofs.Effects.{popped_pushed, top_after, size_after, length_push}
 use Rattle.yak_model.specs.Tables.{bucket_of}
-use Rattle.yak_model.specs.Tables.{Link, IsChain, IsEntry, HasCount}
-use Rattle.heap_tables.specs.Walks.{IsAtChain, Found}
+use Rattle.yak_model.specs.Tables.{IsChain, HasCount}
+use Rattle.heap_tables.specs.Walks.{IsAtChain}
 use Rattle.heap_tables.proofs.Raised.{table_apart, has_count_at, entry_at, raised_table}
 use Rattle.heap_tables.proofs.tables.add_present.Goals as goal
 
@@ -17,7 +17,7 @@ find-requires-clause-chain g c =
     let t = (h.5).is_table in
     let b = bucket_of c.args.word.now in
     let e = c.bucket_of-bucket.ensures.same in
-    let small : b < 128 = omega (arith, e, c.bucket_of-bucket.ensures.small) in
+    let small : b < BUCKETS = omega (arith, e, c.bucket_of-bucket.ensures.small) in
     let chain = t.chains b small in
     (h.0, h.1, h.2, h.3 b, h.4, (((h.5).slot, t.object), omega (arith, t.size, c.bucket_of-bucket.ensures.small), subst (λ i. IsChain h.0 (get_or h.2 i datum.Null) (h.3 b)) (sym e) chain), table_apart h.0 h.1 h.2 h.3 t (h.3 b) (get_or h.2 b datum.Null) chain, (h.5).short)
 
@@ -27,7 +27,7 @@ raise-requires-clause-entry g c =
     let t = (h.5).is_table in
     let b = bucket_of c.args.word.now in
     let e = c.bucket_of-bucket.ensures.same in
-    let small : b < 128 = omega (arith, e, c.bucket_of-bucket.ensures.small) in
+    let small : b < BUCKETS = omega (arith, e, c.bucket_of-bucket.ensures.small) in
     let chain = t.chains b small in
     let at : IsAtChain (g.C.Caller.standing c.args.caller.now) h.0 c.args.table c.bucket_of-bucket.result h.1 h.2 (h.3 b) = (((h.5).slot, t.object), omega (arith, t.size, c.bucket_of-bucket.ensures.small), subst (λ i. IsChain h.0 (get_or h.2 i datum.Null) (h.3 b)) (sym e) chain) in
     let apart = table_apart h.0 h.1 h.2 h.3 t (h.3 b) (get_or h.2 b datum.Null) chain in
@@ -36,10 +36,14 @@ raise-requires-clause-entry g c =
     let f = found.0 refl in
     let there = entry_at h.0 f.0 f.2 f.1 (get_or h.2 b datum.Null) (subst (IsChain h.0 (get_or h.2 b datum.Null)) f.3 chain) in
     let deep : length (pushed (g.C.Caller.standing c.args.caller.now).own (get_or h.2 c.bucket_of-bucket.result datum.Null)).stack ≡ c.args.top + 1 = length_push _ _ ∙ ap (λ m. m + 1) c.requires.top in
-    let size = size_after (pushed (g.C.Caller.standing c.args.caller.now).own (get_or h.2 c.bucket_of-bucket.result datum.Null)) _ (datum.Object (f.1).entry) f.6 in
-    (h.0, there.0, f.1, still,
+    let size = size_after (pushed (g.C.Caller.standing c.args.caller.now).own (get_or h.2 c.bucket_of-bucket.result datum.Null)) _ (datum.Object (f.1).entry) f.6 in (
+      h.0,
+      there.0,
+      f.1,
+      still,
       (top_after (pushed (g.C.Caller.standing c.args.caller.now).own (get_or h.2 c.bucket_of-bucket.result datum.Null)) _ (datum.Object (f.1).entry) (c.args.top + 1) f.6 deep, there.1),
-      (h.5).sum (f.1).count (subst (λ ls. HasCount c.args.word.now ls (f.1).count) (sym f.3) (has_count_at c.args.word.now f.0 f.2 f.1 f.5 f.4)))
+      (h.5).sum (f.1).count (subst (λ ls. HasCount c.args.word.now ls (f.1).count) (sym f.3) (has_count_at c.args.word.now f.0 f.2 f.1 f.5 f.4)),
+    )
 
 pub raise-requires-clause-room : goal.raise-requires-clause-room
 raise-requires-clause-room g c =
@@ -47,7 +51,7 @@ raise-requires-clause-room g c =
     let t = (h.5).is_table in
     let b = bucket_of c.args.word.now in
     let e = c.bucket_of-bucket.ensures.same in
-    let small : b < 128 = omega (arith, e, c.bucket_of-bucket.ensures.small) in
+    let small : b < BUCKETS = omega (arith, e, c.bucket_of-bucket.ensures.small) in
     let chain = t.chains b small in
     let at : IsAtChain (g.C.Caller.standing c.args.caller.now) h.0 c.args.table c.bucket_of-bucket.result h.1 h.2 (h.3 b) = (((h.5).slot, t.object), omega (arith, t.size, c.bucket_of-bucket.ensures.small), subst (λ i. IsChain h.0 (get_or h.2 i datum.Null) (h.3 b)) (sym e) chain) in
     let apart = table_apart h.0 h.1 h.2 h.3 t (h.3 b) (get_or h.2 b datum.Null) chain in
@@ -65,7 +69,7 @@ raise-requires-clause-top g c =
     let t = (h.5).is_table in
     let b = bucket_of c.args.word.now in
     let e = c.bucket_of-bucket.ensures.same in
-    let small : b < 128 = omega (arith, e, c.bucket_of-bucket.ensures.small) in
+    let small : b < BUCKETS = omega (arith, e, c.bucket_of-bucket.ensures.small) in
     let chain = t.chains b small in
     let at : IsAtChain (g.C.Caller.standing c.args.caller.now) h.0 c.args.table c.bucket_of-bucket.result h.1 h.2 (h.3 b) = (((h.5).slot, t.object), omega (arith, t.size, c.bucket_of-bucket.ensures.small), subst (λ i. IsChain h.0 (get_or h.2 i datum.Null) (h.3 b)) (sym e) chain) in
     let apart = table_apart h.0 h.1 h.2 h.3 t (h.3 b) (get_or h.2 b datum.Null) chain in
@@ -83,7 +87,7 @@ pop-requires-clause-some g c =
     let t = (h.5).is_table in
     let b = bucket_of c.args.word.now in
     let e = c.bucket_of-bucket.ensures.same in
-    let small : b < 128 = omega (arith, e, c.bucket_of-bucket.ensures.small) in
+    let small : b < BUCKETS = omega (arith, e, c.bucket_of-bucket.ensures.small) in
     let chain = t.chains b small in
     let at : IsAtChain (g.C.Caller.standing c.args.caller.now) h.0 c.args.table c.bucket_of-bucket.result h.1 h.2 (h.3 b) = (((h.5).slot, t.object), omega (arith, t.size, c.bucket_of-bucket.ensures.small), subst (λ i. IsChain h.0 (get_or h.2 i datum.Null) (h.3 b)) (sym e) chain) in
     let apart = table_apart h.0 h.1 h.2 h.3 t (h.3 b) (get_or h.2 b datum.Null) chain in
@@ -102,7 +106,7 @@ pop-requires-clause-slot g c =
     let t = (h.5).is_table in
     let b = bucket_of c.args.word.now in
     let e = c.bucket_of-bucket.ensures.same in
-    let small : b < 128 = omega (arith, e, c.bucket_of-bucket.ensures.small) in
+    let small : b < BUCKETS = omega (arith, e, c.bucket_of-bucket.ensures.small) in
     let chain = t.chains b small in
     let at : IsAtChain (g.C.Caller.standing c.args.caller.now) h.0 c.args.table c.bucket_of-bucket.result h.1 h.2 (h.3 b) = (((h.5).slot, t.object), omega (arith, t.size, c.bucket_of-bucket.ensures.small), subst (λ i. IsChain h.0 (get_or h.2 i datum.Null) (h.3 b)) (sym e) chain) in
     let apart = table_apart h.0 h.1 h.2 h.3 t (h.3 b) (get_or h.2 b datum.Null) chain in
@@ -120,7 +124,7 @@ pop-requires-then-find-clause-some g c =
     let t = (h.5).is_table in
     let b = bucket_of c.args.word.now in
     let e = c.bucket_of-bucket.ensures.same in
-    let small : b < 128 = omega (arith, e, c.bucket_of-bucket.ensures.small) in
+    let small : b < BUCKETS = omega (arith, e, c.bucket_of-bucket.ensures.small) in
     let chain = t.chains b small in
     let at : IsAtChain (g.C.Caller.standing c.args.caller.now) h.0 c.args.table c.bucket_of-bucket.result h.1 h.2 (h.3 b) = (((h.5).slot, t.object), omega (arith, t.size, c.bucket_of-bucket.ensures.small), subst (λ i. IsChain h.0 (get_or h.2 i datum.Null) (h.3 b)) (sym e) chain) in
     let apart = table_apart h.0 h.1 h.2 h.3 t (h.3 b) (get_or h.2 b datum.Null) chain in
@@ -139,7 +143,7 @@ pop-requires-then-find-clause-slot g c =
     let t = (h.5).is_table in
     let b = bucket_of c.args.word.now in
     let e = c.bucket_of-bucket.ensures.same in
-    let small : b < 128 = omega (arith, e, c.bucket_of-bucket.ensures.small) in
+    let small : b < BUCKETS = omega (arith, e, c.bucket_of-bucket.ensures.small) in
     let chain = t.chains b small in
     let at : IsAtChain (g.C.Caller.standing c.args.caller.now) h.0 c.args.table c.bucket_of-bucket.result h.1 h.2 (h.3 b) = (((h.5).slot, t.object), omega (arith, t.size, c.bucket_of-bucket.ensures.small), subst (λ i. IsChain h.0 (get_or h.2 i datum.Null) (h.3 b)) (sym e) chain) in
     let apart = table_apart h.0 h.1 h.2 h.3 t (h.3 b) (get_or h.2 b datum.Null) chain in
@@ -157,7 +161,7 @@ pop-requires-else-find-clause-some g c =
     let t = (h.5).is_table in
     let b = bucket_of c.args.word.now in
     let e = c.bucket_of-bucket.ensures.same in
-    let small : b < 128 = omega (arith, e, c.bucket_of-bucket.ensures.small) in
+    let small : b < BUCKETS = omega (arith, e, c.bucket_of-bucket.ensures.small) in
     let chain = t.chains b small in
     let at : IsAtChain (g.C.Caller.standing c.args.caller.now) h.0 c.args.table c.bucket_of-bucket.result h.1 h.2 (h.3 b) = (((h.5).slot, t.object), omega (arith, t.size, c.bucket_of-bucket.ensures.small), subst (λ i. IsChain h.0 (get_or h.2 i datum.Null) (h.3 b)) (sym e) chain) in
     let apart = table_apart h.0 h.1 h.2 h.3 t (h.3 b) (get_or h.2 b datum.Null) chain in
@@ -171,7 +175,7 @@ pop-requires-else-find-clause-slot g c =
     let t = (h.5).is_table in
     let b = bucket_of c.args.word.now in
     let e = c.bucket_of-bucket.ensures.same in
-    let small : b < 128 = omega (arith, e, c.bucket_of-bucket.ensures.small) in
+    let small : b < BUCKETS = omega (arith, e, c.bucket_of-bucket.ensures.small) in
     let chain = t.chains b small in
     let at : IsAtChain (g.C.Caller.standing c.args.caller.now) h.0 c.args.table c.bucket_of-bucket.result h.1 h.2 (h.3 b) = (((h.5).slot, t.object), omega (arith, t.size, c.bucket_of-bucket.ensures.small), subst (λ i. IsChain h.0 (get_or h.2 i datum.Null) (h.3 b)) (sym e) chain) in
     let apart = table_apart h.0 h.1 h.2 h.3 t (h.3 b) (get_or h.2 b datum.Null) chain in
@@ -185,7 +189,7 @@ returns-then-find-clause-own g c =
     let t = (h.5).is_table in
     let b = bucket_of c.args.word.now in
     let e = c.bucket_of-bucket.ensures.same in
-    let small : b < 128 = omega (arith, e, c.bucket_of-bucket.ensures.small) in
+    let small : b < BUCKETS = omega (arith, e, c.bucket_of-bucket.ensures.small) in
     let chain = t.chains b small in
     let at : IsAtChain (g.C.Caller.standing c.args.caller.now) h.0 c.args.table c.bucket_of-bucket.result h.1 h.2 (h.3 b) = (((h.5).slot, t.object), omega (arith, t.size, c.bucket_of-bucket.ensures.small), subst (λ i. IsChain h.0 (get_or h.2 i datum.Null) (h.3 b)) (sym e) chain) in
     let apart = table_apart h.0 h.1 h.2 h.3 t (h.3 b) (get_or h.2 b datum.Null) chain in
@@ -202,7 +206,7 @@ returns-then-find-clause-added g c known name heads buckets k may =
     let t = (may).is_table in
     let b = bucket_of c.args.word.now in
     let e = c.bucket_of-bucket.ensures.same in
-    let small : b < 128 = omega (arith, e, c.bucket_of-bucket.ensures.small) in
+    let small : b < BUCKETS = omega (arith, e, c.bucket_of-bucket.ensures.small) in
     let chain = t.chains b small in
     let at : IsAtChain (g.C.Caller.standing c.args.caller.now) known c.args.table c.bucket_of-bucket.result name heads (buckets b) = (((may).slot, t.object), omega (arith, t.size, c.bucket_of-bucket.ensures.small), subst (λ i. IsChain known (get_or heads i datum.Null) (buckets b)) (sym e) chain) in
     let apart = table_apart known name heads buckets t (buckets b) (get_or heads b datum.Null) chain in
@@ -212,9 +216,13 @@ returns-then-find-clause-added g c known name heads buckets k may =
     let there = entry_at known f.0 f.2 f.1 (get_or heads b datum.Null) (subst (IsChain known (get_or heads b datum.Null)) f.3 chain) in
     let deep : length (pushed (g.C.Caller.standing c.args.caller.now).own (get_or heads c.bucket_of-bucket.result datum.Null)).stack ≡ c.args.top + 1 = length_push _ _ ∙ ap (λ m. m + 1) c.requires.top in
     let size = size_after (pushed (g.C.Caller.standing c.args.caller.now).own (get_or heads c.bucket_of-bucket.result datum.Null)) _ (datum.Object (f.1).entry) f.6 in
-    let lifted = c.raise.ensures.raised known there.0 f.1 still (top_after (pushed (g.C.Caller.standing c.args.caller.now).own (get_or heads c.bucket_of-bucket.result datum.Null)) _ (datum.Object (f.1).entry) (c.args.top + 1) f.6 deep, there.1) in
-    (λ _. (raised_table known name heads buckets t c.args.word.now c.args.n small f.0 f.2 f.1 f.3 f.4 there.0 there.1 (g.C.Caller.knows c.pop-then-find.new.caller) (c.pop-then-find.ensures.keeps _ (c.pop.ensures.keeps _ lifted)),
-      ((f.1).count, subst (λ ls. HasCount c.args.word.now ls (f.1).count) (sym f.3) (has_count_at c.args.word.now f.0 f.2 f.1 f.5 f.4))), λ e. absurd (true≢false e))
+    let lifted = c.raise.ensures.raised known there.0 f.1 still (top_after (pushed (g.C.Caller.standing c.args.caller.now).own (get_or heads c.bucket_of-bucket.result datum.Null)) _ (datum.Object (f.1).entry) (c.args.top + 1) f.6 deep, there.1) in (
+      λ _. (
+        raised_table known name heads buckets t c.args.word.now c.args.n small f.0 f.2 f.1 f.3 f.4 there.0 there.1 (g.C.Caller.knows c.pop-then-find.new.caller) (c.pop-then-find.ensures.keeps _ (c.pop.ensures.keeps _ lifted)),
+        ((f.1).count, subst (λ ls. HasCount c.args.word.now ls (f.1).count) (sym f.3) (has_count_at c.args.word.now f.0 f.2 f.1 f.5 f.4)),
+      ),
+      λ e. absurd (true≢false e),
+    )
 
 pub returns-else-find-clause-own : goal.returns-else-find-clause-own
 returns-else-find-clause-own g c =
@@ -222,7 +230,7 @@ returns-else-find-clause-own g c =
     let t = (h.5).is_table in
     let b = bucket_of c.args.word.now in
     let e = c.bucket_of-bucket.ensures.same in
-    let small : b < 128 = omega (arith, e, c.bucket_of-bucket.ensures.small) in
+    let small : b < BUCKETS = omega (arith, e, c.bucket_of-bucket.ensures.small) in
     let chain = t.chains b small in
     let at : IsAtChain (g.C.Caller.standing c.args.caller.now) h.0 c.args.table c.bucket_of-bucket.result h.1 h.2 (h.3 b) = (((h.5).slot, t.object), omega (arith, t.size, c.bucket_of-bucket.ensures.small), subst (λ i. IsChain h.0 (get_or h.2 i datum.Null) (h.3 b)) (sym e) chain) in
     let apart = table_apart h.0 h.1 h.2 h.3 t (h.3 b) (get_or h.2 b datum.Null) chain in
@@ -235,7 +243,7 @@ returns-else-find-clause-added g c known name heads buckets k may =
     let t = (may).is_table in
     let b = bucket_of c.args.word.now in
     let e = c.bucket_of-bucket.ensures.same in
-    let small : b < 128 = omega (arith, e, c.bucket_of-bucket.ensures.small) in
+    let small : b < BUCKETS = omega (arith, e, c.bucket_of-bucket.ensures.small) in
     let chain = t.chains b small in
     let at : IsAtChain (g.C.Caller.standing c.args.caller.now) known c.args.table c.bucket_of-bucket.result name heads (buckets b) = (((may).slot, t.object), omega (arith, t.size, c.bucket_of-bucket.ensures.small), subst (λ i. IsChain known (get_or heads i datum.Null) (buckets b)) (sym e) chain) in
     let apart = table_apart known name heads buckets t (buckets b) (get_or heads b datum.Null) chain in

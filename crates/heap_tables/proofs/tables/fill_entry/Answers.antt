@@ -1,7 +1,6 @@
 use Rattle.heap_tables.proofs.RunOn.{ran_more}
-use Rattle.std.proofs.Common.{◌≡◌, ℕ, ◌+◌, ◌<◌, ◌∙◌, ap, sym, subst, refl, arith, length, length-set, get_or, set, rules, List}
+use Rattle.std.proofs.Common.{◌∙◌, ap, subst, arith, length, length-set, set}
 use Rattle.yak_model.specs.Graph.{Thread}
-use Rattle.yak_model.specs.declared.datum.Datum.TheVariants as datum
 use Rattle.heap_tables.specs.Runs.{slot_in, with_field}
 use Rattle.heap_tables.proofs.Effects.{value_same}
 use Rattle.heap_tables.specs.Adds.{with_fields}
@@ -27,10 +26,14 @@ put_int-requires-clause-field g c =
     let b = slot_in (g.C.Caller.standing c.store.new.caller) c.args.key in
     let one = stored_at (g.C.Caller.standing c.args.caller.now).own _ h.0 c.args.entry h.1 h.2 0 a c.store.ensures.own h.4 in
     let size = length-set h.2 0 a in
-    let first = c.store.ensures.stored h.0 h.1 h.2 h.3 h.4 (omega (arith, h.5)) in
-    (with_field (with_field h.0 h.1 h.2 0 a) h.1 (set h.2 0 a) 1 b, h.1, set (set h.2 0 a) 1 b,
+    let first = c.store.ensures.stored h.0 h.1 h.2 h.3 h.4 (omega (arith, h.5)) in (
+      with_field (with_field h.0 h.1 h.2 0 a) h.1 (set h.2 0 a) 1 b,
+      h.1,
+      set (set h.2 0 a) 1 b,
       c.store-2.ensures.stored (with_field h.0 h.1 h.2 0 a) h.1 (set h.2 0 a) first one (omega (arith, h.5, size)),
-      stored_at _ _ (with_field h.0 h.1 h.2 0 a) c.args.entry h.1 (set h.2 0 a) 1 b c.store-2.ensures.own one, omega (arith, h.5, size, length-set (set h.2 0 a) 1 b))
+      stored_at _ _ (with_field h.0 h.1 h.2 0 a) c.args.entry h.1 (set h.2 0 a) 1 b c.store-2.ensures.own one,
+      omega (arith, h.5, size, length-set (set h.2 0 a) 1 b),
+    )
 
 pub put_int-requires-clause-room : goal.put_int-requires-clause-room
 put_int-requires-clause-room g c = omega (arith, c.requires.room, ap (λ (o : Thread). length o.stack) (c.store-2.ensures.own ∙ c.store.ensures.own))

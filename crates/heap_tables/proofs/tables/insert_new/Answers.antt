@@ -3,7 +3,7 @@ use Rattle.std.proofs.Common.{inr}
 use Rattle.yak_model.specs.Room.{entry_words, key_words}
 use Rattle.heap_tables.specs.Runs.{popped}
 use Rattle.heap_tables.proofs.Linked.{popped_made}
-use Rattle.std.proofs.Common.{◌≡◌, ℕ, ◌+◌, ◌<◌, ◌∙◌, ap, sym, subst, refl, arith, length, get_or, set, rules, List, Result, Ok, Err}
+use Rattle.std.proofs.Common.{◌+◌, ◌∙◌, ap, subst, arith, get_or, set, Result, Ok, Err}
 use Rattle.std.specs.Result.{OnErr}
 use Rattle.std.specs.FinMap.{insert}
 use Rattle.yak_model.specs.Graph.{Fields}
@@ -11,7 +11,7 @@ use Rattle.yak_model.specs.declared.datum.Datum.TheVariants as datum
 use Rattle.yak_model.proofs.Names.{get-same}
 use Rattle.heap_tables.specs.Runs.{slot_in, next_of}
 use Rattle.heap_tables.proofs.Effects.{in_bounds}
-use Rattle.yak_model.specs.Tables.{IsKey, AreKeyFields}
+use Rattle.yak_model.specs.Tables.{IsKey}
 use Rattle.heap_tables.specs.Adds.{with_fields}
 use Rattle.heap_tables.proofs.KeyGrowth.{made_at}
 use Rattle.heap_tables.proofs.Linked.{made_below, insert_grows, linked_table}
@@ -65,7 +65,7 @@ returns-in-Ok-clause-added g c known name heads buckets k slot table front home 
     let top = (made_at (g.C.Caller.standing c.args.caller.now) _ known (c.args.front + 1) p.values e c.requires.top).0 in
     let knows = g.C.Caller.knows c.link_new.new.caller in
     let now = subst (λ v. knows (insert (with_fields one entry (get_or heads c.args.bucket datum.Null) v c.args.n) name (Fields (set heads c.args.bucket (datum.Object entry))))) top
-      (subst (λ v. knows (insert (with_fields one entry v (slot_in (g.C.Caller.standing c.make_key.new.caller) (c.args.front + 1)) c.args.n) name (Fields (set heads c.args.bucket (datum.Object entry))))) below linked.0) in
+    (subst (λ v. knows (insert (with_fields one entry v (slot_in (g.C.Caller.standing c.make_key.new.caller) (c.args.front + 1)) c.args.n) name (Fields (set heads c.args.bucket (datum.Object entry))))) below linked.0) in
     linked_table known name heads buckets table c.args.word.now c.args.n c.args.bucket home bound lacks key entry (Fields p.values) begun.1 linked.1 is_key (g.C.Caller.knows c.pop.new.caller) (c.pop.ensures.keeps _ now)
 
 pub returns-in-Err-clause-kept : goal.returns-in-Err-clause-kept

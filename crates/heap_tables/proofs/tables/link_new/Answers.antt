@@ -1,6 +1,5 @@
 use Rattle.heap_tables.proofs.RunOn.{ran_more, ran_then, ran_words}
-use Rattle.std.proofs.Common.{◌≡◌, ℕ, ◌+◌, ◌<◌, ◌∙◌, ap, sym, subst, refl, arith, length, length-set, replicate, get_or, set, rules, List}
-use Rattle.yak_model.specs.Graph.{Thread}
+use Rattle.std.proofs.Common.{◌+◌, ◌∙◌, ap, subst, refl, arith, replicate}
 use Rattle.yak_model.specs.declared.datum.Datum.TheVariants as datum
 use Rattle.yak_model.proofs.Names.{get-other}
 use Rattle.heap_tables.specs.Runs.{slot_in, next_of, popped, with_field}
@@ -41,13 +40,13 @@ store-requires-clause-field g c =
     let filled = c.fill_entry.ensures.filled _ (next_of (g.C.Caller.standing c.args.caller.now)) nulls made.0 blank refl in
     let two = with_fields h.0 (next_of (g.C.Caller.standing c.args.caller.now)) (slot_in (g.C.Caller.standing c.args.caller.now) c.args.front) (slot_in (g.C.Caller.standing c.args.caller.now) (c.args.front + 1)) c.args.n in
     let there : g.C.Caller.knows c.fill_entry.new.caller two =
-      subst (g.C.Caller.knows c.fill_entry.new.caller)
-        (insert_again h.0 (next_of (g.C.Caller.standing c.args.caller.now)) _ _
-          ∙ ap (λ v. with_fields h.0 (next_of (g.C.Caller.standing c.args.caller.now)) v (slot_in (g.C.Caller.standing c.push_new.new.caller) (c.args.front + 1)) c.args.n) (made_below (g.C.Caller.standing c.args.caller.now) _ c.args.front e (omega (arith, c.requires.top)))
-          ∙ ap (λ v. with_fields h.0 (next_of (g.C.Caller.standing c.args.caller.now)) (slot_in (g.C.Caller.standing c.args.caller.now) c.args.front) v c.args.n) (made_below (g.C.Caller.standing c.args.caller.now) _ (c.args.front + 1) e (omega (arith, c.requires.top)))) filled in
+    subst (g.C.Caller.knows c.fill_entry.new.caller)
+    (insert_again h.0 (next_of (g.C.Caller.standing c.args.caller.now)) _ _
+    ∙ ap (λ v. with_fields h.0 (next_of (g.C.Caller.standing c.args.caller.now)) v (slot_in (g.C.Caller.standing c.push_new.new.caller) (c.args.front + 1)) c.args.n) (made_below (g.C.Caller.standing c.args.caller.now) _ c.args.front e (omega (arith, c.requires.top)))
+    ∙ ap (λ v. with_fields h.0 (next_of (g.C.Caller.standing c.args.caller.now)) (slot_in (g.C.Caller.standing c.args.caller.now) c.args.front) v c.args.n) (made_below (g.C.Caller.standing c.args.caller.now) _ (c.args.front + 1) e (omega (arith, c.requires.top)))) filled in
     let own = c.fill_entry.ensures.own ∙ e in
     let at : IsAt (g.C.Caller.standing c.fill_entry.new.caller).own two c.args.table h.1 h.2 =
-      (made_below (g.C.Caller.standing c.args.caller.now) _ c.args.table own (in_bounds (g.C.Caller.standing c.args.caller.now).own.stack c.args.table h.1 (h.4).0) ∙ (h.4).0, get-other h.0 (next_of (g.C.Caller.standing c.args.caller.now)) _ h.1 (other_name h.0 h.1 (next_of (g.C.Caller.standing c.args.caller.now)) _ made.1 (h.4).1) ∙ (h.4).1) in
+    (made_below (g.C.Caller.standing c.args.caller.now) _ c.args.table own (in_bounds (g.C.Caller.standing c.args.caller.now).own.stack c.args.table h.1 (h.4).0) ∙ (h.4).0, get-other h.0 (next_of (g.C.Caller.standing c.args.caller.now)) _ h.1 (other_name h.0 h.1 (next_of (g.C.Caller.standing c.args.caller.now)) _ made.1 (h.4).1) ∙ (h.4).1) in
     (two, h.1, h.2, there, at, h.5)
 
 pub store-requires-clause-value : goal.store-requires-clause-value
@@ -63,13 +62,13 @@ pop-requires-clause-some g c =
     let filled = c.fill_entry.ensures.filled _ (next_of (g.C.Caller.standing c.args.caller.now)) nulls made.0 blank refl in
     let two = with_fields h.0 (next_of (g.C.Caller.standing c.args.caller.now)) (slot_in (g.C.Caller.standing c.args.caller.now) c.args.front) (slot_in (g.C.Caller.standing c.args.caller.now) (c.args.front + 1)) c.args.n in
     let there : g.C.Caller.knows c.fill_entry.new.caller two =
-      subst (g.C.Caller.knows c.fill_entry.new.caller)
-        (insert_again h.0 (next_of (g.C.Caller.standing c.args.caller.now)) _ _
-          ∙ ap (λ v. with_fields h.0 (next_of (g.C.Caller.standing c.args.caller.now)) v (slot_in (g.C.Caller.standing c.push_new.new.caller) (c.args.front + 1)) c.args.n) (made_below (g.C.Caller.standing c.args.caller.now) _ c.args.front e (omega (arith, c.requires.top)))
-          ∙ ap (λ v. with_fields h.0 (next_of (g.C.Caller.standing c.args.caller.now)) (slot_in (g.C.Caller.standing c.args.caller.now) c.args.front) v c.args.n) (made_below (g.C.Caller.standing c.args.caller.now) _ (c.args.front + 1) e (omega (arith, c.requires.top)))) filled in
+    subst (g.C.Caller.knows c.fill_entry.new.caller)
+    (insert_again h.0 (next_of (g.C.Caller.standing c.args.caller.now)) _ _
+    ∙ ap (λ v. with_fields h.0 (next_of (g.C.Caller.standing c.args.caller.now)) v (slot_in (g.C.Caller.standing c.push_new.new.caller) (c.args.front + 1)) c.args.n) (made_below (g.C.Caller.standing c.args.caller.now) _ c.args.front e (omega (arith, c.requires.top)))
+    ∙ ap (λ v. with_fields h.0 (next_of (g.C.Caller.standing c.args.caller.now)) (slot_in (g.C.Caller.standing c.args.caller.now) c.args.front) v c.args.n) (made_below (g.C.Caller.standing c.args.caller.now) _ (c.args.front + 1) e (omega (arith, c.requires.top)))) filled in
     let own = c.fill_entry.ensures.own ∙ e in
     let at : IsAt (g.C.Caller.standing c.fill_entry.new.caller).own two c.args.table h.1 h.2 =
-      (made_below (g.C.Caller.standing c.args.caller.now) _ c.args.table own (in_bounds (g.C.Caller.standing c.args.caller.now).own.stack c.args.table h.1 (h.4).0) ∙ (h.4).0, get-other h.0 (next_of (g.C.Caller.standing c.args.caller.now)) _ h.1 (other_name h.0 h.1 (next_of (g.C.Caller.standing c.args.caller.now)) _ made.1 (h.4).1) ∙ (h.4).1) in
+    (made_below (g.C.Caller.standing c.args.caller.now) _ c.args.table own (in_bounds (g.C.Caller.standing c.args.caller.now).own.stack c.args.table h.1 (h.4).0) ∙ (h.4).0, get-other h.0 (next_of (g.C.Caller.standing c.args.caller.now)) _ h.1 (other_name h.0 h.1 (next_of (g.C.Caller.standing c.args.caller.now)) _ made.1 (h.4).1) ∙ (h.4).1) in
     (_, c.store.ensures.stored two h.1 h.2 there at h.5)
 
 pub pop-requires-clause-slot : goal.pop-requires-clause-slot
@@ -87,15 +86,17 @@ returns-clause-linked g c known name heads k slot bound =
     let filled = c.fill_entry.ensures.filled _ (next_of (g.C.Caller.standing c.args.caller.now)) nulls made.0 blank refl in
     let two = with_fields known (next_of (g.C.Caller.standing c.args.caller.now)) (slot_in (g.C.Caller.standing c.args.caller.now) c.args.front) (slot_in (g.C.Caller.standing c.args.caller.now) (c.args.front + 1)) c.args.n in
     let there : g.C.Caller.knows c.fill_entry.new.caller two =
-      subst (g.C.Caller.knows c.fill_entry.new.caller)
-        (insert_again known (next_of (g.C.Caller.standing c.args.caller.now)) _ _
-          ∙ ap (λ v. with_fields known (next_of (g.C.Caller.standing c.args.caller.now)) v (slot_in (g.C.Caller.standing c.push_new.new.caller) (c.args.front + 1)) c.args.n) (made_below (g.C.Caller.standing c.args.caller.now) _ c.args.front e (omega (arith, c.requires.top)))
-          ∙ ap (λ v. with_fields known (next_of (g.C.Caller.standing c.args.caller.now)) (slot_in (g.C.Caller.standing c.args.caller.now) c.args.front) v c.args.n) (made_below (g.C.Caller.standing c.args.caller.now) _ (c.args.front + 1) e (omega (arith, c.requires.top)))) filled in
+    subst (g.C.Caller.knows c.fill_entry.new.caller)
+    (insert_again known (next_of (g.C.Caller.standing c.args.caller.now)) _ _
+    ∙ ap (λ v. with_fields known (next_of (g.C.Caller.standing c.args.caller.now)) v (slot_in (g.C.Caller.standing c.push_new.new.caller) (c.args.front + 1)) c.args.n) (made_below (g.C.Caller.standing c.args.caller.now) _ c.args.front e (omega (arith, c.requires.top)))
+    ∙ ap (λ v. with_fields known (next_of (g.C.Caller.standing c.args.caller.now)) (slot_in (g.C.Caller.standing c.args.caller.now) c.args.front) v c.args.n) (made_below (g.C.Caller.standing c.args.caller.now) _ (c.args.front + 1) e (omega (arith, c.requires.top)))) filled in
     let own = c.fill_entry.ensures.own ∙ e in
     let at : IsAt (g.C.Caller.standing c.fill_entry.new.caller).own two c.args.table name heads =
-      (made_below (g.C.Caller.standing c.args.caller.now) _ c.args.table own (in_bounds (g.C.Caller.standing c.args.caller.now).own.stack c.args.table name (slot).0) ∙ (slot).0, get-other known (next_of (g.C.Caller.standing c.args.caller.now)) _ name (other_name known name (next_of (g.C.Caller.standing c.args.caller.now)) _ made.1 (slot).1) ∙ (slot).1) in
-    (subst (λ v. g.C.Caller.knows c.pop.new.caller (with_field two name heads c.args.bucket v)) ((made_at (g.C.Caller.standing c.args.caller.now) _ known (c.args.front + 2) nulls own c.requires.top).0)
-      (c.pop.ensures.keeps _ (c.store.ensures.stored two name heads there at bound)), made.1)
+    (made_below (g.C.Caller.standing c.args.caller.now) _ c.args.table own (in_bounds (g.C.Caller.standing c.args.caller.now).own.stack c.args.table name (slot).0) ∙ (slot).0, get-other known (next_of (g.C.Caller.standing c.args.caller.now)) _ name (other_name known name (next_of (g.C.Caller.standing c.args.caller.now)) _ made.1 (slot).1) ∙ (slot).1) in (
+      subst (λ v. g.C.Caller.knows c.pop.new.caller (with_field two name heads c.args.bucket v)) ((made_at (g.C.Caller.standing c.args.caller.now) _ known (c.args.front + 2) nulls own c.requires.top).0)
+          (c.pop.ensures.keeps _ (c.store.ensures.stored two name heads there at bound)),
+      made.1,
+    )
 
 pub returns-clause-ran : goal.returns-clause-ran
 returns-clause-ran g c = let C = g.C.Caller in ran_words C.base C.tells C.tells_known C.standing _ _ 6 _ (omega arith) (ran_then C.base C.tells C.tells_known C.standing _ _ _ 6 0 c.in_ok-push_new.ensures.ran (ran_more C.base C.tells C.tells_known C.standing _ _ _ (ran_more C.base C.tells C.tells_known C.standing _ _ _ c.fill_entry.ensures.ran c.store.ensures.ran) c.pop.ensures.ran))

@@ -1,7 +1,5 @@
-
-use Rattle.std.proofs.Common.{◌≡◌, ℕ, ◌+◌, ◌<◌, ◌∙◌, ap, sym, subst, refl, arith, length, get_or, set, rules, List}
+use Rattle.std.proofs.Common.{◌+◌, ap, subst, refl, arith, length}
 use Rattle.yak_model.specs.Graph.{Thread}
-use Rattle.yak_model.specs.declared.datum.Datum.TheVariants as datum
 use Rattle.heap_tables.proofs.Effects.{slot_same}
 use Rattle.yak_model.specs.Tables.{entry_fields}
 use Rattle.heap_tables.specs.Adds.{with_count}

@@ -1,0 +1,218 @@
+//! The merge of two tables.
+ghost use Rattle.std.specs.Prelude.{◌≡◌, ℕ, ◌+◌, ◌*◌, ◌^◌, ◌<◌, ◌≤◌, [], List, length, None, OnOk, OnErr, IfOk};
+ghost use Rattle.std.specs.FinMap as finite;
+ghost use Rattle.object_layout.specs.declared.TheConstants.{MAX_INT, MAX_SERIAL, PAGE_WORDS, WORD_LIMIT};
+ghost use Rattle.object_layout.specs.declared.names.Name.{Name};
+ghost use Rattle.yak_model.specs.declared.TheConstants.{BUCKETS, ENTRY_FIELDS, STACK_SLOTS};
+ghost use Rattle.yak_model.specs.declared.datum.Datum.{Datum};
+ghost use Rattle.yak_model.specs.Private.{KnownObjects};
+ghost use Rattle.yak_model.specs.Room.{entry_words};
+ghost use Rattle.yak_model.specs.Tables.{Link, WordCounts};
+ghost use Rattle.heap_tables.specs.declared.TheConstants.{FREE_SLOTS, MOST_MADE};
+ghost use Rattle.heap_tables.specs.Adds.{having_made};
+ghost use Rattle.heap_tables.specs.Merges.{AreSlots, Goes, HasEntryFor, HasMerged, HasMerging, HasNextEntry, HasShare, HasTables, IsEntryAt, IsMerge, IsMerged, IsMergedPart, IsMergedWhole, IsShare, MayMerge, Merge, MergesEntry, Stops, done_at, walk, with_shared};
+ghost use Rattle.heap_tables.specs.Runs.{IsInSlot, KeepsKnown, Ran, RanOut, next_of, stack_in};
+ghost use Rattle.heap_tables.specs.Walks.{IsEntryInSlot};
+
+use crate::reading::take_entry;
+use crate::seek::seek;
+use crate::steps::{load, pop, stack_size};
+use crate::tables::{add_present, link_new};
+use object_layout::{OutOfHeap, WORD_LIMIT};
+use yak_model::{BUCKETS, Caller};
+
+/// Makes an entry for the key of another entry, and puts it at the front of a bucket.
+fn share_key<C: Caller>(
+    caller: &mut C,
+    entry: u32,
+    into: u32,
+    bucket: u32,
+    n: u64,
+    top: u32,
+) -> Result<(), OutOfHeap>
+    requires number { n ≤ MAX_INT }
+    requires entry { HasEntryFor (C.standing caller.old) (C.knows caller.old) entry into bucket }
+    requires page { PAGE_WORDS ≤ (C.standing caller.old).limits.page }
+    requires names { (C.standing caller.old).own.made < MAX_SERIAL }
+    requires room { length (stack_in (C.standing caller.old)) + 3 < STACK_SLOTS }
+    requires top { length (stack_in (C.standing caller.old)) ≡ top }
+    ensures ran { OnOk result (Ran C.base C.tells C.tells_known C.standing caller.old caller.new entry_words) }
+    ensures own { OnOk result ((C.standing caller.new).own ≡ having_made (C.standing caller.old).own 1) }
+    ensures shared { OnOk result ((known : KnownObjects) (name : Name) (heads : List Datum) (next : Datum) (link : Link) → C.knows caller.old known → IsInSlot (C.standing caller.old) known into name heads → bucket < length heads → IsEntryInSlot (C.standing caller.old) known entry next link → C.knows caller.new (with_shared (C.standing caller.old) known name heads bucket link.key n) × (finite.get known (next_of (C.standing caller.old)) ≡ None)) }
+    ensures same { OnErr result ((C.standing caller.new).own ≡ (C.standing caller.old).own) }
+    ensures keeps { OnErr result (KeepsKnown (C.knows caller.old) (C.knows caller.new)) }
+    ensures ran_out { OnErr result (RanOut C.base C.tells C.tells_known C.standing caller.old caller.new 0 ENTRY_FIELDS) }
+{
+    load(caller, into, bucket);
+    load(caller, entry, 1);
+    let linked = link_new(caller, into, bucket, n, top);
+    pop(caller);
+    pop(caller);
+    linked
+}
+
+/// Makes an entry for the key of the entry at a place of a bucket's chain, and puts it at the front of the same bucket of
+/// another table.
+fn share<C: Caller>(
+    caller: &mut C,
+    from: u32,
+    into: u32,
+    bucket: u32,
+    place: u32,
+    n: u64,
+    top: u32,
+) -> Result<(), OutOfHeap>
+    requires number { n ≤ MAX_INT }
+    requires tables { HasShare (C.standing caller.old) (C.knows caller.old) from into bucket place }
+    requires page { PAGE_WORDS ≤ (C.standing caller.old).limits.page }
+    requires names { (C.standing caller.old).own.made < MAX_SERIAL }
+    requires room { length (stack_in (C.standing caller.old)) + 5 < STACK_SLOTS }
+    requires top { length (stack_in (C.standing caller.old)) ≡ top }
+    ensures ran { OnOk result (Ran C.base C.tells C.tells_known C.standing caller.old caller.new entry_words) }
+    ensures own { OnOk result ((C.standing caller.new).own ≡ having_made (C.standing caller.old).own 1) }
+    ensures shared { OnOk result ((known : KnownObjects) (from_name into_name : Name) (values heads : List Datum) (links : List Link) (link : Link) (rest : List Link) → C.knows caller.old known → IsShare (C.standing caller.old) known from into bucket place from_name into_name values heads links link rest → C.knows caller.new (with_shared (C.standing caller.old) known into_name heads bucket link.key n) × (finite.get known (next_of (C.standing caller.old)) ≡ None)) }
+    ensures same { OnErr result ((C.standing caller.new).own ≡ (C.standing caller.old).own) }
+    ensures kept { OnErr result ((known : KnownObjects) (from_name into_name : Name) (values heads : List Datum) (links : List Link) (link : Link) (rest : List Link) → C.knows caller.old known → IsShare (C.standing caller.old) known from into bucket place from_name into_name values heads links link rest → C.knows caller.new known) }
+    ensures ran_out { OnErr result (RanOut C.base C.tells C.tells_known C.standing caller.old caller.new 0 ENTRY_FIELDS) }
+{
+    seek(caller, from, bucket, place, top);
+    let shared = share_key(caller, top + 1, into, bucket, n, top + 2);
+    pop(caller);
+    pop(caller);
+    shared
+}
+
+/// Adds the count of an entry of one table, which has this word and count, to another table.
+fn add_entry<C: Caller>(
+    caller: &mut C,
+    from: u32,
+    into: u32,
+    bucket: u32,
+    place: u32,
+    word: &[u8],
+    n: u64,
+    top: u32,
+) -> Result<(), OutOfHeap>
+    requires tables { HasNextEntry (C.standing caller.old) (C.knows caller.old) from into bucket place word.now n }
+    requires bucket { bucket < BUCKETS }
+    requires word { length word.now ≤ WORD_LIMIT }
+    requires page { PAGE_WORDS ≤ (C.standing caller.old).limits.page }
+    requires names { (C.standing caller.old).own.made < MAX_SERIAL }
+    requires room { length (stack_in (C.standing caller.old)) + 5 < STACK_SLOTS }
+    requires top { length (stack_in (C.standing caller.old)) ≡ top }
+    ensures added { OnOk result ((m : Merge) (is : IsMerge m) (link : Link) (rest : List Link) → AreSlots (C.standing caller.old) from into m → IsMerged m is (done_at m.buckets bucket place) (C.knows caller.old) → IsEntryAt m bucket place word.now n link rest → Goes C.base C.tells C.tells_known C.standing m is (done_at m.buckets bucket place) (done_at m.buckets bucket (place + 1)) caller.old caller.new (C.knows caller.new)) }
+    ensures stopped { OnErr result ((m : Merge) (is : IsMerge m) (link : Link) (rest : List Link) → AreSlots (C.standing caller.old) from into m → IsMerged m is (done_at m.buckets bucket place) (C.knows caller.old) → IsEntryAt m bucket place word.now n link rest → Stops C.base C.tells C.tells_known C.standing m is (done_at m.buckets bucket place) caller.old caller.new (C.knows caller.new)) }
+{
+    if add_present(caller, into, word, n, top) {
+        return Ok(());
+    }
+    share(caller, from, into, bucket, place, n, top)
+}
+
+/// Adds the count of the entry at a place of a bucket to another table, and tells whether there is one.
+fn merge_entry<C: Caller>(
+    caller: &mut C,
+    from: u32,
+    into: u32,
+    bucket: u32,
+    place: u32,
+    buffer: &mut [u8],
+    top: u32,
+) -> Result<bool, OutOfHeap>
+    requires tables { HasMerging (C.standing caller.old) (C.knows caller.old) from into bucket place }
+    requires bucket { bucket < BUCKETS }
+    requires buffer { WORD_LIMIT ≤ length buffer.old }
+    requires page { PAGE_WORDS ≤ (C.standing caller.old).limits.page }
+    requires names { (C.standing caller.old).own.made < MAX_SERIAL }
+    requires room { length (stack_in (C.standing caller.old)) + 5 < STACK_SLOTS }
+    requires top { length (stack_in (C.standing caller.old)) ≡ top }
+    ensures buffer { length buffer.new ≡ length buffer.old }
+    ensures merged { IfOk result (λ more. (m : Merge) (is : IsMerge m) → AreSlots (C.standing caller.old) from into m → IsMerged m is (done_at m.buckets bucket place) (C.knows caller.old) → MergesEntry C.base C.tells C.tells_known C.standing m is bucket place more caller.old caller.new (C.knows caller.new)) }
+    ensures stopped { OnErr result ((m : Merge) (is : IsMerge m) → AreSlots (C.standing caller.old) from into m → IsMerged m is (done_at m.buckets bucket place) (C.knows caller.old) → Stops C.base C.tells C.tells_known C.standing m is (done_at m.buckets bucket place) caller.old caller.new (C.knows caller.new)) }
+{
+    match take_entry(caller, from, bucket, place, buffer, top) {
+        Some((size, count)) => {
+            add_entry(
+                caller,
+                from,
+                into,
+                bucket,
+                place,
+                &buffer[..size],
+                count,
+                top,
+            )?;
+            Ok(true)
+        }
+        None => Ok(false),
+    }
+}
+
+/// Adds the counts of a bucket to another table.
+fn merge_bucket<C: Caller>(
+    caller: &mut C,
+    from: u32,
+    into: u32,
+    bucket: u32,
+    buffer: &mut [u8],
+    top: u32,
+) -> Result<(), OutOfHeap>
+    requires tables { HasMerged (C.standing caller.old) (C.knows caller.old) from into bucket }
+    requires bucket { bucket < BUCKETS }
+    requires buffer { WORD_LIMIT ≤ length buffer.old }
+    requires page { PAGE_WORDS ≤ (C.standing caller.old).limits.page }
+    requires names { (C.standing caller.old).own.made + 2 ^ 32 < MAX_SERIAL }
+    requires room { length (stack_in (C.standing caller.old)) + 5 < STACK_SLOTS }
+    requires top { length (stack_in (C.standing caller.old)) ≡ top }
+    ensures buffer { length buffer.new ≡ length buffer.old }
+    ensures merged { OnOk result ((m : Merge) (is : IsMerge m) → AreSlots (C.standing caller.old) from into m → IsMerged m is (walk m.buckets bucket) (C.knows caller.old) → Goes C.base C.tells C.tells_known C.standing m is (walk m.buckets bucket) (walk m.buckets (bucket + 1)) caller.old caller.new (C.knows caller.new)) }
+    ensures stopped { OnErr result ((m : Merge) (is : IsMerge m) → AreSlots (C.standing caller.old) from into m → IsMerged m is (walk m.buckets bucket) (C.knows caller.old) → Stops C.base C.tells C.tells_known C.standing m is (walk m.buckets bucket) caller.old caller.new (C.knows caller.new)) }
+{
+    for place in 0..u32::MAX {
+        if !merge_entry(caller, from, into, bucket, place, buffer, top)? {
+            return Ok(());
+        }
+    }
+    Ok(())
+}
+
+/// Adds the counts of all buckets to another table.
+fn merge_buckets<C: Caller>(
+    caller: &mut C,
+    from: u32,
+    into: u32,
+    buffer: &mut [u8],
+    top: u32,
+) -> Result<(), OutOfHeap>
+    requires tables { HasMerged (C.standing caller.old) (C.knows caller.old) from into 0 }
+    requires buffer { WORD_LIMIT ≤ length buffer.old }
+    requires page { PAGE_WORDS ≤ (C.standing caller.old).limits.page }
+    requires names { (C.standing caller.old).own.made ≤ MOST_MADE }
+    requires room { length (stack_in (C.standing caller.old)) + 5 < STACK_SLOTS }
+    requires top { length (stack_in (C.standing caller.old)) ≡ top }
+    ensures merged { OnOk result ((m : Merge) (is : IsMerge m) → AreSlots (C.standing caller.old) from into m → IsMerged m is [] (C.knows caller.old) → Goes C.base C.tells C.tells_known C.standing m is [] (walk m.buckets BUCKETS) caller.old caller.new (C.knows caller.new)) }
+    ensures stopped { OnErr result ((m : Merge) (is : IsMerge m) → AreSlots (C.standing caller.old) from into m → IsMerged m is [] (C.knows caller.old) → Stops C.base C.tells C.tells_known C.standing m is [] caller.old caller.new (C.knows caller.new)) }
+{
+    for bucket in 0..BUCKETS as u32 {
+        merge_bucket(caller, from, into, bucket, buffer, top)?;
+    }
+    Ok(())
+}
+
+/// Adds all counts of one table to another. A new word gets an entry of its own, which shares the key.
+///
+/// # Errors
+///
+/// `OutOfHeap` where the heap has no room for an entry. The counts of the entries before it in the walk were added.
+pub fn merge<C: Caller>(caller: &mut C, from: u32, into: u32) -> Result<(), OutOfHeap>
+    requires tables { HasTables (C.standing caller.old) (C.knows caller.old) from into }
+    requires page { PAGE_WORDS ≤ (C.standing caller.old).limits.page }
+    requires names { (C.standing caller.old).own.made ≤ MOST_MADE }
+    requires room { length (stack_in (C.standing caller.old)) + FREE_SLOTS ≤ STACK_SLOTS }
+    ensures merged { OnOk result ((known : KnownObjects) (from_name into_name : Name) (from_counts into_counts : WordCounts) (may : MayMerge (C.standing caller.old) known from into from_name into_name from_counts into_counts) → C.knows caller.old known → IsMergedWhole C.base C.tells C.tells_known C.standing known from_name into_name from_counts into_counts (may.from_table).buckets (may.into_table).buckets caller.old caller.new (C.knows caller.new)) }
+    ensures stopped { OnErr result ((known : KnownObjects) (from_name into_name : Name) (from_counts into_counts : WordCounts) (may : MayMerge (C.standing caller.old) known from into from_name into_name from_counts into_counts) → C.knows caller.old known → IsMergedPart C.base C.tells C.tells_known C.standing known from_name into_name from_counts into_counts (may.from_table).buckets (may.into_table).buckets caller.old caller.new (C.knows caller.new)) }
+{
+    let top = stack_size(caller);
+    let mut buffer = [0; WORD_LIMIT as usize];
+    merge_buckets(caller, from, into, &mut buffer, top)
+}
