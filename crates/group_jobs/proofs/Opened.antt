@@ -12,8 +12,7 @@ use Rattle.yak_model.specs.Private.{KnownObjects}
 use Rattle.yak_model.specs.Standing.{Standing}
 use Rattle.yak_model.specs.Tables.{AreInBucket, IsCountTable, LacksWord, Link, WordCounts, bucket_of}
 use Rattle.yak_model.specs.Texts.{word_cmp}
-use Rattle.heap_tables.specs.Adds.{IsNoEntry}
-use Rattle.heap_tables.specs.Counted.{IsNoEntryOf}
+use Rattle.heap_tables.specs.Adds.{IsNoEntry, IsNowhere}
 use Rattle.heap_tables.specs.Runs.{next_of, with_made, with_new}
 use Rattle.heap_tables.proofs.Counted.{grown_counts}
 use Rattle.heap_tables.proofs.Effects.{in_bounds, slot_push}
@@ -28,12 +27,12 @@ none_in known name table x b [] homes lacks = tt
 none_in known name table x b (l ∷ links) homes lacks =
     absurd ((lacks l.word (subst (λ c. LacksWord l.word (table.buckets c)) homes.0 (table.absent l.word (get-empty word_cmp l.word)))).0 refl)
 
-no_entries : (known : KnownObjects) (name : Name) (table : IsCountTable known name empty) (x : Name) → IsNoEntryOf x table.buckets
+no_entries : (known : KnownObjects) (name : Name) (table : IsCountTable known name empty) (x : Name) → IsNowhere x table.buckets
 no_entries known name table x b bound = none_in known name table x b (table.buckets b) ((table.table).homes b bound) (λ v h. h)
 
-all_apart : (links : List Link) (buckets : ℕ → List Link) → ((x : Name) → IsNoEntryOf x buckets) → AreApart links buckets
-all_apart [] buckets free = All-nil (λ l. IsNoEntryOf l.entry buckets)
-all_apart (l ∷ links) buckets free = All-cons (λ k. IsNoEntryOf k.entry buckets) l links (free l.entry) (all_apart links buckets free)
+all_apart : (links : List Link) (buckets : ℕ → List Link) → ((x : Name) → IsNowhere x buckets) → AreApart links buckets
+all_apart [] buckets free = All-nil (λ l. IsNowhere l.entry buckets)
+all_apart (l ∷ links) buckets free = All-cons (λ k. IsNowhere k.entry buckets) l links (free l.entry) (all_apart links buckets free)
 
 no_counts : word_counts [] ≡ empty
 no_counts = refl

@@ -14,8 +14,8 @@ use Rattle.yak_model.specs.Private.{KnownObjects, IsKnown}
 use Rattle.yak_model.specs.Standing.{Standing}
 use Rattle.yak_model.specs.Tables.{AreDifferent, AreInBucket, HasCount, IsChain, IsCountTable, IsKey, IsTable, LacksWord, Link, WordCounts, bucket_of}
 use Rattle.yak_model.specs.Texts.{word_cmp, places_of}
-use Rattle.heap_tables.specs.Adds.{IsNoEntry, KeepsOthers}
-use Rattle.heap_tables.specs.Counted.{IsNoEntryOf, KeepsApart, count_of, or_zero, raised}
+use Rattle.heap_tables.specs.Adds.{IsNoEntry, IsNowhere, KeepsOthers, StayNowhere}
+use Rattle.heap_tables.specs.Counted.{count_of, or_zero, raised}
 use Rattle.heap_tables.specs.Walks.{IsApart}
 use Rattle.heap_tables.proofs.Entries.{key_no_entry}
 use Rattle.heap_tables.proofs.Raised.{table_apart}
@@ -146,7 +146,7 @@ module _ (known later : KnownObjects) (part : Name) (heads : List Datum) (bucket
   same_links [] head apart chain = All-nil (λ l. (get later l.entry ≡ get known l.entry) × (get later l.key ≡ get known l.key))
   same_links (l ∷ links) head apart chain =
       let far = table_apart known part heads buckets table (l ∷ links) head chain in
-      let A = λ (k : Link). IsNoEntryOf k.entry buckets in
+      let A = λ (k : Link). IsNowhere k.entry buckets in
       let e = chain.1.1 in
       All-cons (λ k. (get later k.entry ≡ get known k.entry) × (get later k.key ≡ get known k.key)) l links
       (others l.entry (ap is_some e.0) (λ q. far.0 q) (All-head A l links apart b bound),
@@ -163,16 +163,16 @@ module _ (known later : KnownObjects) (part : Name) (heads : List Datum) (bucket
   }
 
 -- Links that are no entries of a table are none of what it is then.
-still_apart : (known : KnownObjects) (links : List Link) (head : Datum) (buckets after : ℕ → List Link) → IsChain known head links → KeepsApart known buckets after → AreApart links buckets → AreApart links after
-still_apart known [] head buckets after chain keeps apart = All-nil (λ l. IsNoEntryOf l.entry after)
+still_apart : (known : KnownObjects) (links : List Link) (head : Datum) (buckets after : ℕ → List Link) → IsChain known head links → StayNowhere known buckets after → AreApart links buckets → AreApart links after
+still_apart known [] head buckets after chain keeps apart = All-nil (λ l. IsNowhere l.entry after)
 still_apart known (l ∷ links) head buckets after chain keeps apart =
-    let A = λ (k : Link). IsNoEntryOf k.entry buckets in
-    All-cons (λ k. IsNoEntryOf k.entry after) l links (keeps l.entry (ap is_some chain.1.1.0) (All-head A l links apart)) (still_apart known links chain.1.0 buckets after chain.1.2 keeps (All-tail A l links apart))
+    let A = λ (k : Link). IsNowhere k.entry buckets in
+    All-cons (λ k. IsNowhere k.entry after) l links (keeps l.entry (ap is_some chain.1.1.0) (All-head A l links apart)) (still_apart known links chain.1.0 buckets after chain.1.2 keeps (All-tail A l links apart))
 
 -- Another word in the table of a part: the total's table is as it was.
 pub tallies_more : (s now : Standing) (known later : KnownObjects) (knows : KnownObjects → Type 0) (done doing : List (List ℕ)) (word : List ℕ) (b : ℕ) → b < BUCKETS
     → ((i : ℕ) → get_or (now.own).stack i datum.Null ≡ get_or (s.own).stack i datum.Null)
-    → length word ≤ WORD_LIMIT → (t : Tallies s known done doing) → knows later → (part : IsCountTable later t.name (raised (word_counts doing) word 1)) → KeepsOthers known t.name ((t.table).buckets b) later → KeepsApart known (t.table).buckets part.buckets
+    → length word ≤ WORD_LIMIT → (t : Tallies s known done doing) → knows later → (part : IsCountTable later t.name (raised (word_counts doing) word 1)) → KeepsOthers known t.name ((t.table).buckets b) later → StayNowhere known (t.table).buckets part.buckets
     → KnowsTallies now knows done (doing ++ word ∷ [])
 tallies_more s now known later knows done doing word b bound slots short t k part others keeps =
     let total = t.total.table in

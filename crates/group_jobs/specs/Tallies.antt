@@ -11,7 +11,7 @@ use Rattle.yak_model.specs.Room.{entry_words, key_words, table_words}
 use Rattle.yak_model.specs.Standing.{Standing}
 use Rattle.yak_model.specs.Tables.{IsCountTable, Link}
 use Rattle.yak_model.specs.Texts.{words_of}
-use Rattle.heap_tables.specs.Counted.{IsNoEntryOf}
+use Rattle.heap_tables.specs.Adds.{IsNowhere}
 use Rattle.heap_tables.specs.Runs.{slot_in, stack_in}
 use Rattle.group_jobs.specs.Counts.{word_counts}
 use Rattle.group_jobs.specs.Tasks.{task_bytes}
@@ -72,7 +72,7 @@ pub record Tally (s : Standing) (known : KnownObjects) (done : List (List ℕ)) 
 
 -- The links are no entries of any of the chains.
 abbrev pub AreApart : List Link → (ℕ → List Link) → Type 0
-AreApart links buckets = All (λ link. IsNoEntryOf link.entry buckets) links
+AreApart links buckets = All (λ link. IsNowhere link.entry buckets) links
 
 -- Beside it the slot of a part refers to another table, which counts other words, none of them too long, and they share no entry.
 pub record Tallies (s : Standing) (known : KnownObjects) (done doing : List (List ℕ)) : Type 0 where

@@ -6,7 +6,6 @@ mod counted;
 mod epochs;
 mod listing;
 mod long_words;
-mod stub;
 mod tallies;
 mod laws;
 mod printing;

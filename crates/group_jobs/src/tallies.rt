@@ -13,13 +13,11 @@ ghost use Rattle.group_jobs.specs.Tallies.{AreShort, HasProgress, HasTallies, Ha
 ghost use Rattle.group_jobs.specs.Tasks.{task_bytes};
 ghost use Rattle.group_jobs.specs.declared.TheConstants.{MOST_WORDS, OBJECTS_FOR_WORD, PART_SLOT, TOTAL_SLOT};
 
-use crate::epochs::{begin, end};
+use crate::epochs::{begin, drop_top, end};
 use crate::tasks::Task;
 use crate::words::Words;
 use crate::{PART_SLOT, TOTAL_SLOT};
-use heap_tables::{add, make};
-use crate::stub::merge;
-use heap_tables::steps::pop;
+use heap_tables::{add, make, merge};
 use object_layout::OutOfHeap;
 use yak_model::Caller;
 
@@ -85,7 +83,7 @@ fn close_part<C: Caller>(caller: &mut C) -> Result<(), OutOfHeap>
     ensures out { OnErr result ((known : KnownObjects) (done doing : List (List ℕ)) → C.knows caller.old known → Tallies (C.standing caller.old) known done doing → length done + length doing ≤ MOST_WORDS → WentOut C.base C.tells C.tells_known C.standing caller.old caller.new (C.standing caller.old).own.depth (entry_words * length doing)) }
 {
     merge(caller, PART_SLOT, TOTAL_SLOT)?;
-    pop(caller);
+    drop_top(caller);
     Ok(())
 }
 

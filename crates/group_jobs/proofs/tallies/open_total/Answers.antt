@@ -14,5 +14,5 @@ returns-clause-opened g c = ok_map c.make.result _ _
       let C = g.C.Caller in
       let m = both.1 known k in
       let before : IsProgress false (C.standing c.args.caller.now) known done = subst (λ b. IsProgress b (C.standing c.args.caller.now) known done) c.if-has_total.false progress in
-      opened_total (C.standing c.args.caller.now) (C.standing c.make.new.caller) known (C.knows c.make.new.caller) done both.0 before.0 before.1 m.0 m.1)
+      opened_total (C.standing c.args.caller.now) (C.standing c.make.new.caller) known (C.knows c.make.new.caller) done both.0 before.0 before.1 m.0 m.1.0)
     (ok_both c.make.result _ _ c.make.ensures.pushed c.make.ensures.made)
