@@ -1,5 +1,5 @@
 -- The table of a count in the heap that the worker leaves.
-use Rattle.std.proofs.Common.{zero, suc, ◌≡◌, ◌≢◌, ◌⊎◌, inl, inr, ℕ, ◌+◌, ◌-◌, ◌<◌, ◌≤◌, Bool, true, false, cond, List, [], ◌∷◌, ◌++◌, Option, Some, None, IsSome, is_some, length, get_or, refl, ◌∙◌, ap, sym, subst, arith}
+use Rattle.std.proofs.Common.{◌≡◌, ◌≢◌, inl, inr, ℕ, ◌-◌, ◌<◌, Bool, true, false, List, [], ◌∷◌, Option, Some, None, IsSome, is_some, length, get_or, refl, ◌∙◌, ap, sym, subst, arith}
 use Rattle.std.specs.List.{Contains}
 use Rattle.std.specs.FinMap.{get}
 use Rattle.std.proofs.lemmas.List.Elements.{Contains-get_or}
@@ -12,17 +12,16 @@ use Rattle.heap_words.specs.Map.{IsAreas}
 use Rattle.heap_words.specs.Contents.{Contents, depth_of}
 use Rattle.yak_model.specs.declared.datum.Datum.{Datum}
 use Rattle.yak_model.specs.declared.datum.Datum.TheVariants as datum
-use Rattle.yak_model.specs.declared.TheConstants.{BUCKETS}
-use Rattle.yak_model.specs.Graph.{Content, Fields, Graph, Thread, fields_at, fields_of, fields_or_none, stack_of, slot_of, thread_of}
+use Rattle.yak_model.specs.Graph.{Content, Fields, Graph, Thread, fields_of, fields_or_none, stack_of, slot_of, thread_of}
 use Rattle.yak_model.specs.Private.{IsKnown, KnownObjects}
-use Rattle.yak_model.specs.Spaces.{IsOnStack, Refers, SpaceState, content_at, home_of}
-use Rattle.yak_model.specs.State.{IsDatum, IsOpen, Thing, object_of, view}
+use Rattle.yak_model.specs.Spaces.{Refers, SpaceState, content_at, home_of}
+use Rattle.yak_model.specs.State.{IsDatum, IsOpen, object_of, view}
 use Rattle.yak_model.specs.Stands.{Stands}
-use Rattle.yak_model.specs.Tables.{IsChain, IsCountTable, IsTable, Link, entry_fields}
+use Rattle.yak_model.specs.Tables.{IsChain, IsTable, Link, entry_fields}
 use Rattle.yak_model.proofs.Data.{some-of}
 use Rattle.yak_model.proofs.Stacks.{is_thread}
 use Rattle.heap_walks.proofs.Seen.{seen}
-use Rattle.heap_core.specs.Callers.{KnowsAlone, graph_with, standing_told, thread_told}
+use Rattle.heap_core.specs.Callers.{KnowsAlone, standing_told, thread_told}
 use Rattle.heap_core.specs.Records.{SomeRecorded}
 use Rattle.heap_core.proofs.Alone.{nothing, there_or_not, with-kept}
 use Rattle.heap_core.proofs.Calling.{holds-stacks}
@@ -31,7 +30,6 @@ use Rattle.heap_core.proofs.Named.{depth-shown}
 use Rattle.heap_core.proofs.Recognized.{recorded-told}
 use Rattle.heap_core.proofs.RoomsNames.{content-shown}
 use Rattle.group_jobs.specs.Alone.{HoldsCounts, HoldsTotal}
-use Rattle.group_jobs.specs.Counts.{word_counts}
 use Rattle.group_jobs.specs.Tallies.{IsProgress, Tally}
 use Rattle.group_jobs.specs.declared.TheConstants.{TOTAL_SLOT, WORKER}
 

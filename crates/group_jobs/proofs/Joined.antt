@@ -1,11 +1,11 @@
 -- Calls of a caller, one run after another.
-use Rattle.std.proofs.Common.{◌≡◌, ℕ, ◌+◌, ◌-◌, ◌*◌, ◌^◌, ◌≤◌, ◌<◌, min, refl, ◌∙◌, arith, ap, sym, subst, Some}
+use Rattle.std.proofs.Common.{◌≡◌, ℕ, ◌+◌, ◌-◌, ◌^◌, ◌≤◌, min, refl, ◌∙◌, arith, ap}
 use Rattle.yak_model.specs.Graph.{Thread}
 use Rattle.yak_model.specs.Private.{KnownObjects}
 use Rattle.yak_model.specs.Standing.{Standing, Stays, counted_on}
 use Rattle.object_layout.specs.declared.TheConstants.{OBJECT_WORDS}
-use Rattle.heap_tables.specs.Runs.{IsQuiet, Ran, RanOut}
-use Rattle.group_jobs.specs.Goings.{Lacked, Makes, Went, WentOut}
+use Rattle.heap_tables.specs.Runs.{Ran, RanOut}
+use Rattle.group_jobs.specs.Goings.{Makes, Went, WentOut}
 
 counted-cases : (a b c v w M : ℕ) → min (b + 0) M ≡ min (a + v) M → min (c + 0) M ≡ min (b + w) M → min (c + 0) M ≡ min (a + (v + w)) M
 counted-cases a b c v w M r q = omega (arith, r, q)

@@ -1,16 +1,12 @@
 -- The entries of a table, in the order of the walk.
-use Rattle.std.proofs.Common.{zero, suc, ◌≡◌, ◌≢◌, ◌⊎◌, inl, inr, ⊎_elim, ℕ, ◌+◌, ◌-◌, ◌*◌, ◌<◌, ◌≤◌, ◌^◌, ◌||◌, Bool, true, false, cond, List, [], ◌∷◌, ◌++◌, All, AllPairs, Option, Some, None, is_some, map, length, take, drop, get_or, refl, ◌∙◌, ap, sym, subst, true≢false, arith}
-use Rattle.std.specs.FinMap.{get}
-use Rattle.std.specs.Ordering.{eq_by_cmp}
+use Rattle.std.proofs.Common.{zero, suc, ◌≡◌, inl, inr, ℕ, ◌+◌, ◌-◌, ◌*◌, ◌<◌, ◌≤◌, ◌^◌, List, [], ◌∷◌, ◌++◌, map, length, take, drop, refl, ◌∙◌, ap, sym, subst, arith}
 use Rattle.std.proofs.lemmas.Bool.{cases_lt}
 use Rattle.std.proofs.lemmas.List.{append_assoc, append-nil}
-use Rattle.std.proofs.lemmas.List.Elements.{All-nil, All-cons, All-head, All-tail, All-append}
 use Rattle.yak_model.specs.declared.TheConstants.{BUCKETS}
 use Rattle.yak_model.specs.Private.{KnownObjects}
-use Rattle.yak_model.specs.Tables.{AreDifferent, HasCount, IsCountTable, LacksWord, Link, WordCounts, bucket_of}
-use Rattle.yak_model.specs.Texts.{word_cmp, places_of}
+use Rattle.yak_model.specs.Tables.{IsCountTable, Link, WordCounts}
 use Rattle.object_layout.specs.declared.names.Name.{Name}
-use Rattle.heap_tables.specs.Cursors.{IsEnd, IsNext, IsPast}
+use Rattle.heap_tables.specs.Cursors.{IsEnd, IsNext}
 use Rattle.heap_tables.specs.declared.cursors.Cursor.{Cursor}
 use Rattle.heap_tables.specs.Merges.{done_at, walk}
 use Rattle.group_jobs.specs.Counts.{AreEntries}
@@ -89,7 +85,7 @@ module _ (buckets : ℕ → List Link) (at : Cursor) (low : at.bucket < BUCKETS)
           let gap : ℕ = next.bucket - suc at.bucket in
           let sum : suc at.bucket + gap ≡ next.bucket = omega (arith, later) in
           let between = λ (c : ℕ) (lo : suc at.bucket ≤ c) (hi : c < suc at.bucket + gap).
-            none_of (buckets c) (λ some. elim (n.first c 0 (omega (arith, hi, sum, top), some, inl (omega (arith, lo)))) [ inl less ↦ absurd (omega (arith, less, hi, sum)) | inr is ↦ absurd (let q = is.0 in omega (arith, q, hi, sum)) ]) in
+          none_of (buckets c) (λ some. elim (n.first c 0 (omega (arith, hi, sum, top), some, inl (omega (arith, lo)))) [ inl less ↦ absurd (omega (arith, less, hi, sum)) | inr is ↦ absurd (let q = is.0 in omega (arith, q, hi, sum)) ]) in
           ap (done_at buckets next.bucket) zero_place ∙ append-nil (walk buckets next.bucket) ∙ ap (walk buckets) (sym sum) ∙ walk_over buckets (suc at.bucket) gap between ∙ sym (done_past buckets at.bucket at.place ended)
 
   -- the list grows by the entry
@@ -97,7 +93,7 @@ module _ (buckets : ℕ → List Link) (at : Cursor) (low : at.bucket < BUCKETS)
   listed_next word count next n =
       let one = done_one buckets next.bucket n.place n.link n.rest n.there in
       let all : done_at buckets next.bucket next.place ≡ done_at buckets at.bucket at.place ++ n.link ∷ [] =
-        ap (done_at buckets next.bucket) n.after ∙ one ∙ ap (λ ls. ls ++ n.link ∷ []) (done_next word count next n) in
+      ap (done_at buckets next.bucket) n.after ∙ one ∙ ap (λ ls. ls ++ n.link ∷ []) (done_next word count next n) in
       ap (λ w. map entry_of (done_at buckets at.bucket at.place) ++ (w, count) ∷ []) n.words ∙ ap (λ m. map entry_of (done_at buckets at.bucket at.place) ++ (n.link.word, m) ∷ []) n.counts
       ∙ sym (ap (map entry_of) all ∙ map_cat entry_of (done_at buckets at.bucket at.place) (n.link ∷ []))
 

@@ -1,5 +1,5 @@
 -- The table of a part, added to that of the total.
-use Rattle.std.proofs.Common.{zero, suc, ◌≡◌, ◌≢◌, ◌⊎◌, inl, inr, ℕ, ◌+◌, ◌-◌, ◌*◌, ◌<◌, ◌≤◌, ◌^◌, ◌||◌, Bool, true, false, cond, List, [], ◌∷◌, ◌++◌, All, Option, Some, None, IsSome, is_some, length, get_or, take, refl, ◌∙◌, ap, sym, subst, true≢false, arith}
+use Rattle.std.proofs.Common.{zero, suc, ◌≡◌, ℕ, ◌+◌, ◌-◌, ◌<◌, ◌≤◌, ◌||◌, Bool, true, false, cond, List, [], ◌∷◌, ◌++◌, All, Option, Some, None, IsSome, is_some, length, get_or, take, refl, ◌∙◌, ap, sym, subst, true≢false, arith}
 use Rattle.std.specs.FinMap.{get}
 use Rattle.std.specs.Ordering.{eq_by_cmp}
 use Rattle.std.proofs.lemmas.List.Elements.{All-nil, All-cons, All-head, All-tail, All-append}
@@ -8,17 +8,15 @@ use Rattle.object_layout.specs.declared.TheConstants.{WORD_LIMIT}
 use Rattle.yak_model.specs.declared.datum.Datum.{Datum}
 use Rattle.yak_model.specs.declared.datum.Datum.TheVariants as datum
 use Rattle.yak_model.specs.declared.TheConstants.{BUCKETS}
-use Rattle.yak_model.specs.Graph.{Thread}
 use Rattle.yak_model.specs.Private.{KnownObjects}
 use Rattle.yak_model.specs.Standing.{Standing}
 use Rattle.yak_model.specs.Tables.{AreDifferent, AreInBucket, IsCountTable, LacksWord, Link, WordCounts, bucket_of}
 use Rattle.yak_model.specs.Texts.{word_cmp, places_of}
 use Rattle.heap_tables.specs.Adds.{IsNoEntry}
-use Rattle.heap_tables.specs.Counted.{count_of, or_zero, raised}
+use Rattle.heap_tables.specs.Counted.{or_zero, raised}
 use Rattle.heap_tables.specs.Merges.{MayMerge, SharesNone, news, one_if_none, sum_of, walk}
-use Rattle.heap_tables.specs.Runs.{popped}
 use Rattle.group_jobs.specs.Counts.{has_word, word_counts}
-use Rattle.group_jobs.specs.Tallies.{AreShort, KnowsTally, Tallies, Tally}
+use Rattle.group_jobs.specs.Tallies.{AreShort, KnowsTally, Tallies}
 use Rattle.group_jobs.specs.declared.TheConstants.{MOST_WORDS, PART_SLOT, TOTAL_SLOT}
 use Rattle.group_jobs.proofs.Counting.{get-word_counts, has_word-append, no_place, places_of-append, same_by_test, same_counts, told_of}
 use Rattle.group_jobs.proofs.Tallying.{AreOf, are_of, count_is, few_in_bucket, few_links, few_places}
@@ -154,10 +152,13 @@ module _ (words : List (List ℕ)) (known : KnownObjects) (name : Name) (table :
       let bound : b < BUCKETS = omega (arith, h) in
       let r = walk_is b (omega (arith, h)) in
       let links = table.buckets b in
-      let homes = (table.table).homes b bound in
-      (different_cat b (walk table.buckets b) links r.0 r.1.0 ((table.table).distinct b bound) homes,
-        (All-append (λ l. bucket_of l.word < suc b) (walk table.buckets b) links (below_more b (walk table.buckets b) r.1.0) (below_here b links homes),
-          All-append (λ l. has_word words l.word ≡ true) (walk table.buckets b) links r.1.1 (are_of words known name table b links homes (λ v g. g))))
+      let homes = (table.table).homes b bound in (
+        different_cat b (walk table.buckets b) links r.0 r.1.0 ((table.table).distinct b bound) homes,
+        (
+          All-append (λ l. bucket_of l.word < suc b) (walk table.buckets b) links (below_more b (walk table.buckets b) r.1.0) (below_here b links homes),
+          All-append (λ l. has_word words l.word ≡ true) (walk table.buckets b) links r.1.1 (are_of words known name table b links homes (λ v g. g)),
+        ),
+      )
 
   pub few_entries : length (walk table.buckets BUCKETS) ≤ length words
   few_entries = let r = walk_is BUCKETS (omega arith) in few_links words (walk table.buckets BUCKETS) r.0 r.1.1
@@ -194,9 +195,12 @@ size_left (x ∷ y ∷ z ∷ w ∷ stack) h = absurd (omega (arith, h))
 pub merged_tally : (s now : Standing) (known later : KnownObjects) (knows : KnownObjects → Type 0) (done doing : List (List ℕ)) (t : Tallies s known done doing) (stack : List Datum) → stack ≡ (s.own).stack → length (s.own).stack ≡ PART_SLOT + 1
     → (now.own).stack ≡ take (length stack - 1) stack → knows later → (sums : WordCounts) → ((word : List ℕ) → get sums word ≡ sum_of (get (word_counts done) word) (get (word_counts doing) word)) → IsCountTable later (t.total).name sums
     → KnowsTally now knows (done ++ doing)
-merged_tally s now known later knows done doing t stack same size own k sums are table =
-    (later, k, record {
-      name = (t.total).name;
-      slot = ap (λ (st : List Datum). get_or st TOTAL_SLOT datum.Null) own ∙ slot_left stack (ap length same ∙ size) ∙ ap (λ (st : List Datum). get_or st TOTAL_SLOT datum.Null) same ∙ (t.total).slot;
-      table = subst (IsCountTable later (t.total).name) (sums_are_counts sums done doing are) table;
-    })
+merged_tally s now known later knows done doing t stack same size own k sums are table = (
+  later,
+  k,
+  record {
+    name = (t.total).name;
+    slot = ap (λ (st : List Datum). get_or st TOTAL_SLOT datum.Null) own ∙ slot_left stack (ap length same ∙ size) ∙ ap (λ (st : List Datum). get_or st TOTAL_SLOT datum.Null) same ∙ (t.total).slot;
+    table = subst (IsCountTable later (t.total).name) (sums_are_counts sums done doing are) table;
+  },
+)

@@ -1,13 +1,12 @@
 -- Tasks of a text that were counted, and the next one.
-use Rattle.std.proofs.Common.{zero, suc, ◌≡◌, ℕ, ◌+◌, ◌*◌, ◌-◌, ◌≤◌, ◌<◌, ◌||◌, Bool, true, false, cond, List, [], ◌∷◌, ◌++◌, All, length, get_or, take, drop, refl, ◌∙◌, ap, sym, subst, arith, length-append}
-use Rattle.std.specs.List.{flat_map, count_by, sum_by}
+use Rattle.std.proofs.Common.{zero, suc, ◌≡◌, ℕ, ◌+◌, ◌*◌, ◌≤◌, ◌<◌, ◌||◌, Bool, true, false, cond, List, [], ◌∷◌, ◌++◌, length, get_or, take, drop, refl, ◌∙◌, ap, sym, subst, arith, length-append}
 use Rattle.std.proofs.lemmas.List.{append_assoc, append-nil}
 use Rattle.std.proofs.lemmas.List.Sums.{sum_by-append, sum_by-cons}
 use Rattle.object_layout.specs.declared.TheConstants.{WORD_LIMIT}
 use Rattle.yak_model.specs.Room.{entry_words, key_words, table_words}
 use Rattle.yak_model.specs.Texts.{words_of}
 use Rattle.group_jobs.specs.declared.tasks.Task.{Task}
-use Rattle.group_jobs.specs.Tallies.{AreShort, AreWithin, busy_tasks, is_busy, new_total, task_room, tasks_room, words_in, words_room}
+use Rattle.group_jobs.specs.Tallies.{AreShort, is_busy, new_total, task_room, tasks_room, words_in, words_room}
 use Rattle.group_jobs.specs.Tasks.{task_bytes}
 use Rattle.group_jobs.proofs.Rooms.{all_left, all_right}
 
@@ -72,9 +71,12 @@ words_parts bytes tasks i d h = ap (words_in bytes) (parts_at tasks i d h) ∙ w
 pub words_size : (bytes : List ℕ) (tasks : List Task) (i : ℕ) (d : Task) → i < length tasks
     → length (words_in bytes (take i tasks)) + length (words_of (task_bytes bytes (get_or tasks i d))) ≤ length (words_in bytes tasks)
 words_size bytes tasks i d h =
-    omega (arith, ap length (words_parts bytes tasks i d h),
+    omega (
+      arith,
+      ap length (words_parts bytes tasks i d h),
       length-append (words_in bytes (take i tasks)) (words_of (task_bytes bytes (get_or tasks i d)) ++ words_in bytes (drop (suc i) tasks)),
-      length-append (words_of (task_bytes bytes (get_or tasks i d))) (words_in bytes (drop (suc i) tasks)))
+      length-append (words_of (task_bytes bytes (get_or tasks i d))) (words_in bytes (drop (suc i) tasks)),
+    )
 
 pub words_short : (bytes : List ℕ) (tasks : List Task) (i : ℕ) (d : Task) → i < length tasks → AreShort (words_in bytes tasks) → AreShort (words_of (task_bytes bytes (get_or tasks i d)))
 words_short bytes tasks i d h short =
@@ -84,8 +86,12 @@ words_short bytes tasks i d h short =
 pub room_within : (bytes : List ℕ) (tasks : List Task) (i : ℕ) (d : Task) → i < length tasks
     → tasks_room bytes (take i tasks) + task_room (words_of (task_bytes bytes (get_or tasks i d))) ≤ tasks_room bytes tasks
 room_within bytes tasks i d h =
-    omega (arith, ap (tasks_room bytes) (parts_at tasks i d h) ∙ rooms_cat bytes (take i tasks) (get_or tasks i d ∷ drop (suc i) tasks),
-      rooms_cat bytes (get_or tasks i d ∷ []) (drop (suc i) tasks), rooms_one bytes (get_or tasks i d))
+    omega (
+      arith,
+      ap (tasks_room bytes) (parts_at tasks i d h) ∙ rooms_cat bytes (take i tasks) (get_or tasks i d ∷ drop (suc i) tasks),
+      rooms_cat bytes (get_or tasks i d ∷ []) (drop (suc i) tasks),
+      rooms_one bytes (get_or tasks i d),
+    )
 
 pub busy_next : (bytes : List ℕ) (tasks : List Task) (i : ℕ) (d : Task) → i < length tasks → is_busy (words_in bytes (take (i + 1) tasks)) ≡ (is_busy (words_in bytes (take i tasks)) || is_busy (words_of (task_bytes bytes (get_or tasks i d))))
 busy_next bytes tasks i d h = ap is_busy (words_next bytes tasks i d h) ∙ busy_cat (words_in bytes (take i tasks)) (words_of (task_bytes bytes (get_or tasks i d)))

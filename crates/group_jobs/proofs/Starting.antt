@@ -1,5 +1,5 @@
 -- What a count by one worker begins with.
-use Rattle.std.proofs.Common.{◌≡◌, ℕ, ◌+◌, ◌-◌, ◌*◌, ◌≤◌, ◌<◌, List, [], ◌∷◌, All, length, refl, ◌∙◌, ap, sym, subst, arith}
+use Rattle.std.proofs.Common.{ℕ, ◌+◌, ◌≤◌, List, [], ◌∷◌, length, arith}
 use Rattle.std.specs.List.{slice_split}
 use Rattle.std.proofs.lemmas.List.Elements.{All-nil, All-cons}
 use Rattle.std.proofs.lemmas.List.Sums.{count_by-le-length, length-filter}
@@ -12,8 +12,13 @@ use Rattle.group_jobs.specs.Tasks.{AreTasks, AreTasksFrom}
 -- A text has at most one word more than it has bytes.
 pub few_words : (bytes : List ℕ) → length (words_of bytes) ≤ length bytes + 1
 few_words bytes =
-    omega (arith, length-filter is_word (slice_split parts_words bytes), count_by-le-length is_word (slice_split parts_words bytes),
-      length-slice_split parts_words bytes, count_by-le-length parts_words bytes)
+    omega (
+      arith,
+      length-filter is_word (slice_split parts_words bytes),
+      count_by-le-length is_word (slice_split parts_words bytes),
+      length-slice_split parts_words bytes,
+      count_by-le-length parts_words bytes,
+    )
 
 within_from : (bytes : List ℕ) (lines place : ℕ) (tasks : List Task) → AreTasksFrom bytes lines place tasks → AreWithin bytes tasks
 within_from bytes lines place [] are = All-nil (λ task. (task.start ≤ task.end) × (task.end ≤ length bytes))

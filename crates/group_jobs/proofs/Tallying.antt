@@ -1,7 +1,7 @@
 -- Tables of a count: their words, and what stays of one table while another one grows.
-use Rattle.std.proofs.Common.{zero, suc, ◌≡◌, ◌≢◌, ◌⊎◌, inl, inr, ℕ, ◌+◌, ◌-◌, ◌*◌, ◌<◌, ◌≤◌, ◌^◌, ◌||◌, Bool, true, false, cond, List, [], ◌∷◌, ◌++◌, All, Option, Some, None, IsSome, is_some, unwrap_or, length, get_or, refl, ◌∙◌, ap, sym, subst, true≢false, arith}
+use Rattle.std.proofs.Common.{◌≡◌, ◌≢◌, inl, inr, ℕ, ◌+◌, ◌<◌, ◌≤◌, ◌||◌, Bool, true, false, cond, List, [], ◌∷◌, ◌++◌, All, Option, Some, None, is_some, unwrap_or, length, get_or, refl, ◌∙◌, ap, sym, subst, true≢false, arith}
 use Rattle.std.specs.FinMap as finite
-use Rattle.std.specs.FinMap.{get, empty}
+use Rattle.std.specs.FinMap.{get}
 use Rattle.std.specs.Ordering.{eq_by_cmp}
 use Rattle.std.proofs.lemmas.List.Elements.{All-append, All-nil, All-cons, All-head, All-tail}
 use Rattle.object_layout.specs.declared.names.Name.{Name}
@@ -9,10 +9,9 @@ use Rattle.object_layout.specs.declared.TheConstants.{WORD_LIMIT}
 use Rattle.yak_model.specs.declared.datum.Datum.{Datum}
 use Rattle.yak_model.specs.declared.datum.Datum.TheVariants as datum
 use Rattle.yak_model.specs.declared.TheConstants.{BUCKETS}
-use Rattle.yak_model.specs.Graph.{Fields}
-use Rattle.yak_model.specs.Private.{KnownObjects, IsKnown}
+use Rattle.yak_model.specs.Private.{KnownObjects}
 use Rattle.yak_model.specs.Standing.{Standing}
-use Rattle.yak_model.specs.Tables.{AreDifferent, AreInBucket, HasCount, IsChain, IsCountTable, IsKey, IsTable, LacksWord, Link, WordCounts, bucket_of}
+use Rattle.yak_model.specs.Tables.{AreDifferent, AreInBucket, IsChain, IsCountTable, IsKey, IsTable, LacksWord, Link, WordCounts}
 use Rattle.yak_model.specs.Texts.{word_cmp, places_of}
 use Rattle.heap_tables.specs.Adds.{IsNoEntry, IsNowhere, KeepsOthers, StayNowhere}
 use Rattle.heap_tables.specs.Counted.{count_of, or_zero, raised}
@@ -21,7 +20,7 @@ use Rattle.heap_tables.proofs.Entries.{key_no_entry}
 use Rattle.heap_tables.proofs.Raised.{table_apart}
 use Rattle.heap_tables.proofs.Places.{word_cases}
 use Rattle.group_jobs.specs.Counts.{has_word, word_counts}
-use Rattle.group_jobs.specs.Tallies.{AreApart, KnowsTallies, Tallies, Tally}
+use Rattle.group_jobs.specs.Tallies.{AreApart, KnowsTallies, Tallies}
 use Rattle.group_jobs.proofs.Counting.{count-word_counts, get-word_counts, one_place, places_of-append, same_by_test, word_counts-push}
 
 -- ---- counts of words
@@ -73,12 +72,12 @@ remove : (word : List ℕ) (links : List Link) → AreDifferent links → Remove
 remove word [] d = record { rest = []; size = omega arith; different = tt; lacks = λ v h. h; all = λ words all. All-nil (λ l. has_word words l.word ≡ true) }
 remove word (l ∷ links) d = elim (word_cases l.word word) [
   | inl same ↦ record {
-      rest = links;
-      size = omega arith;
-      different = d.1;
-      lacks = λ v h. h.1;
-      all = λ words all. all_lacking word links words (subst (λ w. LacksWord w links) same d.0) (All-tail (λ k. has_word (word ∷ words) k.word ≡ true) l links all);
-    }
+    rest = links;
+    size = omega arith;
+    different = d.1;
+    lacks = λ v h. h.1;
+    all = λ words all. all_lacking word links words (subst (λ w. LacksWord w links) same d.0) (All-tail (λ k. has_word (word ∷ words) k.word ≡ true) l links all);
+  }
   | inr ne ↦
       let r : Removed word links = remove word links d.1 in
       record {
@@ -87,8 +86,8 @@ remove word (l ∷ links) d = elim (word_cases l.word word) [
         different = (r.lacks l.word d.0, r.different);
         lacks = λ v h. (h.0, r.lacks v h.1);
         all = λ words all. All-cons (λ k. has_word words k.word ≡ true) l r.rest
-          (among_rest word l.word words (All-head (λ k. has_word (word ∷ words) k.word ≡ true) l links all) ne)
-          (r.all words (All-tail (λ k. has_word (word ∷ words) k.word ≡ true) l links all));
+            (among_rest word l.word words (All-head (λ k. has_word (word ∷ words) k.word ≡ true) l links all) ne)
+            (r.all words (All-tail (λ k. has_word (word ∷ words) k.word ≡ true) l links all));
       }
 ]
 
@@ -148,9 +147,10 @@ module _ (known later : KnownObjects) (part : Name) (heads : List Datum) (bucket
       let far = table_apart known part heads buckets table (l ∷ links) head chain in
       let A = λ (k : Link). IsNowhere k.entry buckets in
       let e = chain.1.1 in
-      All-cons (λ k. (get later k.entry ≡ get known k.entry) × (get later k.key ≡ get known k.key)) l links
-      (others l.entry (ap is_some e.0) (λ q. far.0 q) (All-head A l links apart b bound),
-        others l.key (ap is_some e.1.1) (λ q. far.1 q) (key_apart known l.key l.word e.1 (buckets b) (get_or heads b datum.Null) (table.chains b bound)))
+      All-cons (λ k. (get later k.entry ≡ get known k.entry) × (get later k.key ≡ get known k.key)) l links (
+        others l.entry (ap is_some e.0) (λ q. far.0 q) (All-head A l links apart b bound),
+        others l.key (ap is_some e.1.1) (λ q. far.1 q) (key_apart known l.key l.word e.1 (buckets b) (get_or heads b datum.Null) (table.chains b bound)),
+      )
       (same_links links chain.1.0 (All-tail A l links apart) chain.1.2)
 
   table_stays : (name : Name) (tops : List Datum) (chains : ℕ → List Link) → IsTable known name tops chains → name ≢ part → ((c : ℕ) → c < BUCKETS → AreApart (chains c) buckets) → IsTable later name tops chains
@@ -175,29 +175,32 @@ pub tallies_more : (s now : Standing) (known later : KnownObjects) (knows : Know
     → length word ≤ WORD_LIMIT → (t : Tallies s known done doing) → knows later → (part : IsCountTable later t.name (raised (word_counts doing) word 1)) → KeepsOthers known t.name ((t.table).buckets b) later → StayNowhere known (t.table).buckets part.buckets
     → KnowsTallies now knows done (doing ++ word ∷ [])
 tallies_more s now known later knows done doing word b bound slots short t k part others keeps =
-    let total = t.total.table in
-    (later, k, record {
-      total = record {
-        name = t.total.name;
-        slot = slots 1 ∙ t.total.slot;
-        table = record {
-          heads = total.heads;
-          buckets = total.buckets;
-          table = table_stays known later t.name (t.table).heads (t.table).buckets (t.table).table b bound others t.total.name total.heads total.buckets total.table t.other t.apart;
-          counted = total.counted;
-          absent = total.absent;
+    let total = t.total.table in (
+      later,
+      k,
+      record {
+        total = record {
+          name = t.total.name;
+          slot = slots 1 ∙ t.total.slot;
+          table = record {
+            heads = total.heads;
+            buckets = total.buckets;
+            table = table_stays known later t.name (t.table).heads (t.table).buckets (t.table).table b bound others t.total.name total.heads total.buckets total.table t.other t.apart;
+            counted = total.counted;
+            absent = total.absent;
+          };
         };
-      };
-      name = t.name;
-      slot = slots 2 ∙ t.slot;
-      table = record {
-        heads = part.heads;
-        buckets = part.buckets;
-        table = part.table;
-        counted = λ w n e. part.counted w n (ap (λ (m : WordCounts). get m w) (raised_one doing word) ∙ e);
-        absent = λ w e. part.absent w (ap (λ (m : WordCounts). get m w) (raised_one doing word) ∙ e);
-      };
-      other = t.other;
-      apart = λ c h. still_apart known (total.buckets c) (get_or total.heads c datum.Null) (t.table).buckets part.buckets ((total.table).chains c h) keeps (t.apart c h);
-      short = All-append (λ w. length w ≤ WORD_LIMIT) doing (word ∷ []) t.short (All-cons (λ w. length w ≤ WORD_LIMIT) word [] short (All-nil (λ w. length w ≤ WORD_LIMIT)));
-    })
+        name = t.name;
+        slot = slots 2 ∙ t.slot;
+        table = record {
+          heads = part.heads;
+          buckets = part.buckets;
+          table = part.table;
+          counted = λ w n e. part.counted w n (ap (λ (m : WordCounts). get m w) (raised_one doing word) ∙ e);
+          absent = λ w e. part.absent w (ap (λ (m : WordCounts). get m w) (raised_one doing word) ∙ e);
+        };
+        other = t.other;
+        apart = λ c h. still_apart known (total.buckets c) (get_or total.heads c datum.Null) (t.table).buckets part.buckets ((total.table).chains c h) keeps (t.apart c h);
+        short = All-append (λ w. length w ≤ WORD_LIMIT) doing (word ∷ []) t.short (All-cons (λ w. length w ≤ WORD_LIMIT) word [] short (All-nil (λ w. length w ≤ WORD_LIMIT)));
+      },
+    )

@@ -16,11 +16,11 @@ ghost use Rattle.group_jobs.specs.Alone.{HasListed, HoldsCounts, IsListed, Tells
 ghost use Rattle.group_jobs.specs.LongWords.{has_long_word};
 ghost use Rattle.group_jobs.specs.declared.TheConstants.{INPUT_LIMIT};
 
-use crate::{INPUT_LIMIT, WORKER};
 use crate::counted::{Counted, sort_counts};
 use crate::listing::read_counts;
 use crate::tallies::count_tasks;
 use crate::tasks::{Task, cut_tasks};
+use crate::{INPUT_LIMIT, WORKER};
 use heap_core::{Core, CoreCaller};
 use heap_words::{Image, MakeError, Words};
 use object_layout::{Census, NoMemory};
@@ -71,7 +71,11 @@ fn why_refused(caller: CoreCaller<Image>) -> CountError<()>
 }
 
 /// The list of the counts in the table of the total, if there is one.
-fn list_counts(alloc: Global, caller: &mut CoreCaller<Image>, has_total: bool) -> Result<Vec<Counted>, NoMemory>
+fn list_counts(
+    alloc: Global,
+    caller: &mut CoreCaller<Image>,
+    has_total: bool,
+) -> Result<Vec<Counted>, NoMemory>
     requires progress { HasListed has_total (⟦<CoreCaller<Image> as Caller>⟧.standing caller.old) (⟦<CoreCaller<Image> as Caller>⟧.knows caller.old) }
     ensures own { (⟦<CoreCaller<Image> as Caller>⟧.standing caller.new).own ≡ (⟦<CoreCaller<Image> as Caller>⟧.standing caller.old).own }
     ensures thread { (⟦<CoreCaller<Image> as Caller>⟧.standing caller.new).thread ≡ (⟦<CoreCaller<Image> as Caller>⟧.standing caller.old).thread }
@@ -104,7 +108,12 @@ fn close_heap(caller: CoreCaller<Image>, has_total: bool) -> Core<Image>
 /// # Errors
 ///
 /// `OutOfHeap` where the heap had no room for an object, with the pages at that call; `Memory` where an allocation was refused.
-pub fn count_one(alloc: Global, pages: u32, lines: u32, bytes: &[u8]) -> Result<CountedAlone, CountError<()>>
+pub fn count_one(
+    alloc: Global,
+    pages: u32,
+    lines: u32,
+    bytes: &[u8],
+) -> Result<CountedAlone, CountError<()>>
     requires pages { IsAreas (record { pages = pages; threads = 1 }) }
     requires some_lines { 1 ≤ lines }
     requires short { length bytes.now ≤ INPUT_LIMIT }

@@ -4,11 +4,11 @@
 mod count;
 mod counted;
 mod epochs;
+mod laws;
 mod listing;
 mod long_words;
-mod tallies;
-mod laws;
 mod printing;
+mod tallies;
 mod tasks;
 #[cfg(test)]
 mod tests;

@@ -29,7 +29,10 @@ fn push_entry(list: &mut Vec<Counted>, entry: Entry) -> Result<(), NoMemory>
 }
 
 /// Reads the words and counts of the table of the total, in the order of the walk through it.
-pub(crate) fn read_counts<C: Caller>(alloc: Global, caller: &mut C) -> Result<Vec<Counted>, NoMemory>
+pub(crate) fn read_counts<C: Caller>(
+    alloc: Global,
+    caller: &mut C,
+) -> Result<Vec<Counted>, NoMemory>
     requires table { HasShortTally (C.standing caller.old) (C.knows caller.old) }
     requires slots { length (stack_in (C.standing caller.old)) ≡ PART_SLOT }
     ensures ran { Ran C.base C.tells C.tells_known C.standing caller.old caller.new 0 }
@@ -38,7 +41,10 @@ pub(crate) fn read_counts<C: Caller>(alloc: Global, caller: &mut C) -> Result<Ve
     ensures read { IfOk result (λ list. (known : KnownObjects) (done : List (List ℕ)) → C.knows caller.old known → IsShortTally (C.standing caller.old) known done → AreEntries (word_counts done) list.items) }
 {
     let mut list = Vec::new(alloc);
-    let mut at = Cursor { bucket: 0, place: 0 };
+    let mut at = Cursor {
+        bucket: 0,
+        place: 0,
+    };
     'entries: while let Some(entry) = next_entry(alloc, caller, TOTAL_SLOT, at)? {
         at = entry.next;
         push_entry(&mut list, entry)?;

@@ -193,7 +193,11 @@ fn count_task<C: Caller>(caller: &mut C, has_total: bool, bytes: &[u8]) -> Resul
 
 /// Counts the words of the tasks of a text, and tells whether there is a table of the total then. There is one exactly where there
 /// are words.
-pub(crate) fn count_tasks<C: Caller>(caller: &mut C, bytes: &[u8], tasks: &[Task]) -> Result<bool, OutOfHeap>
+pub(crate) fn count_tasks<C: Caller>(
+    caller: &mut C,
+    bytes: &[u8],
+    tasks: &[Task],
+) -> Result<bool, OutOfHeap>
     requires opened { HasProgress false (C.standing caller.old) (C.knows caller.old) (length (words_in bytes.now tasks.now)) }
     requires within { AreWithin bytes.now tasks.now }
     requires short { AreShort (words_in bytes.now tasks.now) }
@@ -209,7 +213,11 @@ pub(crate) fn count_tasks<C: Caller>(caller: &mut C, bytes: &[u8], tasks: &[Task
 {
     let mut has_total = false;
     'tasks: for task in tasks {
-        has_total = count_task(caller, has_total, &bytes[task.start as usize..task.end as usize])?;
+        has_total = count_task(
+            caller,
+            has_total,
+            &bytes[task.start as usize..task.end as usize],
+        )?;
     }
     Ok(has_total)
 }

@@ -1,6 +1,5 @@
-use Rattle.std.proofs.Common.{◌≡◌, ℕ, List, ap, sym, subst, ◌∙◌}
+use Rattle.std.proofs.Common.{sym, subst}
 use Rattle.heap_words.specs.Contents.{contents}
-use Rattle.yak_model.specs.Spaces.{SpaceState}
 use Rattle.yak_model.specs.Stands.{Stands}
 use Rattle.heap_core.specs.Records.{SomeRecorded}
 use Rattle.group_jobs.specs.Alone.{HoldsCounts}
@@ -13,5 +12,5 @@ returns-clause-holds c known done alone progress outside =
     let core = c.args.caller.core in
     let some : SomeRecorded core.map (contents core.map core.words.words.items) = subst (λ x. SomeRecorded x.map (contents x.map x.words.words.items)) e c.into_core.result.stands in
     subst (λ x. HoldsCounts x.map (contents x.map x.words.words.items) done) (sym e)
-      (holds_worker core.map (contents core.map core.words.words.items) c.args.caller.thread c.requires.thread known c.args.has_total done c.args.caller.made c.args.caller.refusals c.args.caller.last c.requires.areas c.requires.one some alone
-        (λ s h. c.into_core.ensures.told s (subst (λ x. Stands x.map (contents x.map x.words.words.items) s) (sym e) h)) progress outside)
+    (holds_worker core.map (contents core.map core.words.words.items) c.args.caller.thread c.requires.thread known c.args.has_total done c.args.caller.made c.args.caller.refusals c.args.caller.last c.requires.areas c.requires.one some alone
+    (λ s h. c.into_core.ensures.told s (subst (λ x. Stands x.map (contents x.map x.words.words.items) s) (sym e) h)) progress outside)

@@ -1,12 +1,9 @@
-use Rattle.std.proofs.Common.{◌≡◌, ℕ, ◌+◌, ◌*◌, ◌≤◌, List, [], ◌∷◌, length, refl, ◌∙◌, ap, sym, subst, arith, false, Bool}
+use Rattle.std.proofs.Common.{◌≡◌, ℕ, ◌≤◌, List, [], length, refl, ◌∙◌, ap, sym, subst, arith, false, Bool}
 use Rattle.std.specs.FinMap.{empty}
-use Rattle.heap_words.specs.Contents.{contents}
 use Rattle.yak_model.specs.Graph.{Thread}
 use Rattle.yak_model.specs.Standing.{Standing}
 use Rattle.yak_model.specs.Texts.{words_of}
-use Rattle.heap_core.specs.Callers.{KnowsAlone, standing_told}
-use Rattle.group_jobs.specs.Alone.{HoldsCounts, IsListed}
-use Rattle.group_jobs.specs.Counts.{counts_of}
+use Rattle.group_jobs.specs.Alone.{IsListed}
 use Rattle.group_jobs.specs.Tallies.{AreShort, IsProgress, words_in}
 use Rattle.group_jobs.specs.Tasks.{AreTasks}
 use Rattle.group_jobs.specs.declared.TheConstants.{INPUT_LIMIT, MOST_WORDS}
@@ -61,5 +58,5 @@ returns-clause-heap c =
     let l = listed c.args.bytes.now c.deref.result.now c.in-Ok.tasks.items c.in-Ok-count_tasks.has_total _ r.0 c.deref.ensures.value c.in-Ok.ensures.words c.requires.short c.requires.words r.2 in
     let own = c.in-Ok-list_counts.ensures.own in
     c.close_heap-core.ensures.holds r.0 (words_of c.args.bytes.now) (c.in-Ok-list_counts.ensures.kept r.0 (words_of c.args.bytes.now) r.1 l)
-      (progress_same c.in-Ok-count_tasks.has_total _ _ r.0 (words_of c.args.bytes.now) (ap (λ (o : Thread). o.stack) own) l.progress)
-      (ap (λ (o : Thread). o.depth) own ∙ c.in-Ok-count_tasks.ensures.depth)
+    (progress_same c.in-Ok-count_tasks.has_total _ _ r.0 (words_of c.args.bytes.now) (ap (λ (o : Thread). o.stack) own) l.progress)
+    (ap (λ (o : Thread). o.depth) own ∙ c.in-Ok-count_tasks.ensures.depth)

@@ -1,17 +1,16 @@
-use Rattle.std.proofs.Common.{◌≡◌, ℕ, ◌+◌, List, [], ◌∷◌, None, Option, replicate, ap, sym, subst, ◌∙◌, refl, arith}
-use Rattle.std.specs.FinMap.{empty, entries, entries-insert, put}
+use Rattle.std.proofs.Common.{◌≡◌, ℕ, None, Option, replicate, ap, ◌∙◌}
+use Rattle.std.specs.FinMap.{empty, entries-insert, put}
 use Rattle.std.specs.List.{sum_by}
 use Rattle.object_layout.specs.declared.names.Name.{Name}
 use Rattle.object_layout.specs.declared.replies.Census.{Census}
 use Rattle.heap_words.specs.Contents.{Contents, contents}
 use Rattle.yak_model.specs.declared.TheConstants.{ROOT_FIELDS}
 use Rattle.yak_model.specs.declared.datum.Datum.TheVariants as datum
-use Rattle.yak_model.specs.Graph.{Content, Fields, Thread, size_of, standard_limits, thread_of}
+use Rattle.yak_model.specs.Graph.{Content, Fields, Thread, size_of, standard_limits}
 use Rattle.yak_model.specs.Lawful.{present_words}
 use Rattle.yak_model.specs.Names.{name_cmp, root_name}
 use Rattle.yak_model.specs.Room.{root_words}
 use Rattle.yak_model.specs.Spaces.{opening_spaces}
-use Rattle.yak_model.specs.Standing.{Standing}
 use Rattle.yak_model.proofs.Names.{name_cmp_total}
 use Rattle.heap_core.specs.Callers.{standing_told, thread_told}
 use Rattle.group_jobs.specs.Alone.{opening_standing}

@@ -1,18 +1,16 @@
-use Rattle.std.proofs.Common.{◌≡◌, ℕ, ◌+◌, ◌-◌, ◌*◌, ◌^◌, ◌<◌, ◌≤◌, List, [], ◌∷◌, ◌++◌, map, length, get_or, Some, None, ap, sym, subst, ◌∙◌, arith}
+use Rattle.std.proofs.Common.{◌≡◌, ℕ, ◌+◌, ◌-◌, ◌*◌, ◌^◌, ◌<◌, List, [], ◌∷◌, ◌++◌, map, length, get_or, ap, sym, subst, ◌∙◌, arith}
 use Rattle.yak_model.specs.declared.TheConstants.{BUCKETS}
-use Rattle.yak_model.specs.declared.datum.Datum.{Datum}
 use Rattle.yak_model.specs.declared.datum.Datum.TheVariants as datum
 use Rattle.yak_model.specs.Graph.{Thread}
 use Rattle.yak_model.specs.Private.{KnownObjects}
 use Rattle.yak_model.specs.Standing.{Standing}
-use Rattle.yak_model.specs.Tables.{Link}
-use Rattle.heap_tables.specs.Cursors.{IsNext, IsNextEntry, MayWalk, Visited}
+use Rattle.heap_tables.specs.Cursors.{IsNextEntry, MayWalk, Visited}
 use Rattle.heap_tables.specs.declared.cursors.Cursor.{Cursor}
 use Rattle.heap_tables.specs.Merges.{done_at}
 use Rattle.heap_tables.proofs.RunOn.{ran_more}
 use Rattle.group_jobs.specs.Counts.{word_counts}
 use Rattle.group_jobs.specs.Listing.{IsShortTally}
-use Rattle.group_jobs.specs.declared.TheConstants.{MOST_WORDS, TOTAL_SLOT}
+use Rattle.group_jobs.specs.declared.TheConstants.{TOTAL_SLOT}
 use Rattle.group_jobs.proofs.Listed.{entry_of, gets_on, listed_next, next_place, read_entries}
 use Rattle.group_jobs.proofs.Merging.{short_count}
 use Rattle.group_jobs.proofs.Tallying.{few_in_bucket}
@@ -71,12 +69,12 @@ entries-preserved g c =
       place = subst (λ (x : Cursor). x.place < 2 ^ 32) same bounds.1;
       kept = λ known done k t. c.next_entry.ensures.kept known t.tally.name (word_counts done) (inv.kept known done k t) (may_walk (C.standing c.args.caller.now) (C.standing c.entries.caller) inv.own known done t);
       read = λ known done k t.
-        let m = may_walk (C.standing c.args.caller.now) (C.standing c.entries.caller) inv.own known done t in
-        let one = c.in_ok-entry.ensures.next known t.tally.name (word_counts done) m (inv.kept known done k t) in
-        let o = subst (IsNextEntry (word_counts done) t.tally.table.buckets c.entries.at) c.in-Some.is one in
-        c.in_ok-push_entry.ensures.pushed ∙ ap (λ es. es ++ (c.in-Some.entry.word, c.in-Some.entry.count) ∷ []) (inv.read known done k t)
-        ∙ listed_next t.tally.table.buckets c.entries.at inv.bucket c.in-Some.entry.word c.in-Some.entry.count c.in-Some.entry.next o.0
-        ∙ ap (λ (x : Cursor). map entry_of (done_at t.tally.table.buckets x.bucket x.place)) same;
+          let m = may_walk (C.standing c.args.caller.now) (C.standing c.entries.caller) inv.own known done t in
+          let one = c.in_ok-entry.ensures.next known t.tally.name (word_counts done) m (inv.kept known done k t) in
+          let o = subst (IsNextEntry (word_counts done) t.tally.table.buckets c.entries.at) c.in-Some.is one in
+          c.in_ok-push_entry.ensures.pushed ∙ ap (λ es. es ++ (c.in-Some.entry.word, c.in-Some.entry.count) ∷ []) (inv.read known done k t)
+          ∙ listed_next t.tally.table.buckets c.entries.at inv.bucket c.in-Some.entry.word c.in-Some.entry.count c.in-Some.entry.next o.0
+          ∙ ap (λ (x : Cursor). map entry_of (done_at t.tally.table.buckets x.bucket x.place)) same;
     }
 
 pub returns-in_err-push_entry-clause-ran : goal.returns-in_err-push_entry-clause-ran

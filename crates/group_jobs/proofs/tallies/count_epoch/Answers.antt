@@ -1,4 +1,4 @@
-use Rattle.std.proofs.Common.{◌≡◌, ℕ, ◌+◌, ◌≤◌, List, length, ap, arith}
+use Rattle.std.proofs.Common.{◌+◌, ap, arith}
 use Rattle.yak_model.specs.Graph.{Thread}
 use Rattle.yak_model.specs.Room.{table_words}
 use Rattle.yak_model.specs.Texts.{words_of}

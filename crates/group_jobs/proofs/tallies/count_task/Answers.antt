@@ -1,4 +1,4 @@
-use Rattle.std.proofs.Common.{◌≡◌, ℕ, ◌+◌, ◌≤◌, List, [], ◌++◌, true, cond, length, ap, sym, subst, ◌∙◌, arith}
+use Rattle.std.proofs.Common.{◌≡◌, ◌+◌, [], ◌++◌, true, cond, ap, sym, subst, ◌∙◌, arith}
 use Rattle.std.proofs.lemmas.List.{append-nil}
 use Rattle.yak_model.specs.Graph.{Thread}
 use Rattle.yak_model.specs.Room.{table_words}
@@ -14,7 +14,7 @@ returns-then-not-has_words-clause-counted g c known done k progress few =
     let C = g.C.Caller in
     let none : words_of c.args.bytes.now ≡ [] = not_busy (words_of c.args.bytes.now) (sym (c.if-not-has_words.ensures)) in
     subst (KnowsProgress c.args.has_total (C.standing c.pass_epoch.new.caller) (C.knows c.pass_epoch.new.caller)) (sym (append-nil done) ∙ ap (λ ws. done ++ ws) (sym none))
-      (known, c.pass_epoch.ensures.keeps known k, progress_same c.args.has_total (C.standing c.args.caller.now) (C.standing c.pass_epoch.new.caller) known done (ap (λ (o : Thread). o.stack) c.pass_epoch.ensures.own) progress)
+    (known, c.pass_epoch.ensures.keeps known k, progress_same c.args.has_total (C.standing c.args.caller.now) (C.standing c.pass_epoch.new.caller) known done (ap (λ (o : Thread). o.stack) c.pass_epoch.ensures.own) progress)
 
 pub open_total-requires-clause-progress : goal.open_total-requires-clause-progress
 open_total-requires-clause-progress g c = let h = c.requires.progress in (h.0, h.1, h.2, h.3, omega (arith, h.4))

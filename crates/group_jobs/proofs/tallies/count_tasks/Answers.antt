@@ -1,8 +1,7 @@
-use Rattle.std.proofs.Common.{◌≡◌, ℕ, ◌+◌, ◌*◌, ◌≤◌, ◌<◌, ◌||◌, List, [], ◌++◌, Bool, true, false, take, length, get_or, ap, sym, subst, refl, ◌∙◌, arith, length-append}
+use Rattle.std.proofs.Common.{ℕ, ◌+◌, ◌≤◌, ◌||◌, List, true, false, take, length, get_or, ap, sym, subst, refl, ◌∙◌, arith, length-append}
 use Rattle.yak_model.specs.Room.{table_words}
 use Rattle.yak_model.specs.Texts.{words_of}
 use Rattle.group_jobs.specs.declared.tasks.Task.{Task}
-use Rattle.group_jobs.specs.Goings.{Went}
 use Rattle.group_jobs.specs.Tallies.{KnowsProgress, is_busy, new_total, task_room, tasks_room, words_in}
 use Rattle.group_jobs.specs.Tasks.{task_bytes}
 use Rattle.group_jobs.proofs.Joined.{went_most, went_none, went_out, went_then}
@@ -61,17 +60,17 @@ tasks-preserved g c =
     let later = words_next bytes tasks i none below in
     let size = words_size bytes tasks i none below in
     let total : new_total false has + new_total has c.in_ok-has_total.has_total ≤ new_total false c.in_ok-has_total.has_total =
-      subst (λ b. new_total false has + new_total has b ≤ new_total false b) (sym done.has) (total_next has (is_busy words)) in
+    subst (λ b. new_total false has + new_total has b ≤ new_total false b) (sym done.has) (total_next has (is_busy words)) in
     record {
       went = went_then C.base C.tells C.tells_known C.standing c.args.caller.now c.tasks.caller c.count_task.new.caller (new_total false has + tasks_room bytes (take i tasks)) (new_total has c.in_ok-has_total.has_total + task_room words)
-        (new_total false c.in_ok-has_total.has_total + tasks_room bytes (take (i + 1) tasks)) (omega (arith, total, room_next bytes tasks i none below)) inv.went done.went;
+          (new_total false c.in_ok-has_total.has_total + tasks_room bytes (take (i + 1) tasks)) (omega (arith, total, room_next bytes tasks i none below)) inv.went done.went;
       depth = done.depth;
       made = let h = inv.made in omega (arith, h, done.made, ap length later, length-append (words_in bytes (take i tasks)) words);
       has = done.has ∙ ap (λ b. b || is_busy words) inv.has ∙ sym (busy_next bytes tasks i none below);
       counted = λ known k.
-        let r = inv.counted known k in
-        let h = c.requires.opened in
-        subst (KnowsProgress c.in_ok-has_total.has_total (C.standing c.count_task.new.caller) (C.knows c.count_task.new.caller)) (sym later)
+          let r = inv.counted known k in
+          let h = c.requires.opened in
+          subst (KnowsProgress c.in_ok-has_total.has_total (C.standing c.count_task.new.caller) (C.knows c.count_task.new.caller)) (sym later)
           (done.counted r.0 (words_in bytes (take i tasks)) r.1 r.2 (omega (arith, h.4, size)));
     }
 

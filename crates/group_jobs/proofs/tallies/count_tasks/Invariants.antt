@@ -1,9 +1,8 @@
-use Rattle.std.proofs.Common.{◌≡◌, ℕ, ◌+◌, ◌*◌, ◌≤◌, List, ◌++◌, length, false, true, cond, take, drop}
+use Rattle.std.proofs.Common.{◌≡◌, ◌+◌, ◌*◌, ◌≤◌, length, false, take}
 use Rattle.yak_model.specs.Private.{KnownObjects}
-use Rattle.yak_model.specs.Room.{table_words}
 use Rattle.group_jobs.specs.Goings.{Went}
 use Rattle.group_jobs.specs.Tallies.{KnowsProgress, is_busy, new_total, tasks_room, words_in}
-use Rattle.group_jobs.specs.declared.TheConstants.{MOST_WORDS, OBJECTS_FOR_WORD}
+use Rattle.group_jobs.specs.declared.TheConstants.{OBJECTS_FOR_WORD}
 use Rattle.group_jobs.proofs.tallies.count_tasks.Given as goal
 
 abbrev pub invariant-tasks : goal.invariant-tasks

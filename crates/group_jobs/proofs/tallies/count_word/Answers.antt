@@ -1,4 +1,4 @@
-use Rattle.std.proofs.Common.{◌≡◌, ℕ, ◌+◌, ◌<◌, ◌≤◌, List, length, get_or, refl, ap, sym, subst, arith, ◌∙◌}
+use Rattle.std.proofs.Common.{ℕ, ◌+◌, ◌≤◌, List, length, get_or, ap, arith}
 use Rattle.yak_model.specs.Private.{KnownObjects}
 use Rattle.yak_model.specs.Standing.{Standing}
 use Rattle.yak_model.specs.Tables.{bucket_of}
@@ -30,11 +30,11 @@ pub returns-clause-counted : goal.returns-clause-counted
 unfolding may_count
 returns-clause-counted g c = ok_map c.add.result _ _
     (λ counted known done doing k t few.
-      let C = g.C.Caller in
-      let s = C.standing c.args.caller.now in
-      let word = c.args.word.now in
-      let may : MayCount s known PART_SLOT word 1 t.name (word_counts doing) = may_count s known done doing word t few in
-      let r = counted known t.name (word_counts doing) may k in
-      tallies_more s (C.standing c.add.new.caller) known r.1.0 (C.knows c.add.new.caller) done doing word (bucket_of word) (bucket_small word)
-        (λ i. ap (λ (st : List Datum). get_or st i datum.Null) c.add.ensures.stack) c.requires.word t r.1.1 r.1.2 r.1.3 r.1.4)
+    let C = g.C.Caller in
+    let s = C.standing c.args.caller.now in
+    let word = c.args.word.now in
+    let may : MayCount s known PART_SLOT word 1 t.name (word_counts doing) = may_count s known done doing word t few in
+    let r = counted known t.name (word_counts doing) may k in
+    tallies_more s (C.standing c.add.new.caller) known r.1.0 (C.knows c.add.new.caller) done doing word (bucket_of word) (bucket_small word)
+    (λ i. ap (λ (st : List Datum). get_or st i datum.Null) c.add.ensures.stack) c.requires.word t r.1.1 r.1.2 r.1.3 r.1.4)
     c.add.ensures.counted

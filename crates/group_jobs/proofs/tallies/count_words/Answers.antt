@@ -1,4 +1,4 @@
-use Rattle.std.proofs.Common.{◌≡◌, ℕ, ◌+◌, ◌*◌, ◌≤◌, List, [], ◌∷◌, ◌++◌, length, refl, ◌∙◌, ap, sym, subst, arith, length-append}
+use Rattle.std.proofs.Common.{◌≡◌, ◌+◌, ◌*◌, ◌≤◌, [], ◌∷◌, ◌++◌, length, refl, ◌∙◌, ap, sym, subst, arith, length-append}
 use Rattle.std.proofs.lemmas.List.{append_assoc, append-nil}
 use Rattle.yak_model.specs.Room.{entry_words, key_words}
 use Rattle.yak_model.specs.Texts.{words_of}
@@ -45,9 +45,9 @@ words-preserved g c =
       went = went_then C.base C.tells C.tells_known C.standing c.args.caller.now c.words.caller c.count_word.new.caller (part_room inv.passed) (key_words word + entry_words) (part_room (inv.passed ++ word ∷ [])) (omega (arith, sum)) inv.went c.in_ok-count_word.ensures.went;
       place = place_then (C.standing c.args.caller.now).own (C.standing c.words.caller).own (C.standing c.count_word.new.caller).own (2 * length inv.passed) 2 (2 * length (inv.passed ++ word ∷ [])) (omega (arith, more)) inv.place c.in_ok-count_word.ensures.place;
       counted = λ known done doing k t few.
-        let r = inv.counted known done doing k t few in
-        let size = next_size all_of inv.passed c.next.new.self word parts in
-        subst (KnowsTallies (C.standing c.count_word.new.caller) (C.knows c.count_word.new.caller) done) (append_assoc doing inv.passed (word ∷ []))
+          let r = inv.counted known done doing k t few in
+          let size = next_size all_of inv.passed c.next.new.self word parts in
+          subst (KnowsTallies (C.standing c.count_word.new.caller) (C.knows c.count_word.new.caller) done) (append_assoc doing inv.passed (word ∷ []))
           (c.in_ok-count_word.ensures.counted r.0 done (doing ++ inv.passed) r.1 r.2 (omega (arith, size, few, length-append doing inv.passed)));
     }
 
