@@ -1,5 +1,5 @@
 //! A count by one worker.
-ghost use Rattle.std.specs.Prelude.{◌≡◌, ◌≤◌, ◌+◌, ℕ, List, Some, false, length, IfOk, IfErr};
+ghost use Rattle.std.specs.Prelude.{◌≡◌, ◌≤◌, ◌+◌, ℕ, List, Bool, Some, false, length, IfOk, IfErr};
 ghost use Rattle.std.specs.FinMap as finite;
 ghost use Rattle.object_layout.specs.declared.replies.Census.{Census};
 ghost use Rattle.yak_model.specs.Private.{KnownObjects};
@@ -92,14 +92,13 @@ fn list_counts(
 }
 
 /// The heap of a caller that has counted.
-fn close_heap(caller: CoreCaller<Image>, has_total: bool) -> Core<Image>
+fn close_heap(caller: CoreCaller<Image>) -> Core<Image>
     requires thread { caller.thread ≡ WORKER }
     requires one { caller.core.map.threads ≡ 1 }
     requires areas { IsAreas caller.core.map }
     ensures map { result.map ≡ caller.core.map }
-    ensures holds { (known : KnownObjects) (done : List (List ℕ)) → ⟦<CoreCaller<Image> as Caller>⟧.knows caller known → IsProgress has_total (⟦<CoreCaller<Image> as Caller>⟧.standing caller) known done → (⟦<CoreCaller<Image> as Caller>⟧.standing caller).own.depth ≡ 0 → HoldsCounts result.map (contents result.map (⟦<Image as Words>⟧.words result.words)) done }
+    ensures holds { (has : Bool) (known : KnownObjects) (done : List (List ℕ)) → ⟦<CoreCaller<Image> as Caller>⟧.knows caller known → IsProgress has (⟦<CoreCaller<Image> as Caller>⟧.standing caller) known done → (⟦<CoreCaller<Image> as Caller>⟧.standing caller).own.depth ≡ 0 → HoldsCounts result.map (contents result.map (⟦<Image as Words>⟧.words result.words)) done }
 {
-    let _has = has_total;
     caller.into_core()
 }
 
@@ -135,6 +134,6 @@ pub fn count_one(
     let Ok(list) = list_counts(alloc, &mut caller, has_total) else {
         return Err(CountError::Memory);
     };
-    let core = close_heap(caller, has_total);
+    let core = close_heap(caller);
     Ok(CountedAlone { list, core })
 }

@@ -57,6 +57,6 @@ returns-clause-heap c =
     let r = c.in-Ok-count_tasks.ensures.counted empty c.in-Ok-open_heap.ensures.knows in
     let l = listed c.args.bytes.now c.deref.result.now c.in-Ok.tasks.items c.in-Ok-count_tasks.has_total _ r.0 c.deref.ensures.value c.in-Ok.ensures.words c.requires.short c.requires.words r.2 in
     let own = c.in-Ok-list_counts.ensures.own in
-    c.close_heap-core.ensures.holds r.0 (words_of c.args.bytes.now) (c.in-Ok-list_counts.ensures.kept r.0 (words_of c.args.bytes.now) r.1 l)
+    c.close_heap-core.ensures.holds c.in-Ok-count_tasks.has_total r.0 (words_of c.args.bytes.now) (c.in-Ok-list_counts.ensures.kept r.0 (words_of c.args.bytes.now) r.1 l)
     (progress_same c.in-Ok-count_tasks.has_total _ _ r.0 (words_of c.args.bytes.now) (ap (λ (o : Thread). o.stack) own) l.progress)
     (ap (λ (o : Thread). o.depth) own ∙ c.in-Ok-count_tasks.ensures.depth)
