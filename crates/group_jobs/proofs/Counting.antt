@@ -30,7 +30,7 @@ find-map g (first ∷ words) word =
     ] refl
 
 -- what a list tells of a word: the number of its places, if it has one
-abbrev told_of : List (List ℕ) → List ℕ → Option ℕ
+abbrev pub told_of : List (List ℕ) → List ℕ → Option ℕ
 told_of words word = cond (has_word words word) (Some (places_of words word)) None
 
 pub get-word_counts : (words : List (List ℕ)) (word : List ℕ) → finite.get (word_counts words) word ≡ told_of words word
@@ -50,7 +50,7 @@ turned_test : (word other : List ℕ) → eq_by_cmp word_cmp word other ≡ eq_b
 turned_test = (eq_by_cmp_equiv nat_list_cmp_total).symm
 
 -- whether a word is the only one of a list
-one_place : (word other : List ℕ) → places_of (word ∷ []) other ≡ cond (eq_by_cmp word_cmp other word) 1 0
+pub one_place : (word other : List ℕ) → places_of (word ∷ []) other ≡ cond (eq_by_cmp word_cmp other word) 1 0
 one_place word other = zero-add (cond (eq_by_cmp word_cmp word other) 1 0) ∙ ap (λ (b : Bool). cond {A = ℕ} b 1 0) (turned_test word other)
 
 -- A word that doesn't stand in a list has no place there.

@@ -4,5 +4,16 @@ pub mod Tasking
 pub mod LongLines
 pub mod Sorting
 pub mod Counting
+pub mod Joined
+pub mod Tallying
+pub mod Opened
+pub mod Rooms
+pub mod Progress
+pub mod Passing
+pub mod Merging
+pub mod Listed
 pub mod SameTasks
 pub mod Walked
+pub mod Holding
+pub mod Nothing
+pub mod Starting

@@ -2,5 +2,9 @@ pub mod Tasks
 pub mod Pieces
 pub mod LongWords
 pub mod Counts
+pub mod Goings
+pub mod Tallies
+pub mod Listing
 pub mod Printing
 pub mod Room
+pub mod Alone

@@ -1,15 +1,20 @@
 //! The words of a text: the tasks that it is cut into, the words of each, and the list of their counts.
 #![tactic(auto)]
 
+mod count;
 mod counted;
+mod epochs;
 mod laws;
+mod listing;
 mod long_words;
 mod printing;
+mod tallies;
 mod tasks;
 #[cfg(test)]
 mod tests;
 mod words;
 
+pub use count::{CountError, CountedAlone, count_one};
 pub use counted::{Counted, sort_counts};
 pub use laws::law_one_cut;
 pub use long_words::long_word;
@@ -19,3 +24,13 @@ pub use words::Words;
 
 /// The greatest number of bytes of a text that is counted.
 pub const INPUT_LIMIT: usize = 16777216;
+/// The most words of a text: no more than the places before, between and after its bytes.
+pub const MOST_WORDS: usize = 16777217;
+/// The slot of a caller's stack with the table of all that it counted. Below it is the root.
+pub const TOTAL_SLOT: u32 = 1;
+/// The slot with the table of the task at hand.
+pub const PART_SLOT: u32 = 2;
+/// The most objects that are made for a word: a key, two entries, and the tables of its task and its worker.
+pub const OBJECTS_FOR_WORD: usize = 5;
+/// The thread that counts alone.
+pub const WORKER: u8 = 1;

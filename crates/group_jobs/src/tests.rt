@@ -1,4 +1,8 @@
-use crate::{Counted, Words, cut_tasks, long_word, print_counts, sort_counts};
+use crate::{
+    CountError, Counted, INPUT_LIMIT, Words, count_one, cut_tasks, long_word, print_counts,
+    sort_counts,
+};
+use heap_words::MAX_PAGES;
 use object_layout::WORD_LIMIT;
 use std::test::Fail;
 
@@ -62,6 +66,45 @@ fn prints_the_words_of_a_text_in_order(rt: HostRuntime) -> Result<(), Fail> {
             assert_eq!(rt; text.as_slice(), b"40 at\n1 cat\n2 he\n3 the\n".as_slice());
         }
         Err(error) => panic!(rt; "no text: {error}"),
+    }
+    Ok(())
+}
+
+#[test]
+fn counts_texts_alone(rt: HostRuntime) -> Result<(), Fail> {
+    let alloc = rt.alloc();
+    for (text, pages, want) in [
+        ("b a b\n", 16, "1 a\n2 b\n"),
+        ("", 1, ""),
+        ("\n", 1, ""),
+        (
+            "the cat saw the dog\nthe dog ran\n",
+            16,
+            "1 cat\n2 dog\n1 ran\n1 saw\n3 the\n",
+        ),
+        ("b a b", 1, "out of heap"),
+    ] {
+        let bytes = text.as_bytes();
+        if bytes.len() > INPUT_LIMIT
+            || pages == 0
+            || pages > MAX_PAGES
+            || long_word(bytes).is_some()
+        {
+            panic!(rt; "no such count");
+        }
+        match count_one(alloc, pages, 1, bytes) {
+            Ok(counted) => match print_counts(alloc, &counted.list) {
+                Ok(told) => {
+                    assert_eq!(rt; told.as_slice(), want.as_bytes(), "{text}");
+                }
+                Err(error) => panic!(rt; "no text: {error}"),
+            },
+            Err(CountError::OutOfHeap(census, ())) => {
+                assert_eq!(rt; census.free, 0);
+                assert_eq!(rt; want, "out of heap", "{text}");
+            }
+            Err(CountError::Memory) => panic!(rt; "no memory"),
+        }
     }
     Ok(())
 }

@@ -1,0 +1,36 @@
+use Rattle.std.proofs.Common.{◌+◌, ap, arith}
+use Rattle.yak_model.specs.Graph.{Thread}
+use Rattle.yak_model.specs.Room.{table_words}
+use Rattle.yak_model.specs.Texts.{words_of}
+use Rattle.group_jobs.specs.Tallies.{words_room}
+use Rattle.group_jobs.proofs.Joined.{went_out}
+use Rattle.group_jobs.proofs.Progress.{tally_same}
+use Rattle.group_jobs.proofs.Rooms.{err_of}
+use Rattle.group_jobs.proofs.tallies.count_epoch.Goals as goal
+
+pub count_part-requires-clause-table : goal.count_part-requires-clause-table
+count_part-requires-clause-table g c =
+    let C = g.C.Caller in
+    let h = c.requires.table in
+    (h.0, h.1, c.begin.ensures.keeps h.0 h.2, tally_same (C.standing c.args.caller.now) (C.standing c.begin.new.caller) h.0 h.1 (ap (λ (o : Thread). o.stack) c.begin.ensures.own) h.3, h.4)
+
+pub returns-in_err-count_part-clause-out : goal.returns-in_err-count_part-clause-out
+returns-in_err-count_part-clause-out g c =
+    let C = g.C.Caller in
+    let words = words_of c.args.bytes.now in
+    let deep = ap (λ (o : Thread). o.depth) c.begin.ensures.own in
+    err_of c.from_residual.result _
+    (went_out C.base C.tells C.tells_known C.standing c.args.caller.now c.begin.new.caller c.count_part.new.caller (C.standing c.begin.new.caller).own.depth 1 0 (table_words + words_room words) (table_words + words_room words) (omega arith) (omega (arith, deep, c.requires.outside)) c.begin.ensures.went c.in_err-count_part.ensures.out)
+
+pub end-requires-clause-some : goal.end-requires-clause-some
+end-requires-clause-some g c =
+    let C = g.C.Caller in
+    let h = c.requires.table in
+    let r = c.in_ok-count_part.ensures.counted h.0 h.1 (c.begin.ensures.keeps h.0 h.2) (tally_same (C.standing c.args.caller.now) (C.standing c.begin.new.caller) h.0 h.1 (ap (λ (o : Thread). o.stack) c.begin.ensures.own) h.3) h.4 in
+    (r.0, r.1)
+
+pub returns-clause-counted : goal.returns-clause-counted
+returns-clause-counted g c known done k t few =
+    let C = g.C.Caller in
+    let r = c.in_ok-count_part.ensures.counted known done (c.begin.ensures.keeps known k) (tally_same (C.standing c.args.caller.now) (C.standing c.begin.new.caller) known done (ap (λ (o : Thread). o.stack) c.begin.ensures.own) t) few in
+    (r.0, c.end.ensures.keeps r.0 r.1, tally_same (C.standing c.count_part.new.caller) (C.standing c.end.new.caller) r.0 _ (ap (λ (o : Thread). o.stack) c.end.ensures.own) r.2)

@@ -1,0 +1,19 @@
+use Rattle.std.proofs.Common.{◌≡◌, ℕ, ◌+◌, ◌*◌, ◌≤◌, List, ◌++◌, length}
+use Rattle.yak_model.specs.Private.{KnownObjects}
+use Rattle.yak_model.specs.Texts.{words_of}
+use Rattle.group_jobs.specs.Goings.{Went}
+use Rattle.group_jobs.specs.Tallies.{KeepsPlace, KnowsTallies, Tallies, part_room}
+use Rattle.group_jobs.specs.declared.TheConstants.{MOST_WORDS}
+use Rattle.group_jobs.proofs.tallies.count_words.Given as goal
+
+abbrev pub invariant-words : goal.invariant-words
+invariant-words g l = let C = g.C.Caller in record {
+  passed : List (List ℕ);
+  parts : words_of l.fn.bytes ≡ passed ++ l.words;
+  went : Went C.base C.tells C.tells_known C.standing l.fn.caller l.caller (part_room passed);
+  place : KeepsPlace (C.standing l.fn.caller).own (C.standing l.caller).own (2 * length passed);
+  counted : (known : KnownObjects) (done doing : List (List ℕ)) → C.knows l.fn.caller known → Tallies (C.standing l.fn.caller) known done doing → length done + (length doing + length (words_of l.fn.bytes)) ≤ MOST_WORDS → KnowsTallies (C.standing l.caller) (C.knows l.caller) done (doing ++ passed);
+}
+
+abbrev pub decreases-words : goal.decreases-words
+decreases-words g l = length l.words

@@ -1,0 +1,18 @@
+use Rattle.std.proofs.Common.{false, subst}
+use Rattle.heap_tables.proofs.OnResult.{ok_both, ok_map}
+use Rattle.group_jobs.specs.Tallies.{IsProgress}
+use Rattle.group_jobs.proofs.Opened.{opened_total}
+use Rattle.group_jobs.proofs.tallies.open_total.Goals as goal
+
+pub returns-then-has_total-clause-opened : goal.returns-then-has_total-clause-opened
+returns-then-has_total-clause-opened g c known done k progress =
+    (known, k, (subst (λ b. IsProgress b (g.C.Caller.standing c.args.caller.now) known done) c.if-has_total.true progress).1)
+
+pub returns-clause-opened : goal.returns-clause-opened
+returns-clause-opened g c = ok_map c.make.result _ _
+    (λ both known done k progress.
+    let C = g.C.Caller in
+    let m = both.1 known k in
+    let before : IsProgress false (C.standing c.args.caller.now) known done = subst (λ b. IsProgress b (C.standing c.args.caller.now) known done) c.if-has_total.false progress in
+    opened_total (C.standing c.args.caller.now) (C.standing c.make.new.caller) known (C.knows c.make.new.caller) done both.0 before.0 before.1 m.0 m.1.0)
+    (ok_both c.make.result _ _ c.make.ensures.pushed c.make.ensures.made)

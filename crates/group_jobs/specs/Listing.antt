@@ -1,0 +1,15 @@
+-- A table of a count whose list is read.
+use Rattle.std.specs.Prelude.{ℕ, ◌≤◌, List, length}
+use Rattle.yak_model.specs.Private.{KnownObjects}
+use Rattle.yak_model.specs.Standing.{Standing}
+use Rattle.group_jobs.specs.Tallies.{AreShort, Tally}
+use Rattle.group_jobs.specs.declared.TheConstants.{MOST_WORDS}
+
+-- The slot of the total refers to a table of a known map, which counts these words. They are few enough and none is too long.
+pub record IsShortTally (s : Standing) (known : KnownObjects) (done : List (List ℕ)) : Type 0 where
+  pub tally : Tally s known done
+  pub short : AreShort done
+  pub few : length done ≤ MOST_WORDS
+
+abbrev pub HasShortTally : Standing → (KnownObjects → Type 0) → Type 0
+HasShortTally s knows = (known : KnownObjects) × (done : List (List ℕ)) × knows known × IsShortTally s known done

@@ -1,0 +1,223 @@
+//! Counting the words of texts in tables of a heap, by whatever caller.
+ghost use Rattle.std.specs.Prelude.{◌≡◌, ℕ, ◌+◌, ◌*◌, ◌-◌, ◌≤◌, ◌<◌, ◌∷◌, ◌++◌, [], List, true, false, cond, ◌||◌, length, OnErr, OnOk, IfOk};
+ghost use Rattle.std.specs.List.{All};
+ghost use Rattle.object_layout.specs.declared.TheConstants.{PAGE_WORDS, WORD_LIMIT};
+ghost use Rattle.yak_model.specs.Private.{KnownObjects};
+ghost use Rattle.yak_model.specs.Room.{entry_words, key_words, table_words};
+ghost use Rattle.yak_model.specs.Standing.{Standing};
+ghost use Rattle.yak_model.specs.Texts.{words_of};
+ghost use Rattle.heap_tables.specs.declared.TheConstants.{MOST_MADE};
+ghost use Rattle.heap_tables.specs.Runs.{KeepsKnown, KnowsSome, stack_in};
+ghost use Rattle.group_jobs.specs.Goings.{Went, WentOut};
+ghost use Rattle.group_jobs.specs.Tallies.{AreShort, HasProgress, HasTallies, HasTally, IsProgress, KeepsPlace, KnowsProgress, KnowsTallies, KnowsTally, Tallies, Tally, AreWithin, is_busy, new_total, part_room, task_room, tasks_room, words_in, words_room};
+ghost use Rattle.group_jobs.specs.Tasks.{task_bytes};
+ghost use Rattle.group_jobs.specs.declared.TheConstants.{MOST_WORDS, OBJECTS_FOR_WORD, PART_SLOT, TOTAL_SLOT};
+
+use crate::epochs::{begin, drop_top, end};
+use crate::tasks::Task;
+use crate::words::Words;
+use crate::{PART_SLOT, TOTAL_SLOT};
+use heap_tables::{add, make, merge};
+use object_layout::OutOfHeap;
+use yak_model::Caller;
+
+/// Counts a word in the table of a part.
+fn count_word<C: Caller>(caller: &mut C, word: &[u8]) -> Result<(), OutOfHeap>
+    requires tables { HasTallies (C.standing caller.old) (C.knows caller.old) 1 }
+    requires word { length word.now ≤ WORD_LIMIT }
+    requires page { PAGE_WORDS ≤ (C.standing caller.old).limits.page }
+    requires names { (C.standing caller.old).own.made ≤ MOST_MADE }
+    requires slots { length (stack_in (C.standing caller.old)) ≡ PART_SLOT + 1 }
+    ensures went { OnOk result (Went C.base C.tells C.tells_known C.standing caller.old caller.new (key_words word.now + entry_words)) }
+    ensures place { OnOk result (KeepsPlace (C.standing caller.old).own (C.standing caller.new).own 2) }
+    ensures counted { OnOk result ((known : KnownObjects) (done doing : List (List ℕ)) → C.knows caller.old known → Tallies (C.standing caller.old) known done doing → length done + (length doing + 1) ≤ MOST_WORDS → KnowsTallies (C.standing caller.new) (C.knows caller.new) done (doing ++ word.now ∷ [])) }
+    ensures out { OnErr result (WentOut C.base C.tells C.tells_known C.standing caller.old caller.new (C.standing caller.old).own.depth (key_words word.now + entry_words)) }
+{
+    add(caller, PART_SLOT, word, 1)
+}
+
+/// Counts the words of a text in the table of a part.
+fn count_words<C: Caller>(caller: &mut C, bytes: &[u8]) -> Result<(), OutOfHeap>
+    requires tables { HasTallies (C.standing caller.old) (C.knows caller.old) (length (words_of bytes.now)) }
+    requires short { AreShort (words_of bytes.now) }
+    requires page { PAGE_WORDS ≤ (C.standing caller.old).limits.page }
+    requires names { (C.standing caller.old).own.made + 2 * length (words_of bytes.now) ≤ MOST_MADE }
+    requires slots { length (stack_in (C.standing caller.old)) ≡ PART_SLOT + 1 }
+    ensures went { OnOk result (Went C.base C.tells C.tells_known C.standing caller.old caller.new (part_room (words_of bytes.now))) }
+    ensures place { OnOk result (KeepsPlace (C.standing caller.old).own (C.standing caller.new).own (2 * length (words_of bytes.now))) }
+    ensures counted { OnOk result ((known : KnownObjects) (done doing : List (List ℕ)) → C.knows caller.old known → Tallies (C.standing caller.old) known done doing → length done + (length doing + length (words_of bytes.now)) ≤ MOST_WORDS → KnowsTallies (C.standing caller.new) (C.knows caller.new) done (doing ++ words_of bytes.now)) }
+    ensures out { OnErr result (WentOut C.base C.tells C.tells_known C.standing caller.old caller.new (C.standing caller.old).own.depth (part_room (words_of bytes.now))) }
+{
+    let mut words = Words::of(bytes);
+    'words: while let Some(word) = words.next() {
+        count_word(caller, word)?;
+    }
+    Ok(())
+}
+
+/// Pushes a table for a part.
+fn open_part<C: Caller>(caller: &mut C) -> Result<(), OutOfHeap>
+    requires table { HasTally (C.standing caller.old) (C.knows caller.old) 0 }
+    requires page { PAGE_WORDS ≤ (C.standing caller.old).limits.page }
+    requires names { (C.standing caller.old).own.made ≤ MOST_MADE }
+    requires slots { length (stack_in (C.standing caller.old)) ≡ PART_SLOT }
+    ensures went { OnOk result (Went C.base C.tells C.tells_known C.standing caller.old caller.new table_words) }
+    ensures slots { OnOk result (length (stack_in (C.standing caller.new)) ≡ PART_SLOT + 1) }
+    ensures depth { OnOk result ((C.standing caller.new).own.depth ≡ (C.standing caller.old).own.depth) }
+    ensures made { OnOk result ((C.standing caller.new).own.made ≡ (C.standing caller.old).own.made + 1) }
+    ensures opened { OnOk result ((known : KnownObjects) (done : List (List ℕ)) → C.knows caller.old known → Tally (C.standing caller.old) known done → KnowsTallies (C.standing caller.new) (C.knows caller.new) done []) }
+    ensures out { OnErr result (WentOut C.base C.tells C.tells_known C.standing caller.old caller.new (C.standing caller.old).own.depth table_words) }
+{
+    make(caller)
+}
+
+/// Adds the counts of a part to those of the total, and drops the part's table.
+fn close_part<C: Caller>(caller: &mut C) -> Result<(), OutOfHeap>
+    requires tables { HasTallies (C.standing caller.old) (C.knows caller.old) 0 }
+    requires page { PAGE_WORDS ≤ (C.standing caller.old).limits.page }
+    requires names { (C.standing caller.old).own.made ≤ MOST_MADE }
+    requires slots { length (stack_in (C.standing caller.old)) ≡ PART_SLOT + 1 }
+    ensures slots { OnOk result (length (stack_in (C.standing caller.new)) ≡ PART_SLOT) }
+    ensures depth { OnOk result ((C.standing caller.new).own.depth ≡ (C.standing caller.old).own.depth) }
+    ensures closed { OnOk result ((known : KnownObjects) (done doing : List (List ℕ)) → C.knows caller.old known → Tallies (C.standing caller.old) known done doing → length done + length doing ≤ MOST_WORDS → KnowsTally (C.standing caller.new) (C.knows caller.new) (done ++ doing) × Went C.base C.tells C.tells_known C.standing caller.old caller.new (entry_words * length doing) × ((C.standing caller.new).own.made ≤ (C.standing caller.old).own.made + length doing)) }
+    ensures out { OnErr result ((known : KnownObjects) (done doing : List (List ℕ)) → C.knows caller.old known → Tallies (C.standing caller.old) known done doing → length done + length doing ≤ MOST_WORDS → WentOut C.base C.tells C.tells_known C.standing caller.old caller.new (C.standing caller.old).own.depth (entry_words * length doing)) }
+{
+    merge(caller, PART_SLOT, TOTAL_SLOT)?;
+    drop_top(caller);
+    Ok(())
+}
+
+/// Counts the words of a task in a table of its own, and adds the counts to those of the total.
+fn count_part<C: Caller>(caller: &mut C, bytes: &[u8]) -> Result<(), OutOfHeap>
+    requires table { HasTally (C.standing caller.old) (C.knows caller.old) (length (words_of bytes.now)) }
+    requires short { AreShort (words_of bytes.now) }
+    requires page { PAGE_WORDS ≤ (C.standing caller.old).limits.page }
+    requires names { (C.standing caller.old).own.made + (3 * length (words_of bytes.now) + 1) ≤ MOST_MADE }
+    requires slots { length (stack_in (C.standing caller.old)) ≡ PART_SLOT }
+    ensures went { OnOk result (Went C.base C.tells C.tells_known C.standing caller.old caller.new (table_words + words_room (words_of bytes.now))) }
+    ensures slots { OnOk result (length (stack_in (C.standing caller.new)) ≡ PART_SLOT) }
+    ensures depth { OnOk result ((C.standing caller.new).own.depth ≡ (C.standing caller.old).own.depth) }
+    ensures made { OnOk result ((C.standing caller.new).own.made ≤ (C.standing caller.old).own.made + (3 * length (words_of bytes.now) + 1)) }
+    ensures counted { OnOk result ((known : KnownObjects) (done : List (List ℕ)) → C.knows caller.old known → Tally (C.standing caller.old) known done → length done + length (words_of bytes.now) ≤ MOST_WORDS → KnowsTally (C.standing caller.new) (C.knows caller.new) (done ++ words_of bytes.now)) }
+    ensures out { OnErr result (WentOut C.base C.tells C.tells_known C.standing caller.old caller.new (C.standing caller.old).own.depth (table_words + words_room (words_of bytes.now))) }
+{
+    open_part(caller)?;
+    count_words(caller, bytes)?;
+    close_part(caller)
+}
+
+/// Counts the words of a task, in an epoch of its own.
+fn count_epoch<C: Caller>(caller: &mut C, bytes: &[u8]) -> Result<(), OutOfHeap>
+    requires table { HasTally (C.standing caller.old) (C.knows caller.old) (length (words_of bytes.now)) }
+    requires short { AreShort (words_of bytes.now) }
+    requires page { PAGE_WORDS ≤ (C.standing caller.old).limits.page }
+    requires deep { 0 < (C.standing caller.old).limits.depth }
+    requires outside { (C.standing caller.old).own.depth ≡ 0 }
+    requires names { (C.standing caller.old).own.made + (3 * length (words_of bytes.now) + 1) ≤ MOST_MADE }
+    requires slots { length (stack_in (C.standing caller.old)) ≡ PART_SLOT }
+    ensures went { OnOk result (Went C.base C.tells C.tells_known C.standing caller.old caller.new (table_words + words_room (words_of bytes.now))) }
+    ensures slots { OnOk result (length (stack_in (C.standing caller.new)) ≡ PART_SLOT) }
+    ensures depth { OnOk result ((C.standing caller.new).own.depth ≡ 0) }
+    ensures made { OnOk result ((C.standing caller.new).own.made ≤ (C.standing caller.old).own.made + (3 * length (words_of bytes.now) + 1)) }
+    ensures counted { OnOk result ((known : KnownObjects) (done : List (List ℕ)) → C.knows caller.old known → Tally (C.standing caller.old) known done → length done + length (words_of bytes.now) ≤ MOST_WORDS → KnowsTally (C.standing caller.new) (C.knows caller.new) (done ++ words_of bytes.now)) }
+    ensures out { OnErr result (WentOut C.base C.tells C.tells_known C.standing caller.old caller.new 1 (table_words + words_room (words_of bytes.now))) }
+{
+    begin(caller);
+    count_part(caller, bytes)?;
+    end(caller);
+    Ok(())
+}
+
+/// Begins an epoch and ends it, for a task without words.
+fn pass_epoch<C: Caller>(caller: &mut C)
+    requires some { KnowsSome (C.knows caller.old) }
+    requires deep { 0 < (C.standing caller.old).limits.depth }
+    requires outside { (C.standing caller.old).own.depth ≡ 0 }
+    ensures went { Went C.base C.tells C.tells_known C.standing caller.old caller.new 0 }
+    ensures keeps { KeepsKnown (C.knows caller.old) (C.knows caller.new) }
+    ensures own { (C.standing caller.new).own ≡ (C.standing caller.old).own }
+{
+    begin(caller);
+    end(caller);
+}
+
+/// Pushes the table of the total, where it isn't there yet.
+fn open_total<C: Caller>(caller: &mut C, has_total: bool) -> Result<(), OutOfHeap>
+    requires progress { HasProgress has_total (C.standing caller.old) (C.knows caller.old) 0 }
+    requires page { PAGE_WORDS ≤ (C.standing caller.old).limits.page }
+    requires names { (C.standing caller.old).own.made ≤ MOST_MADE }
+    ensures went { OnOk result (Went C.base C.tells C.tells_known C.standing caller.old caller.new (cond has_total 0 table_words)) }
+    ensures slots { OnOk result (length (stack_in (C.standing caller.new)) ≡ PART_SLOT) }
+    ensures depth { OnOk result ((C.standing caller.new).own.depth ≡ (C.standing caller.old).own.depth) }
+    ensures made { OnOk result ((C.standing caller.new).own.made ≤ (C.standing caller.old).own.made + 1) }
+    ensures opened { OnOk result ((known : KnownObjects) (done : List (List ℕ)) → C.knows caller.old known → IsProgress has_total (C.standing caller.old) known done → KnowsTally (C.standing caller.new) (C.knows caller.new) done) }
+    ensures out { OnErr result (WentOut C.base C.tells C.tells_known C.standing caller.old caller.new (C.standing caller.old).own.depth (cond has_total 0 table_words)) }
+{
+    if has_total {
+        return Ok(());
+    }
+    make(caller)
+}
+
+/// Whether a text has words.
+fn has_words(bytes: &[u8]) -> bool
+    ensures { result ≡ is_busy (words_of bytes.now) }
+{
+    let mut words = Words::of(bytes);
+    words.next().is_some()
+}
+
+/// Counts the words of a task, and tells whether there is a table of the total then.
+fn count_task<C: Caller>(caller: &mut C, has_total: bool, bytes: &[u8]) -> Result<bool, OutOfHeap>
+    requires progress { HasProgress has_total (C.standing caller.old) (C.knows caller.old) (length (words_of bytes.now)) }
+    requires short { AreShort (words_of bytes.now) }
+    requires page { PAGE_WORDS ≤ (C.standing caller.old).limits.page }
+    requires deep { 0 < (C.standing caller.old).limits.depth }
+    requires outside { (C.standing caller.old).own.depth ≡ 0 }
+    requires names { (C.standing caller.old).own.made + OBJECTS_FOR_WORD * length (words_of bytes.now) ≤ MOST_MADE }
+    ensures went { IfOk result (λ has. Went C.base C.tells C.tells_known C.standing caller.old caller.new (new_total has_total has + task_room (words_of bytes.now))) }
+    ensures depth { OnOk result ((C.standing caller.new).own.depth ≡ 0) }
+    ensures made { OnOk result ((C.standing caller.new).own.made ≤ (C.standing caller.old).own.made + OBJECTS_FOR_WORD * length (words_of bytes.now)) }
+    ensures has { IfOk result (λ has. has ≡ (has_total || is_busy (words_of bytes.now))) }
+    ensures counted { IfOk result (λ has. (known : KnownObjects) (done : List (List ℕ)) → C.knows caller.old known → IsProgress has_total (C.standing caller.old) known done → length done + length (words_of bytes.now) ≤ MOST_WORDS → KnowsProgress has (C.standing caller.new) (C.knows caller.new) (done ++ words_of bytes.now)) }
+    ensures out { OnErr result (WentOut C.base C.tells C.tells_known C.standing caller.old caller.new 1 (new_total has_total true + task_room (words_of bytes.now))) }
+{
+    if !has_words(bytes) {
+        pass_epoch(caller);
+        return Ok(has_total);
+    }
+    open_total(caller, has_total)?;
+    count_epoch(caller, bytes)?;
+    Ok(true)
+}
+
+/// Counts the words of the tasks of a text, and tells whether there is a table of the total then. There is one exactly where there
+/// are words.
+pub(crate) fn count_tasks<C: Caller>(
+    caller: &mut C,
+    bytes: &[u8],
+    tasks: &[Task],
+) -> Result<bool, OutOfHeap>
+    requires opened { HasProgress false (C.standing caller.old) (C.knows caller.old) (length (words_in bytes.now tasks.now)) }
+    requires within { AreWithin bytes.now tasks.now }
+    requires short { AreShort (words_in bytes.now tasks.now) }
+    requires page { PAGE_WORDS ≤ (C.standing caller.old).limits.page }
+    requires deep { 0 < (C.standing caller.old).limits.depth }
+    requires outside { (C.standing caller.old).own.depth ≡ 0 }
+    requires names { (C.standing caller.old).own.made + OBJECTS_FOR_WORD * length (words_in bytes.now tasks.now) ≤ MOST_MADE }
+    ensures went { OnOk result (Went C.base C.tells C.tells_known C.standing caller.old caller.new (table_words + tasks_room bytes.now tasks.now)) }
+    ensures depth { OnOk result ((C.standing caller.new).own.depth ≡ 0) }
+    ensures has { IfOk result (λ has. has ≡ is_busy (words_in bytes.now tasks.now)) }
+    ensures counted { IfOk result (λ has. (known : KnownObjects) → C.knows caller.old known → KnowsProgress has (C.standing caller.new) (C.knows caller.new) (words_in bytes.now tasks.now)) }
+    ensures out { OnErr result (WentOut C.base C.tells C.tells_known C.standing caller.old caller.new 1 (table_words + tasks_room bytes.now tasks.now)) }
+{
+    let mut has_total = false;
+    'tasks: for task in tasks {
+        has_total = count_task(
+            caller,
+            has_total,
+            &bytes[task.start as usize..task.end as usize],
+        )?;
+    }
+    Ok(has_total)
+}
