@@ -1,5 +1,20 @@
-use Rattle.std.proofs.Common.{inl, inr, refl}
+use Rattle.std.proofs.Common.{◌≡◌, inl, inr, refl}
+use denote.Enum.Declared.{tag_of}
+use Rattle.yak.specs.contracts.endings.Status.{the_type}
+use Rattle.yak.specs.declared.endings.Status.{Status}
+use Rattle.yak.specs.declared.endings.Status.TheVariants.{Done, Usage, Refused, ReadFault, WriteFault, NoMemory, TooLarge, OutOfHeap, LongWord}
 use Rattle.yak.proofs.plain.plain.Goals as goal
+
+done_of : (status : Status) → tag_of the_type status ≡ 0 → status ≡ Done
+done_of Done e = refl
+done_of Usage e = absurd (cc e)
+done_of Refused e = absurd (cc e)
+done_of ReadFault e = absurd (cc e)
+done_of WriteFault e = absurd (cc e)
+done_of NoMemory e = absurd (cc e)
+done_of TooLarge e = absurd (cc e)
+done_of OutOfHeap e = absurd (cc e)
+done_of LongWord e = absurd (cc e)
 
 pub returns-clause-other_words : goal.returns-clause-other_words
 returns-clause-other_words g c = λ other. elim (c.ended.ensures.other_words other) [ inl e ↦ inl (rw e refl) | inr (inl e) ↦ inr (inl (rw e refl)) | inr (inr e) ↦ inr (inr (rw e refl)) ]
