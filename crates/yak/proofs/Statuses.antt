@@ -1,7 +1,7 @@
 -- Which statuses a run may end with.
 use Rattle.std.proofs.Common.{◌≡◌, ◌≤◌, ◌<◌, ◌⊎◌, ℕ, List, [], ◌∷◌, codes, length, Option, Some, None, refl, sym, ap, subst, ◌∙◌, inl, inr, arith, Bool, true, false}
-use Rattle.std.specs.Prelude.{IfSome, decimal}
-use Rattle.std.proofs.lemmas.Fmt.{decimal_injective}
+use Rattle.std.specs.Prelude.{IfSome, OnOk, Result, Ok, Err}
+use Rattle.std.specs.Result.{is_err}
 use Rattle.std.specs.Io.KnownBytes.{Appends}
 use Rattle.yak_io.specs.Causes.{Rose}
 use Rattle.script_text.specs.declared.TheConstants.{INPUT_LIMIT}
@@ -243,15 +243,25 @@ excess_ends TooLarge words input output kept h bytes reading clean many = inl re
 excess_ends OutOfHeap words input output kept h bytes reading clean many = absurd (too_many input bytes h.1.meaning.0.2.0 clean.told many h.1.meaning.0.2.1)
 excess_ends LongWord words input output kept h bytes reading clean many = absurd (too_many input bytes h.1.meaning.0.2.0 clean.told many h.1.meaning.0.2.1)
 
--- the whole text of a status was written
-pub written_ends : (status : Status) (words : List (List ℕ)) (input : Input) (output : Output) (kept : Option Held) (text : List ℕ) → belongs status words input text kept
+-- what a success tells, where the result is no error
+pub of_success : {T E : Type 0} (result : Result T E) (failed : Bool) (P : Type 0) → OnOk result P → failed ≡ is_err result → failed ≡ false → P
+of_success (Ok x) failed P h is well = h
+of_success (Err e) failed P h is well = let t : true ≡ false = sym is ∙ well in absurd (cc t)
+
+all_written : (status : Status) (words : List (List ℕ)) (input : Input) (output : Output) (kept : Option Held) (text : List ℕ) → belongs status words input text kept
     → Appends output.before output.after text → ends status words input output kept
-written_ends Done words input output kept text is all = (text, record { meaning = is; all = all })
-written_ends Usage words input output kept text is all = (text, record { meaning = is; all = all })
-written_ends Refused words input output kept text is all = (text, record { meaning = is; all = all })
-written_ends ReadFault words input output kept text is all = (text, record { meaning = is; all = all })
-written_ends WriteFault words input output kept text is all = absurd is
-written_ends NoMemory words input output kept text is all = (text, record { meaning = is; all = all })
-written_ends TooLarge words input output kept text is all = (text, record { meaning = is; all = all })
-written_ends OutOfHeap words input output kept text is all = (text, record { meaning = is; all = all })
-written_ends LongWord words input output kept text is all = (text, record { meaning = is; all = all })
+all_written Done words input output kept text is all = (text, record { meaning = is; all = all })
+all_written Usage words input output kept text is all = (text, record { meaning = is; all = all })
+all_written Refused words input output kept text is all = (text, record { meaning = is; all = all })
+all_written ReadFault words input output kept text is all = (text, record { meaning = is; all = all })
+all_written WriteFault words input output kept text is all = absurd is
+all_written NoMemory words input output kept text is all = (text, record { meaning = is; all = all })
+all_written TooLarge words input output kept text is all = (text, record { meaning = is; all = all })
+all_written OutOfHeap words input output kept text is all = (text, record { meaning = is; all = all })
+all_written LongWord words input output kept text is all = (text, record { meaning = is; all = all })
+
+-- the whole text of a status was written
+pub written_ends : (status : Status) (words : List (List ℕ)) (input : Input) (output : Output) (kept : Option Held) (text given : List ℕ) → belongs status words input text kept
+    → given ≡ text → Appends output.before output.after given → ends status words input output kept
+written_ends status words input output kept text given is same all =
+    all_written status words input output kept text is (subst (λ (l : List ℕ). Appends output.before output.after l) same all)

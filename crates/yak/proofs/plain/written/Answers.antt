@@ -1,5 +1,7 @@
-use Rattle.yak.proofs.Statuses.{written_ends}
+use Rattle.yak.proofs.Statuses.{of_success, written_ends}
 use Rattle.yak.proofs.plain.written.Goals as goal
 
 pub returns-clause-ends : goal.returns-clause-ends
-returns-clause-ends g c = written_ends c.prepare-prepared.result.status _ _ _ _ _ c.prepare-prepared.ensures.text c.write_all.ensures.all
+returns-clause-ends g c =
+    written_ends c.prepare-prepared.result.status _ _ _ _ _ c.deref.result.now c.prepare-prepared.ensures.text c.deref.ensures.value
+    (of_success c.write_all.result c.is_err.result _ c.write_all.ensures.all c.is_err.ensures.value c.if-is_err.false)
