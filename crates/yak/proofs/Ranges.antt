@@ -1,5 +1,5 @@
 -- The numbers of a count lie in their ranges.
-use Rattle.std.proofs.Common.{◌≡◌, ◌≤◌, ◌⊎◌, ℕ, List, Option, None, Some, refl, sym, ap, subst, inl, inr, arith}
+use Rattle.std.proofs.Common.{◌≡◌, ◌≤◌, ℕ, List, Option, None, Some, sym, subst, inl, inr, arith}
 use Rattle.std.specs.Prelude.{IfSome}
 use Rattle.script_text.specs.declared.TheConstants.{MAX_PAGES}
 use Rattle.yak.specs.declared.forms.Form.{Form}

@@ -1,5 +1,5 @@
 -- Which statuses a run may end with.
-use Rattle.std.proofs.Common.{◌≡◌, ◌≤◌, ◌<◌, ◌⊎◌, ℕ, List, [], ◌∷◌, codes, length, Option, Some, None, refl, sym, ap, subst, ◌∙◌, inl, inr, arith, Bool, true, false}
+use Rattle.std.proofs.Common.{◌≡◌, ◌≤◌, ◌<◌, ◌⊎◌, ℕ, List, length, Option, Some, refl, sym, ap, subst, ◌∙◌, inl, inr, arith, Bool, true, false}
 use Rattle.std.specs.Prelude.{IfSome, OnOk, Result, Ok, Err}
 use Rattle.std.specs.Result.{is_err}
 use Rattle.std.specs.Io.KnownBytes.{Appends}
@@ -12,11 +12,10 @@ use Rattle.script_runner.specs.Runs.{Held}
 use Rattle.yak.specs.declared.endings.Status.{Status}
 use Rattle.yak.specs.declared.endings.Status.TheVariants.{Done, Usage, Refused, ReadFault, WriteFault, NoMemory, TooLarge, OutOfHeap, LongWord}
 use Rattle.yak.specs.declared.forms.Form.TheVariants.{Replay, Count, Gen}
-use Rattle.yak.specs.declared.forms.Form.{Form}
 use Rattle.yak.specs.declared.forms.Options.{Options}
 use Rattle.group_jobs.specs.LongWords.{has_long_word}
-use Rattle.yak.specs.Endings.{Counts, EndsCounted, EndsGenerated, EndsReplayed, Generates, Input, IsFaultless, IsInput, IsWritten, Output, Replays, belongs, ends}
-use Rattle.yak.specs.Forms.{IsAsked, IsCount, IsForm, IsGen, IsReading, IsReplay}
+use Rattle.yak.specs.Endings.{Counts, EndsCounted, EndsGenerated, EndsReplayed, Generates, Input, IsFaultless, IsInput, Output, belongs, ends}
+use Rattle.yak.specs.Forms.{IsAsked, IsCount, IsGen, IsReading, IsReplay}
 use Rattle.yak.proofs.Words.{one_form}
 
 -- ---- words
