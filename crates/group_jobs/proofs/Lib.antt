@@ -17,3 +17,4 @@ pub mod Walked
 pub mod Holding
 pub mod Nothing
 pub mod Starting
+pub mod Least

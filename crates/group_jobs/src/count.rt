@@ -1,5 +1,5 @@
 //! A count by one worker.
-ghost use Rattle.std.specs.Prelude.{◌≡◌, ◌≤◌, ◌+◌, ℕ, List, Bool, Some, false, length, IfOk, IfErr};
+ghost use Rattle.std.specs.Prelude.{◌≡◌, ◌≤◌, ◌+◌, ◌*◌, ℕ, List, Bool, Some, false, length, IfOk, IfErr};
 ghost use Rattle.std.specs.FinMap as finite;
 ghost use Rattle.object_layout.specs.declared.replies.Census.{Census};
 ghost use Rattle.yak_model.specs.Private.{KnownObjects};
@@ -10,10 +10,11 @@ ghost use Rattle.group_jobs.specs.Tallies.{IsProgress};
 ghost use Rattle.group_jobs.specs.declared.count.CountError.TheVariants as CountError;
 ghost use Rattle.group_jobs.specs.declared.TheConstants.{WORKER};
 ghost use Rattle.heap_words.specs.Contents.{contents};
-ghost use Rattle.heap_words.specs.Map.{IsAreas};
+ghost use Rattle.heap_words.specs.Map.{IsAreas, page_words};
 ghost use Rattle.yak_model.specs.Texts.{words_of};
 ghost use Rattle.group_jobs.specs.Alone.{HasListed, HoldsCounts, IsListed, TellsWhy, opening_standing};
 ghost use Rattle.group_jobs.specs.LongWords.{has_long_word};
+ghost use Rattle.group_jobs.specs.Room.{tables_room};
 ghost use Rattle.group_jobs.specs.declared.TheConstants.{INPUT_LIMIT};
 
 use crate::counted::{Counted, sort_counts};
@@ -120,6 +121,7 @@ pub fn count_one(
     ensures list { IfOk result (λ counted. counted.list.items ≡ counts_of (words_of bytes.now)) }
     ensures map { IfOk result (λ counted. counted.core.map ≡ record { pages = pages; threads = 1 }) }
     ensures heap { IfOk result (λ counted. HoldsCounts counted.core.map (contents counted.core.map (⟦<Image as Words>⟧.words counted.core.words)) (words_of bytes.now)) }
+    ensures room { IfOk result (λ _. tables_room (words_of bytes.now) ≤ page_words (record { pages = pages; threads = 1 }) * pages) }
     ensures why { IfErr result (λ error. TellsWhy (record { pages = pages; threads = 1 }) lines bytes.now error) }
 {
     let Ok(tasks) = cut_tasks(alloc, bytes, lines) else {

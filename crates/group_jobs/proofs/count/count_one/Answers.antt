@@ -1,4 +1,4 @@
-use Rattle.std.proofs.Common.{◌≡◌, ℕ, ◌≤◌, List, [], length, refl, ◌∙◌, ap, sym, subst, arith, false, Bool}
+use Rattle.std.proofs.Common.{◌≡◌, ℕ, ◌*◌, ◌≤◌, List, [], length, refl, ◌∙◌, ap, sym, subst, arith, false, Bool}
 use Rattle.std.specs.FinMap.{empty}
 use Rattle.yak_model.specs.Graph.{Thread}
 use Rattle.yak_model.specs.Standing.{Standing}
@@ -13,6 +13,10 @@ use Rattle.yak_model.specs.Private.{KnownObjects}
 use Rattle.group_jobs.specs.LongWords.{has_long_word}
 use Rattle.group_jobs.proofs.Progress.{progress_same}
 use Rattle.group_jobs.proofs.Starting.{few_words, tasks_within}
+use Rattle.group_jobs.proofs.Least.{room_held}
+use Rattle.group_jobs.specs.Room.{tables_room}
+use Rattle.heap_words.specs.declared.map.Areas.{Areas}
+use Rattle.heap_words.specs.Map.{page_words}
 use Rattle.group_jobs.proofs.count.count_one.Goals as goal
 
 few_in : (bytes : List ℕ) (tasks items : List Task) → tasks ≡ items → words_in bytes items ≡ words_of bytes → length bytes ≤ INPUT_LIMIT → length (words_in bytes tasks) ≤ MOST_WORDS
@@ -60,3 +64,8 @@ returns-clause-heap c =
     c.close_heap-core.ensures.holds c.in-Ok-count_tasks.has_total r.0 (words_of c.args.bytes.now) (c.in-Ok-list_counts.ensures.kept r.0 (words_of c.args.bytes.now) r.1 l)
     (progress_same c.in-Ok-count_tasks.has_total _ _ r.0 (words_of c.args.bytes.now) (ap (λ (o : Thread). o.stack) own) l.progress)
     (ap (λ (o : Thread). o.depth) own ∙ c.in-Ok-count_tasks.ensures.depth)
+
+pub returns-clause-room : goal.returns-clause-room
+returns-clause-room c =
+    let map : c.close_heap-core.result.map ≡ record { pages = c.args.pages; threads = 1 } = c.close_heap-core.ensures.map ∙ ap (λ (b : Areas × Areas × ℕ). b.0) (c.list_counts.ensures.base ∙ c.in-Ok-count_tasks.ensures.went.stays.0) ∙ c.in-Ok-open_heap.ensures.map in
+    subst (λ (m : Areas). tables_room (words_of c.args.bytes.now) ≤ page_words m * m.pages) map (room_held _ _ (words_of c.args.bytes.now) (returns-clause-heap c))
