@@ -172,7 +172,7 @@ fn long_words_are_told(rt: HostRuntime) -> Result<(), Fail> {
             want.extend_from_slice(b"line 2: long word\n")?;
         }
         let mut source = SureSource::new(text);
-        let mut sink = MemorySink::new(alloc, 100, Vec::new(alloc))?;
+        let mut sink = MemorySink::new(alloc, 2000, Vec::new(alloc))?;
         let mut kept = Kept::Nothing;
         assert_eq!(rt;
             plain(alloc, &args, &mut source, &mut sink, &mut kept),
