@@ -18,3 +18,4 @@ pub mod Holding
 pub mod Nothing
 pub mod Starting
 pub mod Least
+pub mod Aside
