@@ -19,3 +19,4 @@ pub mod Nothing
 pub mod Starting
 pub mod Least
 pub mod Aside
+pub mod RootKnown
