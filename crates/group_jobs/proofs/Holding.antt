@@ -13,6 +13,7 @@ use Rattle.heap_words.specs.Contents.{Contents, depth_of}
 use Rattle.yak_model.specs.declared.datum.Datum.{Datum}
 use Rattle.yak_model.specs.declared.datum.Datum.TheVariants as datum
 use Rattle.yak_model.specs.Graph.{Content, Fields, Graph, Thread, fields_of, fields_or_none, stack_of, slot_of, thread_of}
+use Rattle.yak_model.specs.Names.{root_name}
 use Rattle.yak_model.specs.Private.{IsKnown, KnownObjects}
 use Rattle.yak_model.specs.Spaces.{Refers, SpaceState, content_at, home_of}
 use Rattle.yak_model.specs.State.{IsDatum, IsOpen, object_of, view}
@@ -29,7 +30,7 @@ use Rattle.heap_core.proofs.Homes.{home-open, home-shown}
 use Rattle.heap_core.proofs.Named.{depth-shown}
 use Rattle.heap_core.proofs.Recognized.{recorded-told}
 use Rattle.heap_core.proofs.RoomsNames.{content-shown}
-use Rattle.group_jobs.specs.Alone.{HoldsCounts, HoldsTotal}
+use Rattle.group_jobs.specs.Alone.{HasRoot, HoldsCounts, HoldsTotal, root_object}
 use Rattle.group_jobs.specs.Tallies.{IsProgress, Tally}
 use Rattle.group_jobs.specs.declared.TheConstants.{TOTAL_SLOT, WORKER}
 
@@ -103,17 +104,29 @@ module _ (m : Areas) (c : Contents) (known : KnownObjects) (alone : KnowsAlone m
           absurd (omega (arith, h.2, h.3, depth))
 
   pub holds_counts : (has : Bool) (done : List (List ℕ)) (made refusals : ℕ) (last : Option (Census × ℕ × ℕ)) → IsAreas m → m.threads ≡ 1 → SomeRecorded m c → thread_told c WORKER ≡ thread_of graph_of WORKER
-      → IsProgress has (standing_told c WORKER made refusals last) known done → depth_of c WORKER ≡ 0 → HoldsCounts m c done
-  holds_counts has done made refusals last areas one some told progress outside =
+      → IsProgress has (standing_told c WORKER made refusals last) known done → HasRoot (standing_told c WORKER made refusals last) known → depth_of c WORKER ≡ 0 → HoldsCounts m c done
+  holds_counts has done made refusals last areas one some told progress root outside =
       let depth : (thread_of graph_of WORKER).depth ≡ 0 = sym (ap (λ (o : Thread). o.depth) told) ∙ outside in
       record {
         state = alone.state;
         stands = alone.stands;
         recorded = recorded-told m c some alone.state alone.stands;
         outside = depth;
+        root = has_root root;
         total = λ busy. total has depth busy progress;
       }
     where
+      lowest : (xs : List Datum) (n : Name) → get_or xs 0 datum.Null ≡ datum.Object n → Contains xs (datum.Object n)
+      lowest [] n e = cc
+      lowest (x ∷ xs) n e = subst (Contains (x ∷ xs)) e (Contains-get_or (x ∷ xs) 0 datum.Null (omega arith))
+
+      has_root : HasRoot (standing_told c WORKER made refusals last) known → content_at graph_of root_name ≡ Some root_object
+      has_root root =
+          let slot : slot_of graph_of WORKER 0 ≡ datum.Object root_name = sym (ap (λ (o : Thread). get_or o.stack 0 datum.Null) told) ∙ root.slot in
+          let threads : length graph_of.threads ≡ 1 = is_thread m c alone.state alone.stands ∙ one in
+          let there = holds-stacks m c alone.state alone.stands WORKER root_name ((omega arith, omega (arith, threads)), lowest (stack_of graph_of WORKER) root_name slot) in
+          same_here root_name there (ap is_some root.object) ∙ root.object
+
       on_stack : (xs : List Datum) (n : Name) → get_or xs TOTAL_SLOT datum.Null ≡ datum.Object n → Contains xs (datum.Object n)
       on_stack [] n e = cc
       on_stack (x ∷ []) n e = cc
@@ -141,7 +154,7 @@ module _ (m : Areas) (c : Contents) (known : KnownObjects) (alone : KnowsAlone m
 
 -- the same for a thread that is the worker
 pub holds_worker : (m : Areas) (c : Contents) (t : ℕ) → t ≡ WORKER → (known : KnownObjects) (has : Bool) (done : List (List ℕ)) (made refusals : ℕ) (last : Option (Census × ℕ × ℕ)) → IsAreas m → m.threads ≡ 1 → SomeRecorded m c
-    → KnowsAlone m c t known → ((s : SpaceState) → Stands m c s → thread_told c t ≡ thread_of s.graph t) → IsProgress has (standing_told c t made refusals last) known done → depth_of c t ≡ 0 → HoldsCounts m c done
+    → KnowsAlone m c t known → ((s : SpaceState) → Stands m c s → thread_told c t ≡ thread_of s.graph t) → IsProgress has (standing_told c t made refusals last) known done → HasRoot (standing_told c t made refusals last) known → depth_of c t ≡ 0 → HoldsCounts m c done
 holds_worker m c t e known has done made refusals last areas one some =
-    subst (λ u. KnowsAlone m c u known → ((s : SpaceState) → Stands m c s → thread_told c u ≡ thread_of s.graph u) → IsProgress has (standing_told c u made refusals last) known done → depth_of c u ≡ 0 → HoldsCounts m c done) (sym e)
-    (λ alone told progress outside. holds_counts m c known alone has done made refusals last areas one some (told alone.state alone.stands) progress outside)
+    subst (λ u. KnowsAlone m c u known → ((s : SpaceState) → Stands m c s → thread_told c u ≡ thread_of s.graph u) → IsProgress has (standing_told c u made refusals last) known done → HasRoot (standing_told c u made refusals last) known → depth_of c u ≡ 0 → HoldsCounts m c done) (sym e)
+    (λ alone told progress root outside. holds_counts m c known alone has done made refusals last areas one some (told alone.state alone.stands) progress root outside)

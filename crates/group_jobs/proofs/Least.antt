@@ -1,5 +1,5 @@
 -- The objects of a table of counts: one for the table, and a key and an entry for each word. They are different and all in the heap.
-use Rattle.std.proofs.Common.{◌≡◌, ◌≢◌, ◌⊎◌, inl, inr, ℕ, zero, suc, ◌+◌, ◌*◌, ◌<◌, ◌≤◌, Bool, true, false, cond, ◌&&◌, T, List, [], ◌∷◌, map, length, get_or, Option, Some, None, is_eq, refl, ◌∙◌, ap, sym, subst, arith}
+use Rattle.std.proofs.Common.{◌≡◌, ◌≢◌, ◌⊎◌, inl, inr, ℕ, suc, ◌+◌, ◌*◌, ◌<◌, ◌≤◌, Bool, true, false, cond, ◌&&◌, T, List, [], ◌∷◌, map, length, replicate, get_or, Some, is_eq, refl, ◌∙◌, ap, sym, subst, arith}
 use Rattle.std.proofs.Math.Logic.{⊎_elim}
 use Rattle.std.specs.List.{Contains, sum_by}
 use Rattle.std.specs.FinMap as finite
@@ -7,6 +7,7 @@ use Rattle.std.specs.FinMap.{find, get, is_sorted, entries_sorted, get-entries}
 use Rattle.std.specs.FinMap.Entries.{below_all}
 use Rattle.std.specs.Ordering.{eq_by_cmp, is_lt}
 use Rattle.std.proofs.lemmas.Cmp.{nat_list_cmp_total, tied_itself}
+use Rattle.std.proofs.lemmas.List.{length-replicate}
 use Rattle.std.proofs.lemmas.List.Sums.{sum_by-cons}
 use Rattle.object_layout.specs.declared.names.Name.{Name}
 use Rattle.object_layout.specs.declared.TheConstants.{OBJECT_WORDS}
@@ -15,27 +16,28 @@ use Rattle.heap_words.specs.Contents.{Contents}
 use Rattle.heap_words.specs.Map.{page_words}
 use Rattle.yak_model.specs.declared.datum.Datum.{Datum}
 use Rattle.yak_model.specs.declared.datum.Datum.TheVariants as datum
-use Rattle.yak_model.specs.declared.TheConstants.{BUCKETS}
-use Rattle.yak_model.specs.Graph.{Content, Fields, fields_or_none, size_of}
+use Rattle.yak_model.specs.declared.TheConstants.{ROOT_FIELDS}
+use Rattle.yak_model.specs.Graph.{Content, Fields, size_of}
 use Rattle.yak_model.specs.Lawful.{present_words}
-use Rattle.yak_model.specs.Names.{name_cmp}
+use Rattle.yak_model.specs.Names.{root_name}
 use Rattle.yak_model.specs.Placed.{size_by}
 use Rattle.yak_model.specs.Private.{KnownObjects}
-use Rattle.yak_model.specs.Room.{entry_words, key_words, table_words}
+use Rattle.yak_model.specs.Room.{entry_words, key_words, root_words, table_words}
 use Rattle.yak_model.specs.Spaces.{SpaceState}
 use Rattle.yak_model.specs.State.{object_of}
 use Rattle.yak_model.specs.Stands.{Stands}
 use Rattle.yak_model.specs.Tables.{HasCount, IsChain, IsCountTable, IsEntry, IsKey, Link, WordCounts, bucket_of, entry_fields}
 use Rattle.yak_model.specs.Texts.{word_cmp}
 use Rattle.yak_model.proofs.Lists.{contains_cases, contains_cons}
-use Rattle.heap_core.proofs.RoomsNames.{entry-found, found-key, keys-distinct, keys_of, present-paged}
+use Rattle.heap_core.proofs.RoomsNames.{entry-found, found-key, keys_of, present-paged}
 use Rattle.heap_core.proofs.RoomsSums.{Distinct, contains_first, sum-inside, sum-mapped, sum-same}
 use Rattle.heap_core.proofs.Weights.{weight, words_in_all}
 use Rattle.heap_tables.proofs.Counted.{bucket_small}
 use Rattle.heap_tables.proofs.Entries.{key_no_entry, same_entry, same_fields, same_key}
-use Rattle.group_jobs.specs.Alone.{HoldsCounts, HoldsTotal}
+use Rattle.group_jobs.specs.Alone.{HoldsCounts, HoldsTotal, root_object}
 use Rattle.group_jobs.specs.Counts.{word_counts}
-use Rattle.group_jobs.specs.Room.{different, tables_room}
+use Rattle.group_jobs.specs.Tallies.{IsAside}
+use Rattle.group_jobs.specs.Room.{least_room}
 
 -- ---- the objects are within the pages
 
@@ -263,14 +265,64 @@ names_within objects names once there =
     let less = sum-inside (λ (n : Name). weight (get objects n)) names (keys_of (finite.entries objects)) once (λ n c. let v = there n c in found-key (finite.entries objects) n v.0 (sym (get-entries objects n) ∙ v.1)) in
     omega (arith, less, by_names objects)
 
-pub table_within : (known : KnownObjects) (name : Name) (counts : WordCounts) (is : IsCountTable known name counts) → table_words + sum_by (λ (w : List ℕ). key_words w + entry_words) (finite.keys counts) ≤ words_in_all known
-table_within known name counts is =
-    let less = names_within known (table_names known name counts is) (table_once known name counts is) (there known name counts is) in
-    omega (arith, less, table_weighs known name counts is)
+pub root_aside : IsAside (replicate ROOT_FIELDS datum.Null)
+root_aside = ((λ e. omega (arith, e, length-replicate ROOT_FIELDS datum.Null)), (λ e. omega (arith, e, length-replicate ROOT_FIELDS datum.Null)))
 
-pub room_held : (m : Areas) (c : Contents) (words : List (List ℕ)) → HoldsCounts m c words → tables_room words ≤ page_words m * m.pages
-room_held m c [] holds = omega arith
+module _ (known : KnownObjects) (root : get known root_name ≡ Some root_object) where
+  root_weighs : weight (get known root_name) ≡ root_words
+  root_weighs = ap weight root
+
+  root_within : root_words ≤ words_in_all known
+  root_within =
+      let less = names_within known (root_name ∷ []) ((λ c. omega (arith, c.1)), tt) (λ n c. (root_object, ap (get known) (sym (only n c)) ∙ root)) in
+      omega (arith, less, root_weighs, sum_by-cons (λ (n : Name). weight (get known n)) root_name [])
+    where
+      only : (n : Name) → Contains (root_name ∷ []) n → root_name ≡ n
+      only n c = ⊎_elim (λ (e : root_name ≡ n). e) (λ (d : Contains [] n). absurd (omega (arith, d.1))) (contains_cases root_name [] n c)
+
+  root_no_key : (word : List ℕ) (key : Name) → IsKey known key word → root_name ≢ key
+  root_no_key word key is e =
+      let f = same_fields known root_name key (replicate ROOT_FIELDS datum.Null) is.0 e root is.1 in
+      let none : datum.Null ≡ datum.Int (length word) = ap (λ vs. get_or vs 0 datum.Null) f ∙ is.2.first in
+      cc
+
+  root_apart : (words : List (List ℕ)) → IsFor known words root_name → ⊥
+  root_apart words at = ⊎_elim
+      (λ (e : root_name ≡ at.2.0.link.entry).
+      let h : IsHeld known at.0 = at.2.0 in
+      let f = same_fields known root_name h.link.entry (replicate ROOT_FIELDS datum.Null) (entry_fields h.next h.link.key h.link.count) e root h.entry.0 in
+      root_aside.1 (ap length f))
+      (λ (e : root_name ≡ at.2.0.link.key).
+      let h : IsHeld known at.0 = at.2.0 in
+      root_no_key h.link.word h.link.key h.entry.1 e)
+      at.2.1
+
+  table_within : (name : Name) (counts : WordCounts) (is : IsCountTable known name counts) → root_words + (table_words + sum_by (λ (w : List ℕ). key_words w + entry_words) (finite.keys counts)) ≤ words_in_all known
+  table_within name counts is =
+      let names : List Name = table_names known name counts is in
+      let less = names_within known (root_name ∷ names) (apart, table_once known name counts is) all_there in
+      omega (arith, less, root_weighs, sum_by-cons (λ (n : Name). weight (get known n)) root_name names, table_weighs known name counts is)
+    where
+      apart : Contains (table_names known name counts is) root_name → ⊥
+      apart c = ⊎_elim
+          (λ (e : name ≡ root_name).
+          let f = same_fields known root_name name (replicate ROOT_FIELDS datum.Null) is.heads (sym e) root is.table.object in
+          root_aside.0 (ap length f ∙ is.table.size))
+          (λ (b : Contains (names_for known (finite.keys counts) (held_for known name counts is)) root_name).
+          root_apart (finite.keys counts) (name_for known (finite.keys counts) (held_for known name counts is) root_name b))
+          (contains_cases name (names_for known (finite.keys counts) (held_for known name counts is)) root_name c)
+
+      all_there : (n : Name) → Contains (root_name ∷ table_names known name counts is) n → (v : Content) × (get known n ≡ Some v)
+      all_there n c = ⊎_elim
+          (λ (e : root_name ≡ n). (root_object, ap (get known) (sym e) ∙ root))
+          (λ (b : Contains (table_names known name counts is) n). there known name counts is n b)
+          (contains_cases root_name (table_names known name counts is) n c)
+
+pub room_held : (m : Areas) (c : Contents) (words : List (List ℕ)) → HoldsCounts m c words → least_room words ≤ page_words m * m.pages
+room_held m c [] holds =
+    let less = root_within holds.state.graph.objects holds.root in
+    omega (arith, less, present-within m c holds.state holds.stands)
 room_held m c (word ∷ words) holds =
     let t : HoldsTotal holds.state (word ∷ words) = holds.total (λ e. cc) in
-    let less = table_within holds.state.graph.objects t.name (word_counts (word ∷ words)) t.table in
+    let less = table_within holds.state.graph.objects holds.root t.name (word_counts (word ∷ words)) t.table in
     omega (arith, less, present-within m c holds.state holds.stands)

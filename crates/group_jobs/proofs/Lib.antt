@@ -18,3 +18,5 @@ pub mod Holding
 pub mod Nothing
 pub mod Starting
 pub mod Least
+pub mod Aside
+pub mod RootKnown

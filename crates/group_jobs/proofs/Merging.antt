@@ -14,10 +14,11 @@ use Rattle.yak_model.specs.Tables.{AreDifferent, AreInBucket, IsCountTable, Lack
 use Rattle.yak_model.specs.Texts.{word_cmp, places_of}
 use Rattle.heap_tables.specs.Adds.{IsNoEntry}
 use Rattle.heap_tables.specs.Counted.{or_zero, raised}
-use Rattle.heap_tables.specs.Merges.{MayMerge, SharesNone, news, one_if_none, sum_of, walk}
+use Rattle.heap_tables.specs.Merges.{KeepsUntouched, MayMerge, SharesNone, news, one_if_none, sum_of, walk}
 use Rattle.group_jobs.specs.Counts.{has_word, word_counts}
 use Rattle.group_jobs.specs.Tallies.{AreShort, KnowsTally, Tallies}
 use Rattle.group_jobs.specs.declared.TheConstants.{MOST_WORDS, PART_SLOT, TOTAL_SLOT}
+use Rattle.group_jobs.proofs.Aside.{no_table, nowhere}
 use Rattle.group_jobs.proofs.Counting.{get-word_counts, has_word-append, no_place, places_of-append, same_by_test, same_counts, told_of}
 use Rattle.group_jobs.proofs.Tallying.{AreOf, are_of, count_is, few_in_bucket, few_links, few_places}
 
@@ -185,6 +186,13 @@ slot_left (x ∷ y ∷ []) h = absurd (omega (arith, h))
 slot_left (x ∷ y ∷ z ∷ []) h = refl
 slot_left (x ∷ y ∷ z ∷ w ∷ stack) h = absurd (omega (arith, h))
 
+lowest_left : (stack : List Datum) → length stack ≡ PART_SLOT + 1 → get_or (take (length stack - 1) stack) 0 datum.Null ≡ get_or stack 0 datum.Null
+lowest_left [] h = absurd (omega (arith, h))
+lowest_left (x ∷ []) h = absurd (omega (arith, h))
+lowest_left (x ∷ y ∷ []) h = absurd (omega (arith, h))
+lowest_left (x ∷ y ∷ z ∷ []) h = refl
+lowest_left (x ∷ y ∷ z ∷ w ∷ stack) h = absurd (omega (arith, h))
+
 pub size_left : (stack : List Datum) → length stack ≡ PART_SLOT + 1 → length (take (length stack - 1) stack) ≡ PART_SLOT
 size_left [] h = absurd (omega (arith, h))
 size_left (x ∷ []) h = absurd (omega (arith, h))
@@ -193,14 +201,21 @@ size_left (x ∷ y ∷ z ∷ []) h = refl
 size_left (x ∷ y ∷ z ∷ w ∷ stack) h = absurd (omega (arith, h))
 
 pub merged_tally : (s now : Standing) (known later : KnownObjects) (knows : KnownObjects → Type 0) (done doing : List (List ℕ)) (t : Tallies s known done doing) (stack : List Datum) → stack ≡ (s.own).stack → length (s.own).stack ≡ PART_SLOT + 1
-    → (now.own).stack ≡ take (length stack - 1) stack → knows later → (sums : WordCounts) → ((word : List ℕ) → get sums word ≡ sum_of (get (word_counts done) word) (get (word_counts doing) word)) → IsCountTable later (t.total).name sums
-    → KnowsTally now knows (done ++ doing)
-merged_tally s now known later knows done doing t stack same size own k sums are table = (
+    → (now.own).stack ≡ take (length stack - 1) stack → knows later → (sums : WordCounts) → ((word : List ℕ) → get sums word ≡ sum_of (get (word_counts done) word) (get (word_counts doing) word)) → (table : IsCountTable later (t.total).name sums)
+    → KeepsUntouched known (t.total).name ((t.total).table).buckets later table.buckets
+    → KnowsTally s known now knows (done ++ doing)
+merged_tally s now known later knows done doing t stack same size own k sums are table untouched = (
   later,
   k,
   record {
     name = (t.total).name;
     slot = ap (λ (st : List Datum). get_or st TOTAL_SLOT datum.Null) own ∙ slot_left stack (ap length same ∙ size) ∙ ap (λ (st : List Datum). get_or st TOTAL_SLOT datum.Null) same ∙ (t.total).slot;
     table = subst (IsCountTable later (t.total).name) (sums_are_counts sums done doing are) table;
+  },
+  record {
+    slot = ap (λ (st : List Datum). get_or st 0 datum.Null) own ∙ lowest_left stack (ap length same ∙ size) ∙ ap (λ (st : List Datum). get_or st 0 datum.Null) same;
+    objects = λ name values is aside.
+        let total = (t.total).table in
+        (untouched name (ap is_some is) (no_table known name (t.total).name values total.heads is aside (total.table).object (total.table).size) (nowhere known name values is aside (t.total).name total.heads total.buckets total.table)).0 ∙ is;
   },
 )

@@ -1,23 +1,24 @@
 -- A new table of a count.
-use Rattle.std.proofs.Common.{◌≡◌, ℕ, ◌≤◌, List, [], ◌∷◌, None, length, get_or, refl, ◌∙◌, ap, sym, subst}
+use Rattle.std.proofs.Common.{◌≡◌, ℕ, ◌≤◌, ◌<◌, List, [], ◌∷◌, None, length, replicate, get_or, refl, ◌∙◌, ap, sym, subst, arith}
 use Rattle.std.specs.FinMap.{get, get-empty, empty}
 use Rattle.std.proofs.lemmas.List.Elements.{All-nil, All-cons}
 use Rattle.object_layout.specs.declared.names.Name.{Name}
 use Rattle.object_layout.specs.declared.TheConstants.{WORD_LIMIT}
 use Rattle.yak_model.specs.declared.datum.Datum.TheVariants as datum
 use Rattle.yak_model.specs.declared.TheConstants.{BUCKETS}
-use Rattle.yak_model.specs.Graph.{Thread}
+use Rattle.yak_model.specs.Graph.{Fields, Thread}
 use Rattle.yak_model.specs.Private.{KnownObjects}
 use Rattle.yak_model.specs.Standing.{Standing}
 use Rattle.yak_model.specs.Tables.{AreInBucket, IsCountTable, LacksWord, Link, WordCounts}
 use Rattle.yak_model.specs.Texts.{word_cmp}
+use Rattle.yak_model.proofs.Names.{get-other}
 use Rattle.heap_tables.specs.Adds.{IsNoEntry, IsNowhere}
 use Rattle.heap_tables.specs.Runs.{next_of, with_made, with_new}
 use Rattle.heap_tables.proofs.Counted.{grown_counts}
 use Rattle.heap_tables.proofs.Effects.{in_bounds, slot_push}
 use Rattle.heap_tables.proofs.Linked.{insert_grows, made_below, other_name}
 use Rattle.group_jobs.specs.Counts.{word_counts}
-use Rattle.group_jobs.specs.Tallies.{AreApart, KnowsTallies, KnowsTally, Tally}
+use Rattle.group_jobs.specs.Tallies.{AreApart, KeepsAside, KnowsTallies, KnowsTally, Tally}
 use Rattle.group_jobs.specs.declared.TheConstants.{PART_SLOT, TOTAL_SLOT}
 
 -- A table without counts has no entries.
@@ -36,9 +37,15 @@ all_apart (l ∷ links) buckets free = All-cons (λ k. IsNowhere k.entry buckets
 no_counts : word_counts [] ≡ empty
 no_counts = refl
 
+made_aside : (s now : Standing) (known : KnownObjects) → now.own ≡ with_made s → 0 < length (s.own).stack → get known (next_of s) ≡ None → KeepsAside s known now (with_new s known BUCKETS)
+made_aside s now known own some none = record {
+  slot = made_below s now.own 0 own some;
+  objects = λ name values is aside. get-other known (next_of s) (Fields (replicate BUCKETS datum.Null)) name (other_name known name (next_of s) (Fields values) none is) ∙ is;
+}
+
 pub opened_part : (s now : Standing) (known : KnownObjects) (knows : KnownObjects → Type 0) (done : List (List ℕ)) → now.own ≡ with_made s → length (s.own).stack ≡ PART_SLOT → Tally s known done
     → knows (with_new s known BUCKETS) → IsCountTable (with_new s known BUCKETS) (next_of s) empty → get known (next_of s) ≡ None
-    → KnowsTallies now knows done []
+    → KnowsTallies s known now knows done []
 opened_part s now known knows done own size t k part none =
     let table = grown_counts known (with_new s known BUCKETS) (insert_grows known (next_of s) _ none) t.name (word_counts done) t.table in (
       with_new s known BUCKETS,
@@ -62,13 +69,15 @@ opened_part s now known knows done own size t k part none =
         apart = λ b h. all_apart (table.buckets b) part.buckets (no_entries (with_new s known BUCKETS) (next_of s) part);
         short = All-nil (λ w. length w ≤ WORD_LIMIT);
       },
+      made_aside s now known own (omega (arith, size)) none,
     )
 
 pub opened_total : (s now : Standing) (known : KnownObjects) (knows : KnownObjects → Type 0) (done : List (List ℕ)) → now.own ≡ with_made s → length (s.own).stack ≡ TOTAL_SLOT → done ≡ []
     → knows (with_new s known BUCKETS) → IsCountTable (with_new s known BUCKETS) (next_of s) empty
-    → KnowsTally now knows done
-opened_total s now known knows done own size none k table =
-    subst (KnowsTally now knows) (sym none) (
+    → get known (next_of s) ≡ None
+    → KnowsTally s known now knows done
+opened_total s now known knows done own size none k table fresh =
+    subst (KnowsTally s known now knows) (sym none) (
       with_new s known BUCKETS,
       k,
       record {
@@ -82,4 +91,5 @@ opened_total s now known knows done own size none k table =
           absent = λ w e. table.absent w (ap (λ (m : WordCounts). get m w) (sym no_counts) ∙ e);
         };
       },
+      made_aside s now known own (omega (arith, size)) fresh,
     )

@@ -21,6 +21,7 @@ use Rattle.heap_tables.proofs.Raised.{table_apart}
 use Rattle.heap_tables.proofs.Places.{word_cases}
 use Rattle.group_jobs.specs.Counts.{has_word, word_counts}
 use Rattle.group_jobs.specs.Tallies.{AreApart, KnowsTallies, Tallies}
+use Rattle.group_jobs.proofs.Aside.{no_table, nowhere}
 use Rattle.group_jobs.proofs.Counting.{count-word_counts, get-word_counts, one_place, places_of-append, same_by_test, word_counts-push}
 
 -- ---- counts of words
@@ -173,7 +174,7 @@ still_apart known (l ∷ links) head buckets after chain keeps apart =
 pub tallies_more : (s now : Standing) (known later : KnownObjects) (knows : KnownObjects → Type 0) (done doing : List (List ℕ)) (word : List ℕ) (b : ℕ) → b < BUCKETS
     → ((i : ℕ) → get_or (now.own).stack i datum.Null ≡ get_or (s.own).stack i datum.Null)
     → length word ≤ WORD_LIMIT → (t : Tallies s known done doing) → knows later → (part : IsCountTable later t.name (raised (word_counts doing) word 1)) → KeepsOthers known t.name ((t.table).buckets b) later → StayNowhere known (t.table).buckets part.buckets
-    → KnowsTallies now knows done (doing ++ word ∷ [])
+    → KnowsTallies s known now knows done (doing ++ word ∷ [])
 tallies_more s now known later knows done doing word b bound slots short t k part others keeps =
     let total = t.total.table in (
       later,
@@ -202,5 +203,11 @@ tallies_more s now known later knows done doing word b bound slots short t k par
         other = t.other;
         apart = λ c h. still_apart known (total.buckets c) (get_or total.heads c datum.Null) (t.table).buckets part.buckets ((total.table).chains c h) keeps (t.apart c h);
         short = All-append (λ w. length w ≤ WORD_LIMIT) doing (word ∷ []) t.short (All-cons (λ w. length w ≤ WORD_LIMIT) word [] short (All-nil (λ w. length w ≤ WORD_LIMIT)));
+      },
+      record {
+        slot = slots 0;
+        objects = λ name values is aside.
+            let table = (t.table).table in
+            others name (ap is_some is) (no_table known name t.name values (t.table).heads is aside table.object table.size) (nowhere known name values is aside t.name (t.table).heads (t.table).buckets table b bound) ∙ is;
       },
     )

@@ -1,11 +1,13 @@
 -- Tables of a count in the objects that a caller knows.
-use Rattle.std.specs.Prelude.{◌≡◌, ◌≢◌, ℕ, ◌+◌, ◌*◌, ◌≤◌, ◌<◌, Bool, true, false, List, [], ◌∷◌, length, cond, count_by}
+use Rattle.std.specs.Prelude.{◌≡◌, ◌≢◌, ℕ, ◌+◌, ◌*◌, ◌≤◌, ◌<◌, Bool, true, false, List, [], ◌∷◌, Some, length, cond, count_by}
 use Rattle.std.specs.List.{All, flat_map, sum_by}
+use Rattle.std.specs.FinMap as finite
 use Rattle.object_layout.specs.declared.names.Name.{Name}
 use Rattle.object_layout.specs.declared.TheConstants.{WORD_LIMIT}
-use Rattle.yak_model.specs.declared.TheConstants.{BUCKETS}
+use Rattle.yak_model.specs.declared.TheConstants.{BUCKETS, ENTRY_FIELDS}
+use Rattle.yak_model.specs.declared.datum.Datum.{Datum}
 use Rattle.yak_model.specs.declared.datum.Datum.TheVariants as datum
-use Rattle.yak_model.specs.Graph.{Thread}
+use Rattle.yak_model.specs.Graph.{Fields, Thread}
 use Rattle.yak_model.specs.Private.{KnownObjects}
 use Rattle.yak_model.specs.Room.{entry_words, key_words, table_words}
 use Rattle.yak_model.specs.Standing.{Standing}
@@ -92,12 +94,21 @@ abbrev pub HasTallies : Standing → (KnownObjects → Type 0) → ℕ → Type 
 HasTallies s knows more =
     (known : KnownObjects) × (done : List (List ℕ)) × (doing : List (List ℕ)) × knows known × Tallies s known done doing × (length done + (length doing + more) ≤ MOST_WORDS)
 
--- A known map has the tables with these counts.
-abbrev pub KnowsTally : Standing → (KnownObjects → Type 0) → List (List ℕ) → Type 0
-KnowsTally s knows done = (known : KnownObjects) × knows known × Tally s known done
+-- An object with these fields is no table and no entry, by how many they are.
+abbrev pub IsAside : List Datum → Type 0
+IsAside values = (length values ≢ BUCKETS) × (length values ≢ ENTRY_FIELDS)
 
-abbrev pub KnowsTallies : Standing → (KnownObjects → Type 0) → List (List ℕ) → List (List ℕ) → Type 0
-KnowsTallies s knows done doing = (known : KnownObjects) × knows known × Tallies s known done doing
+-- The lowest slot and the known objects that are no tables and no entries are as they were.
+pub record KeepsAside (s : Standing) (known : KnownObjects) (now : Standing) (later : KnownObjects) : Type 0 where
+  pub slot : slot_in now 0 ≡ slot_in s 0
+  pub objects : (name : Name) (values : List Datum) → finite.get known name ≡ Some (Fields values) → IsAside values → finite.get later name ≡ Some (Fields values)
+
+-- A known map has the tables with these counts, and what is no part of them is as it was.
+abbrev pub KnowsTally : Standing → KnownObjects → Standing → (KnownObjects → Type 0) → List (List ℕ) → Type 0
+KnowsTally s known now knows done = (later : KnownObjects) × knows later × Tally now later done × KeepsAside s known now later
+
+abbrev pub KnowsTallies : Standing → KnownObjects → Standing → (KnownObjects → Type 0) → List (List ℕ) → List (List ℕ) → Type 0
+KnowsTallies s known now knows done doing = (later : KnownObjects) × knows later × Tallies now later done doing × KeepsAside s known now later
 
 -- The thread has the same stack and depth, and has made at most so many more objects.
 pub record KeepsPlace (own after : Thread) (more : ℕ) : Type 0 where
@@ -116,5 +127,5 @@ abbrev pub HasProgress : Bool → Standing → (KnownObjects → Type 0) → ℕ
 HasProgress has s knows more =
     (known : KnownObjects) × (done : List (List ℕ)) × knows known × IsProgress has s known done × (length done + more ≤ MOST_WORDS)
 
-abbrev pub KnowsProgress : Bool → Standing → (KnownObjects → Type 0) → List (List ℕ) → Type 0
-KnowsProgress has s knows done = (known : KnownObjects) × knows known × IsProgress has s known done
+abbrev pub KnowsProgress : Bool → Standing → KnownObjects → Standing → (KnownObjects → Type 0) → List (List ℕ) → Type 0
+KnowsProgress has s known now knows done = (later : KnownObjects) × knows later × IsProgress has now later done × KeepsAside s known now later

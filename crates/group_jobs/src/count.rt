@@ -12,9 +12,9 @@ ghost use Rattle.group_jobs.specs.declared.TheConstants.{WORKER};
 ghost use Rattle.heap_words.specs.Contents.{contents};
 ghost use Rattle.heap_words.specs.Map.{IsAreas, page_words};
 ghost use Rattle.yak_model.specs.Texts.{words_of};
-ghost use Rattle.group_jobs.specs.Alone.{HasListed, HoldsCounts, IsListed, TellsWhy, opening_standing};
+ghost use Rattle.group_jobs.specs.Alone.{HasListed, HasRoot, HoldsCounts, IsListed, TellsWhy, opening_known, opening_standing};
 ghost use Rattle.group_jobs.specs.LongWords.{has_long_word};
-ghost use Rattle.group_jobs.specs.Room.{tables_room};
+ghost use Rattle.group_jobs.specs.Room.{least_room};
 ghost use Rattle.group_jobs.specs.declared.TheConstants.{INPUT_LIMIT};
 
 use crate::counted::{Counted, sort_counts};
@@ -49,6 +49,7 @@ fn open_heap(alloc: Global, pages: u32) -> Result<CoreCaller<Image>, NoMemory>
     ensures map { IfOk result (λ caller. caller.core.map ≡ record { pages = pages; threads = 1 }) }
     ensures standing { IfOk result (λ caller. ⟦<CoreCaller<Image> as Caller>⟧.standing caller ≡ opening_standing) }
     ensures knows { IfOk result (λ caller. ⟦<CoreCaller<Image> as Caller>⟧.knows caller finite.empty) }
+    ensures root { IfOk result (λ caller. ⟦<CoreCaller<Image> as Caller>⟧.knows caller opening_known) }
     ensures present { IfOk result (λ caller. caller.present ≡ root_words) }
     ensures made { IfOk result (λ caller. caller.made ≡ 0) }
 {
@@ -98,7 +99,7 @@ fn close_heap(caller: CoreCaller<Image>) -> Core<Image>
     requires one { caller.core.map.threads ≡ 1 }
     requires areas { IsAreas caller.core.map }
     ensures map { result.map ≡ caller.core.map }
-    ensures holds { (has : Bool) (known : KnownObjects) (done : List (List ℕ)) → ⟦<CoreCaller<Image> as Caller>⟧.knows caller known → IsProgress has (⟦<CoreCaller<Image> as Caller>⟧.standing caller) known done → (⟦<CoreCaller<Image> as Caller>⟧.standing caller).own.depth ≡ 0 → HoldsCounts result.map (contents result.map (⟦<Image as Words>⟧.words result.words)) done }
+    ensures holds { (has : Bool) (known : KnownObjects) (done : List (List ℕ)) → ⟦<CoreCaller<Image> as Caller>⟧.knows caller known → IsProgress has (⟦<CoreCaller<Image> as Caller>⟧.standing caller) known done → HasRoot (⟦<CoreCaller<Image> as Caller>⟧.standing caller) known → (⟦<CoreCaller<Image> as Caller>⟧.standing caller).own.depth ≡ 0 → HoldsCounts result.map (contents result.map (⟦<Image as Words>⟧.words result.words)) done }
 {
     caller.into_core()
 }
@@ -121,7 +122,7 @@ pub fn count_one(
     ensures list { IfOk result (λ counted. counted.list.items ≡ counts_of (words_of bytes.now)) }
     ensures map { IfOk result (λ counted. counted.core.map ≡ record { pages = pages; threads = 1 }) }
     ensures heap { IfOk result (λ counted. HoldsCounts counted.core.map (contents counted.core.map (⟦<Image as Words>⟧.words counted.core.words)) (words_of bytes.now)) }
-    ensures room { IfOk result (λ _. tables_room (words_of bytes.now) ≤ page_words (record { pages = pages; threads = 1 }) * pages) }
+    ensures room { IfOk result (λ _. least_room (words_of bytes.now) ≤ page_words (record { pages = pages; threads = 1 }) * pages) }
     ensures why { IfErr result (λ error. TellsWhy (record { pages = pages; threads = 1 }) lines bytes.now error) }
 {
     let Ok(tasks) = cut_tasks(alloc, bytes, lines) else {

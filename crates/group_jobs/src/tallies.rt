@@ -30,7 +30,7 @@ fn count_word<C: Caller>(caller: &mut C, word: &[u8]) -> Result<(), OutOfHeap>
     requires slots { length (stack_in (C.standing caller.old)) ≡ PART_SLOT + 1 }
     ensures went { OnOk result (Went C.base C.tells C.tells_known C.standing caller.old caller.new (key_words word.now + entry_words)) }
     ensures place { OnOk result (KeepsPlace (C.standing caller.old).own (C.standing caller.new).own 2) }
-    ensures counted { OnOk result ((known : KnownObjects) (done doing : List (List ℕ)) → C.knows caller.old known → Tallies (C.standing caller.old) known done doing → length done + (length doing + 1) ≤ MOST_WORDS → KnowsTallies (C.standing caller.new) (C.knows caller.new) done (doing ++ word.now ∷ [])) }
+    ensures counted { OnOk result ((known : KnownObjects) (done doing : List (List ℕ)) → C.knows caller.old known → Tallies (C.standing caller.old) known done doing → length done + (length doing + 1) ≤ MOST_WORDS → KnowsTallies (C.standing caller.old) known (C.standing caller.new) (C.knows caller.new) done (doing ++ word.now ∷ [])) }
     ensures out { OnErr result (WentOut C.base C.tells C.tells_known C.standing caller.old caller.new (C.standing caller.old).own.depth (key_words word.now + entry_words)) }
 {
     add(caller, PART_SLOT, word, 1)
@@ -45,7 +45,7 @@ fn count_words<C: Caller>(caller: &mut C, bytes: &[u8]) -> Result<(), OutOfHeap>
     requires slots { length (stack_in (C.standing caller.old)) ≡ PART_SLOT + 1 }
     ensures went { OnOk result (Went C.base C.tells C.tells_known C.standing caller.old caller.new (part_room (words_of bytes.now))) }
     ensures place { OnOk result (KeepsPlace (C.standing caller.old).own (C.standing caller.new).own (2 * length (words_of bytes.now))) }
-    ensures counted { OnOk result ((known : KnownObjects) (done doing : List (List ℕ)) → C.knows caller.old known → Tallies (C.standing caller.old) known done doing → length done + (length doing + length (words_of bytes.now)) ≤ MOST_WORDS → KnowsTallies (C.standing caller.new) (C.knows caller.new) done (doing ++ words_of bytes.now)) }
+    ensures counted { OnOk result ((known : KnownObjects) (done doing : List (List ℕ)) → C.knows caller.old known → Tallies (C.standing caller.old) known done doing → length done + (length doing + length (words_of bytes.now)) ≤ MOST_WORDS → KnowsTallies (C.standing caller.old) known (C.standing caller.new) (C.knows caller.new) done (doing ++ words_of bytes.now)) }
     ensures out { OnErr result (WentOut C.base C.tells C.tells_known C.standing caller.old caller.new (C.standing caller.old).own.depth (part_room (words_of bytes.now))) }
 {
     let mut words = Words::of(bytes);
@@ -65,7 +65,7 @@ fn open_part<C: Caller>(caller: &mut C) -> Result<(), OutOfHeap>
     ensures slots { OnOk result (length (stack_in (C.standing caller.new)) ≡ PART_SLOT + 1) }
     ensures depth { OnOk result ((C.standing caller.new).own.depth ≡ (C.standing caller.old).own.depth) }
     ensures made { OnOk result ((C.standing caller.new).own.made ≡ (C.standing caller.old).own.made + 1) }
-    ensures opened { OnOk result ((known : KnownObjects) (done : List (List ℕ)) → C.knows caller.old known → Tally (C.standing caller.old) known done → KnowsTallies (C.standing caller.new) (C.knows caller.new) done []) }
+    ensures opened { OnOk result ((known : KnownObjects) (done : List (List ℕ)) → C.knows caller.old known → Tally (C.standing caller.old) known done → KnowsTallies (C.standing caller.old) known (C.standing caller.new) (C.knows caller.new) done []) }
     ensures out { OnErr result (WentOut C.base C.tells C.tells_known C.standing caller.old caller.new (C.standing caller.old).own.depth table_words) }
 {
     make(caller)
@@ -79,7 +79,7 @@ fn close_part<C: Caller>(caller: &mut C) -> Result<(), OutOfHeap>
     requires slots { length (stack_in (C.standing caller.old)) ≡ PART_SLOT + 1 }
     ensures slots { OnOk result (length (stack_in (C.standing caller.new)) ≡ PART_SLOT) }
     ensures depth { OnOk result ((C.standing caller.new).own.depth ≡ (C.standing caller.old).own.depth) }
-    ensures closed { OnOk result ((known : KnownObjects) (done doing : List (List ℕ)) → C.knows caller.old known → Tallies (C.standing caller.old) known done doing → length done + length doing ≤ MOST_WORDS → KnowsTally (C.standing caller.new) (C.knows caller.new) (done ++ doing) × Went C.base C.tells C.tells_known C.standing caller.old caller.new (entry_words * length doing) × ((C.standing caller.new).own.made ≤ (C.standing caller.old).own.made + length doing)) }
+    ensures closed { OnOk result ((known : KnownObjects) (done doing : List (List ℕ)) → C.knows caller.old known → Tallies (C.standing caller.old) known done doing → length done + length doing ≤ MOST_WORDS → KnowsTally (C.standing caller.old) known (C.standing caller.new) (C.knows caller.new) (done ++ doing) × Went C.base C.tells C.tells_known C.standing caller.old caller.new (entry_words * length doing) × ((C.standing caller.new).own.made ≤ (C.standing caller.old).own.made + length doing)) }
     ensures out { OnErr result ((known : KnownObjects) (done doing : List (List ℕ)) → C.knows caller.old known → Tallies (C.standing caller.old) known done doing → length done + length doing ≤ MOST_WORDS → WentOut C.base C.tells C.tells_known C.standing caller.old caller.new (C.standing caller.old).own.depth (entry_words * length doing)) }
 {
     merge(caller, PART_SLOT, TOTAL_SLOT)?;
@@ -98,7 +98,7 @@ fn count_part<C: Caller>(caller: &mut C, bytes: &[u8]) -> Result<(), OutOfHeap>
     ensures slots { OnOk result (length (stack_in (C.standing caller.new)) ≡ PART_SLOT) }
     ensures depth { OnOk result ((C.standing caller.new).own.depth ≡ (C.standing caller.old).own.depth) }
     ensures made { OnOk result ((C.standing caller.new).own.made ≤ (C.standing caller.old).own.made + (3 * length (words_of bytes.now) + 1)) }
-    ensures counted { OnOk result ((known : KnownObjects) (done : List (List ℕ)) → C.knows caller.old known → Tally (C.standing caller.old) known done → length done + length (words_of bytes.now) ≤ MOST_WORDS → KnowsTally (C.standing caller.new) (C.knows caller.new) (done ++ words_of bytes.now)) }
+    ensures counted { OnOk result ((known : KnownObjects) (done : List (List ℕ)) → C.knows caller.old known → Tally (C.standing caller.old) known done → length done + length (words_of bytes.now) ≤ MOST_WORDS → KnowsTally (C.standing caller.old) known (C.standing caller.new) (C.knows caller.new) (done ++ words_of bytes.now)) }
     ensures out { OnErr result (WentOut C.base C.tells C.tells_known C.standing caller.old caller.new (C.standing caller.old).own.depth (table_words + words_room (words_of bytes.now))) }
 {
     open_part(caller)?;
@@ -119,7 +119,7 @@ fn count_epoch<C: Caller>(caller: &mut C, bytes: &[u8]) -> Result<(), OutOfHeap>
     ensures slots { OnOk result (length (stack_in (C.standing caller.new)) ≡ PART_SLOT) }
     ensures depth { OnOk result ((C.standing caller.new).own.depth ≡ 0) }
     ensures made { OnOk result ((C.standing caller.new).own.made ≤ (C.standing caller.old).own.made + (3 * length (words_of bytes.now) + 1)) }
-    ensures counted { OnOk result ((known : KnownObjects) (done : List (List ℕ)) → C.knows caller.old known → Tally (C.standing caller.old) known done → length done + length (words_of bytes.now) ≤ MOST_WORDS → KnowsTally (C.standing caller.new) (C.knows caller.new) (done ++ words_of bytes.now)) }
+    ensures counted { OnOk result ((known : KnownObjects) (done : List (List ℕ)) → C.knows caller.old known → Tally (C.standing caller.old) known done → length done + length (words_of bytes.now) ≤ MOST_WORDS → KnowsTally (C.standing caller.old) known (C.standing caller.new) (C.knows caller.new) (done ++ words_of bytes.now)) }
     ensures out { OnErr result (WentOut C.base C.tells C.tells_known C.standing caller.old caller.new 1 (table_words + words_room (words_of bytes.now))) }
 {
     begin(caller);
@@ -150,7 +150,7 @@ fn open_total<C: Caller>(caller: &mut C, has_total: bool) -> Result<(), OutOfHea
     ensures slots { OnOk result (length (stack_in (C.standing caller.new)) ≡ PART_SLOT) }
     ensures depth { OnOk result ((C.standing caller.new).own.depth ≡ (C.standing caller.old).own.depth) }
     ensures made { OnOk result ((C.standing caller.new).own.made ≤ (C.standing caller.old).own.made + 1) }
-    ensures opened { OnOk result ((known : KnownObjects) (done : List (List ℕ)) → C.knows caller.old known → IsProgress has_total (C.standing caller.old) known done → KnowsTally (C.standing caller.new) (C.knows caller.new) done) }
+    ensures opened { OnOk result ((known : KnownObjects) (done : List (List ℕ)) → C.knows caller.old known → IsProgress has_total (C.standing caller.old) known done → KnowsTally (C.standing caller.old) known (C.standing caller.new) (C.knows caller.new) done) }
     ensures out { OnErr result (WentOut C.base C.tells C.tells_known C.standing caller.old caller.new (C.standing caller.old).own.depth (cond has_total 0 table_words)) }
 {
     if has_total {
@@ -179,7 +179,7 @@ fn count_task<C: Caller>(caller: &mut C, has_total: bool, bytes: &[u8]) -> Resul
     ensures depth { OnOk result ((C.standing caller.new).own.depth ≡ 0) }
     ensures made { OnOk result ((C.standing caller.new).own.made ≤ (C.standing caller.old).own.made + OBJECTS_FOR_WORD * length (words_of bytes.now)) }
     ensures has { IfOk result (λ has. has ≡ (has_total || is_busy (words_of bytes.now))) }
-    ensures counted { IfOk result (λ has. (known : KnownObjects) (done : List (List ℕ)) → C.knows caller.old known → IsProgress has_total (C.standing caller.old) known done → length done + length (words_of bytes.now) ≤ MOST_WORDS → KnowsProgress has (C.standing caller.new) (C.knows caller.new) (done ++ words_of bytes.now)) }
+    ensures counted { IfOk result (λ has. (known : KnownObjects) (done : List (List ℕ)) → C.knows caller.old known → IsProgress has_total (C.standing caller.old) known done → length done + length (words_of bytes.now) ≤ MOST_WORDS → KnowsProgress has (C.standing caller.old) known (C.standing caller.new) (C.knows caller.new) (done ++ words_of bytes.now)) }
     ensures out { OnErr result (WentOut C.base C.tells C.tells_known C.standing caller.old caller.new 1 (new_total has_total true + task_room (words_of bytes.now))) }
 {
     if !has_words(bytes) {
@@ -208,7 +208,7 @@ pub(crate) fn count_tasks<C: Caller>(
     ensures went { OnOk result (Went C.base C.tells C.tells_known C.standing caller.old caller.new (table_words + tasks_room bytes.now tasks.now)) }
     ensures depth { OnOk result ((C.standing caller.new).own.depth ≡ 0) }
     ensures has { IfOk result (λ has. has ≡ is_busy (words_in bytes.now tasks.now)) }
-    ensures counted { IfOk result (λ has. (known : KnownObjects) → C.knows caller.old known → KnowsProgress has (C.standing caller.new) (C.knows caller.new) (words_in bytes.now tasks.now)) }
+    ensures counted { IfOk result (λ has. (known : KnownObjects) → C.knows caller.old known → KnowsProgress has (C.standing caller.old) known (C.standing caller.new) (C.knows caller.new) (words_in bytes.now tasks.now)) }
     ensures out { OnErr result (WentOut C.base C.tells C.tells_known C.standing caller.old caller.new 1 (table_words + tasks_room bytes.now tasks.now)) }
 {
     let mut has_total = false;

@@ -1,9 +1,13 @@
-use Rattle.std.proofs.Common.{◌≡◌, ℕ, ◌*◌, ◌≤◌, List, [], length, refl, ◌∙◌, ap, sym, subst, arith, false, Bool}
+use Rattle.std.proofs.Common.{◌≡◌, ℕ, ◌*◌, ◌≤◌, List, [], length, get_or, replicate, refl, ◌∙◌, ap, sym, subst, arith, false, Bool}
 use Rattle.std.specs.FinMap.{empty}
+use Rattle.yak_model.specs.declared.TheConstants.{ROOT_FIELDS}
+use Rattle.yak_model.specs.declared.datum.Datum.TheVariants as datum
+use Rattle.yak_model.specs.Names.{root_name}
+use Rattle.yak_model.proofs.Names.{get-same}
 use Rattle.yak_model.specs.Graph.{Thread}
 use Rattle.yak_model.specs.Standing.{Standing}
 use Rattle.yak_model.specs.Texts.{words_of}
-use Rattle.group_jobs.specs.Alone.{IsListed}
+use Rattle.group_jobs.specs.Alone.{IsListed, opening_known, root_object}
 use Rattle.group_jobs.specs.Tallies.{AreShort, IsProgress, words_in}
 use Rattle.group_jobs.specs.Tasks.{AreTasks}
 use Rattle.group_jobs.specs.declared.TheConstants.{INPUT_LIMIT, MOST_WORDS}
@@ -13,8 +17,8 @@ use Rattle.yak_model.specs.Private.{KnownObjects}
 use Rattle.group_jobs.specs.LongWords.{has_long_word}
 use Rattle.group_jobs.proofs.Progress.{progress_same}
 use Rattle.group_jobs.proofs.Starting.{few_words, tasks_within}
-use Rattle.group_jobs.proofs.Least.{room_held}
-use Rattle.group_jobs.specs.Room.{tables_room}
+use Rattle.group_jobs.proofs.Least.{room_held, root_aside}
+use Rattle.group_jobs.specs.Room.{least_room}
 use Rattle.heap_words.specs.declared.map.Areas.{Areas}
 use Rattle.heap_words.specs.Map.{page_words}
 use Rattle.group_jobs.proofs.count.count_one.Goals as goal
@@ -58,14 +62,18 @@ returns-clause-list c =
 
 pub returns-clause-heap : goal.returns-clause-heap
 returns-clause-heap c =
-    let r = c.in-Ok-count_tasks.ensures.counted empty c.in-Ok-open_heap.ensures.knows in
+    let r = c.in-Ok-count_tasks.ensures.counted opening_known c.in-Ok-open_heap.ensures.root in
     let l = listed c.args.bytes.now c.deref.result.now c.in-Ok.tasks.items c.in-Ok-count_tasks.has_total _ r.0 c.deref.ensures.value c.in-Ok.ensures.words c.requires.short c.requires.words r.2 in
     let own = c.in-Ok-list_counts.ensures.own in
     c.close_heap-core.ensures.holds c.in-Ok-count_tasks.has_total r.0 (words_of c.args.bytes.now) (c.in-Ok-list_counts.ensures.kept r.0 (words_of c.args.bytes.now) r.1 l)
     (progress_same c.in-Ok-count_tasks.has_total _ _ r.0 (words_of c.args.bytes.now) (ap (λ (o : Thread). o.stack) own) l.progress)
+    (record {
+      slot = ap (λ (o : Thread). get_or o.stack 0 datum.Null) own ∙ r.3.slot ∙ ap (λ (s : Standing). get_or (s.own).stack 0 datum.Null) c.in-Ok-open_heap.ensures.standing;
+      object = r.3.objects root_name (replicate ROOT_FIELDS datum.Null) (get-same empty root_name root_object) root_aside;
+    })
     (ap (λ (o : Thread). o.depth) own ∙ c.in-Ok-count_tasks.ensures.depth)
 
 pub returns-clause-room : goal.returns-clause-room
 returns-clause-room c =
     let map : c.close_heap-core.result.map ≡ record { pages = c.args.pages; threads = 1 } = c.close_heap-core.ensures.map ∙ ap (λ (b : Areas × Areas × ℕ). b.0) (c.list_counts.ensures.base ∙ c.in-Ok-count_tasks.ensures.went.stays.0) ∙ c.in-Ok-open_heap.ensures.map in
-    subst (λ (m : Areas). tables_room (words_of c.args.bytes.now) ≤ page_words m * m.pages) map (room_held _ _ (words_of c.args.bytes.now) (returns-clause-heap c))
+    subst (λ (m : Areas). least_room (words_of c.args.bytes.now) ≤ page_words m * m.pages) map (room_held _ _ (words_of c.args.bytes.now) (returns-clause-heap c))

@@ -1,4 +1,4 @@
-use Rattle.std.proofs.Common.{◌≡◌, ℕ, None, Option, replicate, ap, ◌∙◌}
+use Rattle.std.proofs.Common.{◌≡◌, ℕ, None, Option, replicate, ap, sym, subst, ◌∙◌}
 use Rattle.std.specs.FinMap.{empty, entries-insert, put}
 use Rattle.std.specs.List.{sum_by}
 use Rattle.object_layout.specs.declared.names.Name.{Name}
@@ -11,11 +11,13 @@ use Rattle.yak_model.specs.Lawful.{present_words}
 use Rattle.yak_model.specs.Names.{name_cmp, root_name}
 use Rattle.yak_model.specs.Room.{root_words}
 use Rattle.yak_model.specs.Spaces.{opening_spaces}
+use Rattle.yak_model.specs.Stands.{Stands}
 use Rattle.yak_model.proofs.Names.{name_cmp_total}
 use Rattle.heap_core.specs.Callers.{standing_told, thread_told}
 use Rattle.group_jobs.specs.Alone.{opening_standing}
 use Rattle.group_jobs.specs.declared.TheConstants.{WORKER}
 use Rattle.group_jobs.proofs.Nothing.{no_entries}
+use Rattle.group_jobs.proofs.RootKnown.{knows_root}
 use Rattle.group_jobs.proofs.count.open_heap.Goals as goal
 
 told_standing : (c : Contents) (t made refusals : ℕ) (last : Option (Census × ℕ × ℕ)) → t ≡ WORKER → thread_told c WORKER ≡ opening_standing.own → made ≡ 0 → refusals ≡ 0 → last ≡ None → standing_told c t made refusals last ≡ opening_standing
@@ -43,3 +45,11 @@ returns-in-Ok-clause-knows c = c.as_caller.ensures.begins (opening_spaces standa
 
 pub returns-in-Ok-clause-present : goal.returns-in-Ok-clause-present
 returns-in-Ok-clause-present c = c.as_caller.ensures.present (opening_spaces standard_limits 1) c.in-Ok.ensures.opening.0 ∙ present_opening
+
+pub returns-in-Ok-clause-root : goal.returns-in-Ok-clause-root
+returns-in-Ok-clause-root c =
+    let core = c.as_caller.result.core in
+    let state = opening_spaces standard_limits WORKER in
+    knows_root core.map (contents core.map core.words.words.items) c.as_caller.result.thread c.as_caller.ensures.thread
+    (subst (λ items. Stands core.map (contents core.map items) state) (sym c.as_caller.ensures.words)
+    (subst (λ m. Stands m (contents m c.in-Ok.core.words.words.items) state) (sym c.as_caller.ensures.map) c.in-Ok.ensures.opening.0))

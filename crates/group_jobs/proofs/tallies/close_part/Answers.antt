@@ -56,7 +56,7 @@ returns-clause-closed g c known done doing k t few =
     let r = c.in_ok-merge.ensures.merged known t.name t.total.name (word_counts doing) (word_counts done) (may_merge s known done doing t few) k in
     let n = few_new doing known t.name t.table (word_counts done) in
     let made = ap (λ (o : Thread). o.made) c.drop_top.ensures.popped ∙ ap (λ (o : Thread). o.made) r.own in (
-      merged_tally s (C.standing c.drop_top.new.caller) known r.later (C.knows c.drop_top.new.caller) done doing t (C.standing c.merge.new.caller).own.stack (ap (λ (o : Thread). o.stack) r.own) c.requires.slots (ap (λ (o : Thread). o.stack) c.drop_top.ensures.popped) (c.drop_top.ensures.keeps r.later r.known_now) r.sums r.sums_are r.into_table,
+      merged_tally s (C.standing c.drop_top.new.caller) known r.later (C.knows c.drop_top.new.caller) done doing t (C.standing c.merge.new.caller).own.stack (ap (λ (o : Thread). o.stack) r.own) c.requires.slots (ap (λ (o : Thread). o.stack) c.drop_top.ensures.popped) (c.drop_top.ensures.keeps r.later r.known_now) r.sums r.sums_are r.into_table r.untouched,
       went_then C.base C.tells C.tells_known C.standing c.args.caller.now c.merge.new.caller c.drop_top.new.caller (entry_words * length doing) 0 (entry_words * length doing) (omega arith)
           (went_ran C.base C.tells C.tells_known C.standing c.args.caller.now c.merge.new.caller (r.made * entry_words) (entry_words * length doing) (omega (arith, n, r.new_words)) r.ran)
           (went_ran C.base C.tells C.tells_known C.standing c.merge.new.caller c.drop_top.new.caller 0 0 (omega arith) c.drop_top.ensures.ran),

@@ -3,6 +3,7 @@ use Rattle.yak_model.specs.Graph.{Thread}
 use Rattle.yak_model.specs.Room.{table_words}
 use Rattle.yak_model.specs.Texts.{words_of}
 use Rattle.group_jobs.specs.Tallies.{words_room}
+use Rattle.group_jobs.proofs.Aside.{aside_same, aside_then}
 use Rattle.group_jobs.proofs.Joined.{went_out}
 use Rattle.group_jobs.proofs.Progress.{tally_same}
 use Rattle.group_jobs.proofs.Rooms.{err_of}
@@ -33,4 +34,10 @@ pub returns-clause-counted : goal.returns-clause-counted
 returns-clause-counted g c known done k t few =
     let C = g.C.Caller in
     let r = c.in_ok-count_part.ensures.counted known done (c.begin.ensures.keeps known k) (tally_same (C.standing c.args.caller.now) (C.standing c.begin.new.caller) known done (ap (λ (o : Thread). o.stack) c.begin.ensures.own) t) few in
-    (r.0, c.end.ensures.keeps r.0 r.1, tally_same (C.standing c.count_part.new.caller) (C.standing c.end.new.caller) r.0 _ (ap (λ (o : Thread). o.stack) c.end.ensures.own) r.2)
+    let begun = aside_same (C.standing c.args.caller.now) (C.standing c.begin.new.caller) known (ap (λ (o : Thread). o.stack) c.begin.ensures.own) in
+    let ended = aside_same (C.standing c.count_part.new.caller) (C.standing c.end.new.caller) r.0 (ap (λ (o : Thread). o.stack) c.end.ensures.own) in (
+      r.0,
+      c.end.ensures.keeps r.0 r.1,
+      tally_same (C.standing c.count_part.new.caller) (C.standing c.end.new.caller) r.0 _ (ap (λ (o : Thread). o.stack) c.end.ensures.own) r.2,
+      aside_then (C.standing c.args.caller.now) (C.standing c.count_part.new.caller) (C.standing c.end.new.caller) known r.0 r.0 (aside_then (C.standing c.args.caller.now) (C.standing c.begin.new.caller) (C.standing c.count_part.new.caller) known known r.0 begun r.3) ended,
+    )

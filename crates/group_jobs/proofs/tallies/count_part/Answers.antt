@@ -1,9 +1,10 @@
-use Rattle.std.proofs.Common.{◌+◌, ◌*◌, [], length, arith}
+use Rattle.std.proofs.Common.{◌+◌, ◌*◌, [], ◌++◌, length, arith}
 use Rattle.yak_model.specs.Room.{entry_words, table_words}
 use Rattle.yak_model.specs.Texts.{words_of}
 use Rattle.heap_tables.proofs.OnResult.{ok_map, err_map}
 use Rattle.group_jobs.specs.Goings.{Went}
 use Rattle.group_jobs.specs.Tallies.{part_room, words_room}
+use Rattle.group_jobs.proofs.Aside.{aside_then, tally_then}
 use Rattle.group_jobs.proofs.Joined.{went_out, went_then}
 use Rattle.group_jobs.proofs.Rooms.{err_of, words_parts}
 use Rattle.group_jobs.proofs.tallies.count_part.Goals as goal
@@ -61,10 +62,12 @@ returns-clause-made g c = ok_map c.close_part.result _ _
 pub returns-clause-counted : goal.returns-clause-counted
 returns-clause-counted g c = ok_map c.close_part.result _ _
     (λ closed known done k t few.
+    let C = g.C.Caller in
     let words = words_of c.args.bytes.now in
     let r = c.in_ok-open_part.ensures.opened known done k t in
     let u = c.in_ok-count_words.ensures.counted r.0 done [] r.1 r.2 (omega (arith, few)) in
-    (closed u.0 done words u.1 u.2 few).0)
+    let kept = aside_then (C.standing c.args.caller.now) (C.standing c.open_part.new.caller) (C.standing c.count_words.new.caller) known r.0 u.0 r.3 u.3 in
+    tally_then (C.standing c.args.caller.now) (C.standing c.count_words.new.caller) (C.standing c.close_part.new.caller) known u.0 (C.knows c.close_part.new.caller) (done ++ words) kept (closed u.0 done words u.1 u.2 few).0)
     c.close_part.ensures.closed
 
 pub returns-clause-out : goal.returns-clause-out

@@ -4,6 +4,7 @@ use Rattle.yak_model.specs.Graph.{Thread}
 use Rattle.yak_model.specs.Room.{table_words}
 use Rattle.yak_model.specs.Texts.{words_of}
 use Rattle.group_jobs.specs.Tallies.{KnowsProgress, new_total, task_room, words_room}
+use Rattle.group_jobs.proofs.Aside.{aside_same, aside_then}
 use Rattle.group_jobs.proofs.Joined.{went_out, went_then}
 use Rattle.group_jobs.proofs.Progress.{busy_room, not_busy, progress_same}
 use Rattle.group_jobs.proofs.Rooms.{err_of}
@@ -13,8 +14,8 @@ pub returns-then-not-has_words-clause-counted : goal.returns-then-not-has_words-
 returns-then-not-has_words-clause-counted g c known done k progress few =
     let C = g.C.Caller in
     let none : words_of c.args.bytes.now ≡ [] = not_busy (words_of c.args.bytes.now) (sym (c.if-not-has_words.ensures)) in
-    subst (KnowsProgress c.args.has_total (C.standing c.pass_epoch.new.caller) (C.knows c.pass_epoch.new.caller)) (sym (append-nil done) ∙ ap (λ ws. done ++ ws) (sym none))
-    (known, c.pass_epoch.ensures.keeps known k, progress_same c.args.has_total (C.standing c.args.caller.now) (C.standing c.pass_epoch.new.caller) known done (ap (λ (o : Thread). o.stack) c.pass_epoch.ensures.own) progress)
+    subst (KnowsProgress c.args.has_total (C.standing c.args.caller.now) known (C.standing c.pass_epoch.new.caller) (C.knows c.pass_epoch.new.caller)) (sym (append-nil done) ∙ ap (λ ws. done ++ ws) (sym none))
+    (known, c.pass_epoch.ensures.keeps known k, progress_same c.args.has_total (C.standing c.args.caller.now) (C.standing c.pass_epoch.new.caller) known done (ap (λ (o : Thread). o.stack) c.pass_epoch.ensures.own) progress, aside_same (C.standing c.args.caller.now) (C.standing c.pass_epoch.new.caller) known (ap (λ (o : Thread). o.stack) c.pass_epoch.ensures.own))
 
 pub open_total-requires-clause-progress : goal.open_total-requires-clause-progress
 open_total-requires-clause-progress g c = let h = c.requires.progress in (h.0, h.1, h.2, h.3, omega (arith, h.4))
@@ -40,6 +41,7 @@ returns-clause-went g c =
 
 pub returns-clause-counted : goal.returns-clause-counted
 returns-clause-counted g c known done k progress few =
+    let C = g.C.Caller in
     let r = c.in_ok-open_total.ensures.opened known done k progress in
     let t = c.in_ok-count_epoch.ensures.counted r.0 done r.1 r.2 few in
-    (t.0, t.1, (c.in_ok-count_epoch.ensures.slots, t.2))
+    (t.0, t.1, (c.in_ok-count_epoch.ensures.slots, t.2), aside_then (C.standing c.args.caller.now) (C.standing c.open_total.new.caller) (C.standing c.count_epoch.new.caller) known r.0 t.0 r.3 t.3)

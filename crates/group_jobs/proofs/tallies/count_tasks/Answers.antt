@@ -1,9 +1,10 @@
-use Rattle.std.proofs.Common.{ℕ, ◌+◌, ◌≤◌, ◌||◌, List, true, false, take, length, get_or, ap, sym, subst, refl, ◌∙◌, arith, length-append}
+use Rattle.std.proofs.Common.{ℕ, ◌+◌, ◌≤◌, ◌||◌, List, ◌++◌, true, false, take, length, get_or, ap, sym, subst, refl, ◌∙◌, arith, length-append}
 use Rattle.yak_model.specs.Room.{table_words}
 use Rattle.yak_model.specs.Texts.{words_of}
 use Rattle.group_jobs.specs.declared.tasks.Task.{Task}
 use Rattle.group_jobs.specs.Tallies.{KnowsProgress, is_busy, new_total, task_room, tasks_room, words_in}
 use Rattle.group_jobs.specs.Tasks.{task_bytes}
+use Rattle.group_jobs.proofs.Aside.{aside_same, progress_then}
 use Rattle.group_jobs.proofs.Joined.{went_most, went_none, went_out, went_then}
 use Rattle.group_jobs.proofs.Passing.{busy_next, room_next, room_within, total_most, total_next, total_out, whole, words_next, words_short, words_size}
 use Rattle.group_jobs.proofs.Rooms.{err_of}
@@ -18,7 +19,7 @@ tasks-init g c = let C = g.C.Caller in let h = c.requires.opened in record {
   depth = c.requires.outside;
   made = omega arith;
   has = refl;
-  counted = λ known k. (known, k, (h.3.0, refl));
+  counted = λ known k. (known, k, (h.3.0, refl), aside_same (C.standing c.args.caller.now) (C.standing c.args.caller.now) known refl);
 }
 
 pub count_task-requires-clause-progress : goal.count_task-requires-clause-progress
@@ -70,8 +71,9 @@ tasks-preserved g c =
       counted = λ known k.
           let r = inv.counted known k in
           let h = c.requires.opened in
-          subst (KnowsProgress c.in_ok-has_total.has_total (C.standing c.count_task.new.caller) (C.knows c.count_task.new.caller)) (sym later)
-          (done.counted r.0 (words_in bytes (take i tasks)) r.1 r.2 (omega (arith, h.4, size)));
+          subst (KnowsProgress c.in_ok-has_total.has_total (C.standing c.args.caller.now) known (C.standing c.count_task.new.caller) (C.knows c.count_task.new.caller)) (sym later)
+          (progress_then c.in_ok-has_total.has_total (C.standing c.args.caller.now) (C.standing c.tasks.caller) (C.standing c.count_task.new.caller) known r.0 (C.knows c.count_task.new.caller) (words_in bytes (take i tasks) ++ words) r.3
+          (done.counted r.0 (words_in bytes (take i tasks)) r.1 r.2 (omega (arith, h.4, size))));
     }
 
 pub returns-clause-went : goal.returns-clause-went
@@ -87,4 +89,4 @@ returns-clause-has g c = c.tasks.invariant.has ∙ ap (λ ts. is_busy (words_in 
 pub returns-clause-counted : goal.returns-clause-counted
 returns-clause-counted g c known k =
     let C = g.C.Caller in
-    subst (λ ts. KnowsProgress c.tasks.has_total (C.standing c.tasks.caller) (C.knows c.tasks.caller) (words_in c.args.bytes.now ts)) (whole c.args.tasks.now c.tasks.task-index c.tasks-test.false) (c.tasks.invariant.counted known k)
+    subst (λ ts. KnowsProgress c.tasks.has_total (C.standing c.args.caller.now) known (C.standing c.tasks.caller) (C.knows c.tasks.caller) (words_in c.args.bytes.now ts)) (whole c.args.tasks.now c.tasks.task-index c.tasks-test.false) (c.tasks.invariant.counted known k)

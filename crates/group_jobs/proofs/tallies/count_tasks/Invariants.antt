@@ -11,5 +11,5 @@ invariant-tasks g l = let C = g.C.Caller in let passed = take l.task-index l.tas
   depth : (C.standing l.caller).own.depth ≡ 0;
   made : (C.standing l.caller).own.made ≤ (C.standing l.fn.caller).own.made + OBJECTS_FOR_WORD * length (words_in l.bytes passed);
   has : l.has_total ≡ is_busy (words_in l.bytes passed);
-  counted : (known : KnownObjects) → C.knows l.fn.caller known → KnowsProgress l.has_total (C.standing l.caller) (C.knows l.caller) (words_in l.bytes passed);
+  counted : (known : KnownObjects) → C.knows l.fn.caller known → KnowsProgress l.has_total (C.standing l.fn.caller) known (C.standing l.caller) (C.knows l.caller) (words_in l.bytes passed);
 }

@@ -4,6 +4,7 @@ use Rattle.yak_model.specs.Room.{entry_words, key_words}
 use Rattle.yak_model.specs.Texts.{words_of}
 use Rattle.object_layout.specs.declared.TheConstants.{WORD_LIMIT}
 use Rattle.group_jobs.specs.Tallies.{KnowsTallies, part_room}
+use Rattle.group_jobs.proofs.Aside.{aside_same, tallies_then}
 use Rattle.group_jobs.proofs.Joined.{went_none, went_out, went_then}
 use Rattle.group_jobs.proofs.Rooms.{err_of, next_all, next_parts, next_size, next_sum, place_then, push_size, push_sum}
 use Rattle.group_jobs.proofs.tallies.count_words.Goals as goal
@@ -14,7 +15,7 @@ words-init g c = let C = g.C.Caller in record {
   parts = sym c.of-words.ensures;
   went = went_none C.base C.tells C.tells_known C.standing c.args.caller.now;
   place = record { stack = refl; depth = refl; made = omega arith };
-  counted = λ known done doing k t few. subst (KnowsTallies (C.standing c.args.caller.now) (C.knows c.args.caller.now) done) (sym (append-nil doing)) (known, k, t);
+  counted = λ known done doing k t few. subst (KnowsTallies (C.standing c.args.caller.now) known (C.standing c.args.caller.now) (C.knows c.args.caller.now) done) (sym (append-nil doing)) (known, k, t, aside_same (C.standing c.args.caller.now) (C.standing c.args.caller.now) known refl);
 }
 
 pub count_word-requires-clause-tables : goal.count_word-requires-clause-tables
@@ -47,8 +48,9 @@ words-preserved g c =
       counted = λ known done doing k t few.
           let r = inv.counted known done doing k t few in
           let size = next_size all_of inv.passed c.next.new.self word parts in
-          subst (KnowsTallies (C.standing c.count_word.new.caller) (C.knows c.count_word.new.caller) done) (append_assoc doing inv.passed (word ∷ []))
-          (c.in_ok-count_word.ensures.counted r.0 done (doing ++ inv.passed) r.1 r.2 (omega (arith, size, few, length-append doing inv.passed)));
+          subst (KnowsTallies (C.standing c.args.caller.now) known (C.standing c.count_word.new.caller) (C.knows c.count_word.new.caller) done) (append_assoc doing inv.passed (word ∷ []))
+          (tallies_then (C.standing c.args.caller.now) (C.standing c.words.caller) (C.standing c.count_word.new.caller) known r.0 (C.knows c.count_word.new.caller) done ((doing ++ inv.passed) ++ word ∷ []) r.3
+          (c.in_ok-count_word.ensures.counted r.0 done (doing ++ inv.passed) r.1 r.2 (omega (arith, size, few, length-append doing inv.passed))));
     }
 
 pub returns-in_err-count_word-clause-out : goal.returns-in_err-count_word-clause-out
@@ -67,4 +69,4 @@ returns-clause-counted g c known done doing k t few =
     let inv = c.words.invariant in
     let r = inv.counted known done doing k t few in
     let all : inv.passed ≡ words_of c.args.bytes.now = sym (append-nil inv.passed) ∙ sym (inv.parts ∙ ap (λ ws. inv.passed ++ ws) (c.in_default.ensures.value).0) in
-    subst (λ ws. KnowsTallies (C.standing c.words.caller) (C.knows c.words.caller) done (doing ++ ws)) all r
+    subst (λ ws. KnowsTallies (C.standing c.args.caller.now) known (C.standing c.words.caller) (C.knows c.words.caller) done (doing ++ ws)) all r

@@ -12,7 +12,7 @@ invariant-words g l = let C = g.C.Caller in record {
   parts : words_of l.fn.bytes ≡ passed ++ l.words;
   went : Went C.base C.tells C.tells_known C.standing l.fn.caller l.caller (part_room passed);
   place : KeepsPlace (C.standing l.fn.caller).own (C.standing l.caller).own (2 * length passed);
-  counted : (known : KnownObjects) (done doing : List (List ℕ)) → C.knows l.fn.caller known → Tallies (C.standing l.fn.caller) known done doing → length done + (length doing + length (words_of l.fn.bytes)) ≤ MOST_WORDS → KnowsTallies (C.standing l.caller) (C.knows l.caller) done (doing ++ passed);
+  counted : (known : KnownObjects) (done doing : List (List ℕ)) → C.knows l.fn.caller known → Tallies (C.standing l.fn.caller) known done doing → length done + (length doing + length (words_of l.fn.bytes)) ≤ MOST_WORDS → KnowsTallies (C.standing l.fn.caller) known (C.standing l.caller) (C.knows l.caller) done (doing ++ passed);
 }
 
 abbrev pub decreases-words : goal.decreases-words
