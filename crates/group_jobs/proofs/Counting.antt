@@ -11,9 +11,8 @@ use Rattle.std.proofs.lemmas.List.Elements.{All-nil, All-cons}
 use Rattle.std.proofs.lemmas.List.Folds.{list_any-append}
 use Rattle.std.proofs.lemmas.List.Sums.{sum_by-append}
 use Rattle.object_layout.specs.declared.TheConstants.{WORD_LIMIT}
-use Rattle.yak_model.specs.Tables.{WordCounts}
-use Rattle.yak_model.specs.Texts.{word_cmp, places_of}
-use Rattle.group_jobs.specs.Counts.{has_word, word_counts}
+use Rattle.yak_model.specs.Texts.{WordCounts, places_of, word_cmp, word_counts}
+use Rattle.group_jobs.specs.Counts.{has_word}
 use Rattle.group_jobs.specs.LongWords.{is_long}
 use Rattle.group_jobs.proofs.Sorting.{same_word}
 

@@ -26,8 +26,8 @@ use Rattle.yak_model.specs.Room.{entry_words, key_words, root_words, table_words
 use Rattle.yak_model.specs.Spaces.{SpaceState}
 use Rattle.yak_model.specs.State.{object_of}
 use Rattle.yak_model.specs.Stands.{Stands}
-use Rattle.yak_model.specs.Tables.{HasCount, IsChain, IsCountTable, IsEntry, IsKey, Link, WordCounts, bucket_of, entry_fields}
-use Rattle.yak_model.specs.Texts.{word_cmp}
+use Rattle.yak_model.specs.Tables.{HasCount, IsChain, IsCountTable, IsEntry, IsKey, Link, bucket_of, entry_fields}
+use Rattle.yak_model.specs.Texts.{WordCounts, word_cmp, word_counts}
 use Rattle.yak_model.proofs.Lists.{contains_cases, contains_cons}
 use Rattle.heap_core.proofs.RoomsNames.{entry-found, found-key, keys_of, present-paged}
 use Rattle.heap_core.proofs.RoomsSums.{Distinct, contains_first, sum-inside, sum-mapped, sum-same}
@@ -35,9 +35,8 @@ use Rattle.heap_core.proofs.Weights.{weight, words_in_all}
 use Rattle.heap_tables.proofs.Counted.{bucket_small}
 use Rattle.heap_tables.proofs.Entries.{key_no_entry, same_entry, same_fields, same_key}
 use Rattle.group_jobs.specs.Alone.{HoldsCounts, HoldsTotal, root_object}
-use Rattle.group_jobs.specs.Counts.{word_counts}
 use Rattle.group_jobs.specs.Tallies.{IsAside}
-use Rattle.group_jobs.specs.Room.{least_room}
+use Rattle.yak_model.specs.Room.{least_room}
 
 -- ---- the objects are within the pages
 

@@ -4,7 +4,8 @@ use Rattle.std.proofs.lemmas.Bool.{cases_lt}
 use Rattle.std.proofs.lemmas.List.{append_assoc, append-nil}
 use Rattle.yak_model.specs.declared.TheConstants.{BUCKETS}
 use Rattle.yak_model.specs.Private.{KnownObjects}
-use Rattle.yak_model.specs.Tables.{IsCountTable, Link, WordCounts}
+use Rattle.yak_model.specs.Tables.{IsCountTable, Link}
+use Rattle.yak_model.specs.Texts.{WordCounts}
 use Rattle.object_layout.specs.declared.names.Name.{Name}
 use Rattle.heap_tables.specs.Cursors.{IsEnd, IsNext}
 use Rattle.heap_tables.specs.declared.cursors.Cursor.{Cursor}

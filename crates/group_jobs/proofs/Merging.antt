@@ -10,12 +10,12 @@ use Rattle.yak_model.specs.declared.datum.Datum.TheVariants as datum
 use Rattle.yak_model.specs.declared.TheConstants.{BUCKETS}
 use Rattle.yak_model.specs.Private.{KnownObjects}
 use Rattle.yak_model.specs.Standing.{Standing}
-use Rattle.yak_model.specs.Tables.{AreDifferent, AreInBucket, IsCountTable, LacksWord, Link, WordCounts, bucket_of}
-use Rattle.yak_model.specs.Texts.{word_cmp, places_of}
+use Rattle.yak_model.specs.Tables.{AreDifferent, AreInBucket, IsCountTable, LacksWord, Link, bucket_of}
+use Rattle.yak_model.specs.Texts.{WordCounts, places_of, word_cmp, word_counts}
 use Rattle.heap_tables.specs.Adds.{IsNoEntry}
 use Rattle.heap_tables.specs.Counted.{or_zero, raised}
 use Rattle.heap_tables.specs.Merges.{KeepsUntouched, MayMerge, SharesNone, news, one_if_none, sum_of, walk}
-use Rattle.group_jobs.specs.Counts.{has_word, word_counts}
+use Rattle.group_jobs.specs.Counts.{has_word}
 use Rattle.group_jobs.specs.Tallies.{AreShort, KnowsTally, Tallies}
 use Rattle.group_jobs.specs.declared.TheConstants.{MOST_WORDS, PART_SLOT, TOTAL_SLOT}
 use Rattle.group_jobs.proofs.Aside.{no_table, nowhere}

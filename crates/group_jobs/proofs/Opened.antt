@@ -9,15 +9,14 @@ use Rattle.yak_model.specs.declared.TheConstants.{BUCKETS}
 use Rattle.yak_model.specs.Graph.{Fields, Thread}
 use Rattle.yak_model.specs.Private.{KnownObjects}
 use Rattle.yak_model.specs.Standing.{Standing}
-use Rattle.yak_model.specs.Tables.{AreInBucket, IsCountTable, LacksWord, Link, WordCounts}
-use Rattle.yak_model.specs.Texts.{word_cmp}
+use Rattle.yak_model.specs.Tables.{AreInBucket, IsCountTable, LacksWord, Link}
+use Rattle.yak_model.specs.Texts.{WordCounts, word_cmp, word_counts}
 use Rattle.yak_model.proofs.Names.{get-other}
 use Rattle.heap_tables.specs.Adds.{IsNoEntry, IsNowhere}
 use Rattle.heap_tables.specs.Runs.{next_of, with_made, with_new}
 use Rattle.heap_tables.proofs.Counted.{grown_counts}
 use Rattle.heap_tables.proofs.Effects.{in_bounds, slot_push}
 use Rattle.heap_tables.proofs.Linked.{insert_grows, made_below, other_name}
-use Rattle.group_jobs.specs.Counts.{word_counts}
 use Rattle.group_jobs.specs.Tallies.{AreApart, KeepsAside, KnowsTallies, KnowsTally, Tally}
 use Rattle.group_jobs.specs.declared.TheConstants.{PART_SLOT, TOTAL_SLOT}
 

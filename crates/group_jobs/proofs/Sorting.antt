@@ -13,8 +13,7 @@ use Rattle.std.proofs.lemmas.Cmp.{nat_list_cmp_total, tied_itself}
 use Rattle.std.proofs.lemmas.List.Edits.{Swapped, swapped_from_swap, length-swap}
 use Rattle.std.proofs.lemmas.List.Elements.{All-head, All-tail}
 use Rattle.std.proofs.lemmas.List.Sorted.{IsPermutation-keeps, IsPermutation-map, All-permutation, list_any-IsPermutation, sorted_far, ranks_by}
-use Rattle.yak_model.specs.Tables.{WordCounts}
-use Rattle.yak_model.specs.Texts.{word_cmp}
+use Rattle.yak_model.specs.Texts.{WordCounts, word_cmp}
 use Rattle.group_jobs.specs.Counts.{has_word, AreEntries}
 
 abbrev Pair : Type 0

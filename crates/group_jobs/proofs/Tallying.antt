@@ -11,15 +11,15 @@ use Rattle.yak_model.specs.declared.datum.Datum.TheVariants as datum
 use Rattle.yak_model.specs.declared.TheConstants.{BUCKETS}
 use Rattle.yak_model.specs.Private.{KnownObjects}
 use Rattle.yak_model.specs.Standing.{Standing}
-use Rattle.yak_model.specs.Tables.{AreDifferent, AreInBucket, IsChain, IsCountTable, IsKey, IsTable, LacksWord, Link, WordCounts}
-use Rattle.yak_model.specs.Texts.{word_cmp, places_of}
+use Rattle.yak_model.specs.Tables.{AreDifferent, AreInBucket, IsChain, IsCountTable, IsKey, IsTable, LacksWord, Link}
+use Rattle.yak_model.specs.Texts.{WordCounts, places_of, word_cmp, word_counts}
 use Rattle.heap_tables.specs.Adds.{IsNoEntry, IsNowhere, KeepsOthers, StayNowhere}
 use Rattle.heap_tables.specs.Counted.{count_of, or_zero, raised}
 use Rattle.heap_tables.specs.Walks.{IsApart}
 use Rattle.heap_tables.proofs.Entries.{key_no_entry}
 use Rattle.heap_tables.proofs.Raised.{table_apart}
 use Rattle.heap_tables.proofs.Places.{word_cases}
-use Rattle.group_jobs.specs.Counts.{has_word, word_counts}
+use Rattle.group_jobs.specs.Counts.{has_word}
 use Rattle.group_jobs.specs.Tallies.{AreApart, KnowsTallies, Tallies}
 use Rattle.group_jobs.proofs.Aside.{no_table, nowhere}
 use Rattle.group_jobs.proofs.Counting.{count-word_counts, get-word_counts, one_place, places_of-append, same_by_test, word_counts-push}

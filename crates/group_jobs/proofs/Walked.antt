@@ -11,8 +11,8 @@ use Rattle.std.proofs.lemmas.List.Kept.{AllPairs-cons}
 use Rattle.object_layout.specs.declared.names.Name.{Name}
 use Rattle.yak_model.specs.declared.TheConstants.{BUCKETS, HASH_FACTOR}
 use Rattle.yak_model.specs.Private.{KnownObjects}
-use Rattle.yak_model.specs.Tables.{Link, LacksWord, HasCount, AreDifferent, AreInBucket, IsCountTable, WordCounts, bucket_of}
-use Rattle.yak_model.specs.Texts.{word_cmp}
+use Rattle.yak_model.specs.Tables.{Link, LacksWord, HasCount, AreDifferent, AreInBucket, IsCountTable, bucket_of}
+use Rattle.yak_model.specs.Texts.{WordCounts, word_cmp}
 use Rattle.group_jobs.specs.Counts.{AreEntries}
 use Rattle.group_jobs.proofs.Counting.{same_by_test}
 

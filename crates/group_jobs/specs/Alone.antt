@@ -17,9 +17,8 @@ use Rattle.yak_model.specs.Room.{most_room}
 use Rattle.yak_model.specs.Spaces.{SpaceState, content_at, home_of}
 use Rattle.yak_model.specs.Stands.{Stands}
 use Rattle.yak_model.specs.Tables.{IsCountTable}
-use Rattle.yak_model.specs.Texts.{words_of}
+use Rattle.yak_model.specs.Texts.{word_counts, words_of}
 use Rattle.heap_tables.specs.Runs.{slot_in}
-use Rattle.group_jobs.specs.Counts.{word_counts}
 use Rattle.group_jobs.specs.Tallies.{AreShort, IsProgress, busy_tasks}
 use Rattle.group_jobs.specs.Tasks.{AreTasks}
 use Rattle.group_jobs.specs.declared.count.CountError.{CountError}

@@ -6,5 +6,4 @@ pub mod Goings
 pub mod Tallies
 pub mod Listing
 pub mod Printing
-pub mod Room
 pub mod Alone

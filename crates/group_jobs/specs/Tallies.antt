@@ -12,10 +12,9 @@ use Rattle.yak_model.specs.Private.{KnownObjects}
 use Rattle.yak_model.specs.Room.{entry_words, key_words, table_words}
 use Rattle.yak_model.specs.Standing.{Standing}
 use Rattle.yak_model.specs.Tables.{IsCountTable, Link}
-use Rattle.yak_model.specs.Texts.{words_of}
+use Rattle.yak_model.specs.Texts.{word_counts, words_of}
 use Rattle.heap_tables.specs.Adds.{IsNowhere}
 use Rattle.heap_tables.specs.Runs.{slot_in, stack_in}
-use Rattle.group_jobs.specs.Counts.{word_counts}
 use Rattle.group_jobs.specs.Tasks.{task_bytes}
 use Rattle.group_jobs.specs.declared.tasks.Task.{Task}
 use Rattle.group_jobs.specs.declared.TheConstants.{MOST_WORDS, PART_SLOT, TOTAL_SLOT}

@@ -5,16 +5,15 @@ ghost use Rattle.object_layout.specs.declared.replies.Census.{Census};
 ghost use Rattle.yak_model.specs.Private.{KnownObjects};
 ghost use Rattle.yak_model.specs.Room.{root_words};
 ghost use Rattle.heap_core.specs.Callers.{FillsPages};
-ghost use Rattle.group_jobs.specs.Counts.{counts_of};
 ghost use Rattle.group_jobs.specs.Tallies.{IsProgress};
 ghost use Rattle.group_jobs.specs.declared.count.CountError.TheVariants as CountError;
 ghost use Rattle.group_jobs.specs.declared.TheConstants.{WORKER};
 ghost use Rattle.heap_words.specs.Contents.{contents};
 ghost use Rattle.heap_words.specs.Map.{IsAreas, page_words};
-ghost use Rattle.yak_model.specs.Texts.{words_of};
+ghost use Rattle.yak_model.specs.Texts.{counts_of, words_of};
 ghost use Rattle.group_jobs.specs.Alone.{HasListed, HasRoot, HoldsCounts, IsListed, TellsWhy, opening_known, opening_standing};
 ghost use Rattle.group_jobs.specs.LongWords.{has_long_word};
-ghost use Rattle.group_jobs.specs.Room.{least_room};
+ghost use Rattle.yak_model.specs.Room.{least_room};
 ghost use Rattle.group_jobs.specs.declared.TheConstants.{INPUT_LIMIT};
 
 use crate::counted::{Counted, sort_counts};

@@ -2,9 +2,8 @@
 ghost use Rattle.std.specs.Prelude.{◌≡◌, ℕ, List, IsPermutation};
 ghost use Rattle.std.specs.declared.cmp.Ordering.{Ordering};
 ghost use Rattle.std.specs.FinMap as finite;
-ghost use Rattle.yak_model.specs.Tables.{WordCounts};
-ghost use Rattle.yak_model.specs.Texts.{word_cmp};
-ghost use Rattle.group_jobs.specs.Counts.{AreEntries, word_counts, counts_of};
+ghost use Rattle.yak_model.specs.Texts.{WordCounts, counts_of, word_cmp, word_counts};
+ghost use Rattle.group_jobs.specs.Counts.{AreEntries};
 
 use std::cmp::Ordering;
 use std::marker::Model;

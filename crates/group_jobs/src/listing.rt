@@ -3,7 +3,8 @@ ghost use Rattle.std.specs.Prelude.{◌≡◌, ℕ, ◌++◌, ◌∷◌, [], Lis
 ghost use Rattle.yak_model.specs.Private.{KnownObjects};
 ghost use Rattle.yak_model.specs.Standing.{Standing};
 ghost use Rattle.heap_tables.specs.Runs.{Ran, stack_in};
-ghost use Rattle.group_jobs.specs.Counts.{AreEntries, word_counts};
+ghost use Rattle.group_jobs.specs.Counts.{AreEntries};
+ghost use Rattle.yak_model.specs.Texts.{word_counts};
 ghost use Rattle.group_jobs.specs.Listing.{HasShortTally, IsShortTally};
 ghost use Rattle.group_jobs.specs.declared.TheConstants.{PART_SLOT};
 

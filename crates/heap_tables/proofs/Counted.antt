@@ -11,7 +11,8 @@ use Rattle.std.specs.FinMap.{empty, get, get-empty, insert, get-insert, slice_cm
 use Rattle.object_layout.specs.declared.names.Name.{Name}
 use Rattle.yak_model.specs.Private.{KnownObjects}
 use Rattle.yak_model.specs.Tables.{bucket_of}
-use Rattle.yak_model.specs.Tables.{WordCounts, HasCount, IsCountTable, IsTable, LacksWord, Link, AreDifferent}
+use Rattle.yak_model.specs.Tables.{HasCount, IsCountTable, IsTable, LacksWord, Link, AreDifferent}
+use Rattle.yak_model.specs.Texts.{WordCounts}
 use Rattle.heap_tables.specs.Adds.{AddsCount, Grows, IsAddedTo, IsNoEntry, MakesForNew, StayNowhere, with_bucket}
 use Rattle.yak_model.specs.declared.datum.Datum.{Datum}
 use Rattle.yak_model.specs.Standing.{Standing}

@@ -11,7 +11,8 @@ use Rattle.yak_model.specs.declared.datum.Datum.TheVariants as datum
 use Rattle.yak_model.specs.Graph.{Thread}
 use Rattle.yak_model.specs.Private.{IsKnown, KnownObjects}
 use Rattle.yak_model.specs.Standing.{Standing}
-use Rattle.yak_model.specs.Tables.{AreDifferent, AreInBucket, IsChain, IsCountTable, IsKey, IsTable, LacksWord, Link, WordCounts, bucket_of}
+use Rattle.yak_model.specs.Tables.{AreDifferent, AreInBucket, IsChain, IsCountTable, IsKey, IsTable, LacksWord, Link, bucket_of}
+use Rattle.yak_model.specs.Texts.{WordCounts}
 use Rattle.heap_tables.specs.Adds.{AddsCount, IsAddedTo, IsNoEntry, KeepsOthers, MayAdd, StayNowhere, having_made, with_bucket}
 use Rattle.heap_tables.specs.Counted.{count_of, or_zero, raised}
 use Rattle.heap_tables.specs.Merges.{AreSlots, AreSums, Goes, IsEntryAt, IsMerge, IsMerged, IsShare, KeepsUntouched, Merge, MergesEntry, SharesNone, Stops, done_at, news, one_if_none, raised_by, walk, with_shared}

@@ -8,7 +8,8 @@ use Rattle.object_layout.specs.declared.names.Name.{Name}
 use Rattle.yak_model.specs.declared.datum.Datum.TheVariants as datum
 use Rattle.yak_model.specs.Private.{KnownObjects}
 use Rattle.yak_model.specs.Standing.{Standing}
-use Rattle.yak_model.specs.Tables.{AreDifferent, AreInBucket, HasCount, IsCountTable, LacksWord, Link, WordCounts, bucket_of}
+use Rattle.yak_model.specs.Tables.{AreDifferent, AreInBucket, HasCount, IsCountTable, LacksWord, Link, bucket_of}
+use Rattle.yak_model.specs.Texts.{WordCounts}
 use Rattle.heap_tables.specs.Cursors.{IsFound, IsNext, IsPast, IsVisited, MayWalk, start_in}
 use Rattle.heap_tables.specs.Reads.{AreShort, IsCopied, Took}
 use Rattle.heap_tables.specs.Walks.{IsApart, IsAtChain}

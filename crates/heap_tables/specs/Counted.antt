@@ -8,7 +8,8 @@ use Rattle.yak_model.specs.Private.{KnownObjects}
 use Rattle.yak_model.specs.Standing.{Standing}
 use Rattle.heap_tables.specs.Runs.{slot_in}
 use Rattle.yak_model.specs.Tables.{bucket_of}
-use Rattle.yak_model.specs.Tables.{WordCounts, IsCountTable}
+use Rattle.yak_model.specs.Tables.{IsCountTable}
+use Rattle.yak_model.specs.Texts.{WordCounts}
 use Rattle.heap_tables.specs.Adds.{Grows, KeepsOthers, StayNowhere}
 
 abbrev pub or_zero : Option ℕ → ℕ

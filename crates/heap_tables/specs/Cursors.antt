@@ -7,7 +7,8 @@ use Rattle.yak_model.specs.declared.TheConstants.{BUCKETS}
 use Rattle.yak_model.specs.declared.datum.Datum.TheVariants as datum
 use Rattle.yak_model.specs.Private.{KnownObjects}
 use Rattle.yak_model.specs.Standing.{Standing}
-use Rattle.yak_model.specs.Tables.{IsCountTable, Link, WordCounts}
+use Rattle.yak_model.specs.Tables.{IsCountTable, Link}
+use Rattle.yak_model.specs.Texts.{WordCounts}
 use Rattle.heap_tables.specs.Reads.{IsCopied}
 use Rattle.heap_tables.specs.Runs.{slot_in}
 use Rattle.heap_tables.specs.Walks.{IsApart, IsAtChain}

@@ -10,7 +10,8 @@ use Rattle.yak_model.specs.Graph.{Fields, Thread}
 use Rattle.yak_model.specs.Private.{IsKnown, KnownObjects}
 use Rattle.yak_model.specs.Room.{entry_words}
 use Rattle.yak_model.specs.Standing.{Standing}
-use Rattle.yak_model.specs.Tables.{IsCountTable, IsTable, Link, WordCounts}
+use Rattle.yak_model.specs.Tables.{IsCountTable, IsTable, Link}
+use Rattle.yak_model.specs.Texts.{WordCounts}
 use Rattle.heap_tables.specs.Adds.{IsNoEntry, IsNowhere, having_made, with_fields}
 use Rattle.heap_tables.specs.Counted.{count_of, or_zero, raised}
 use Rattle.heap_tables.specs.Reads.{AreShort}

@@ -7,7 +7,8 @@ ghost use Rattle.yak_model.specs.declared.TheConstants.{BUCKETS, ENTRY_FIELDS, S
 ghost use Rattle.yak_model.specs.declared.datum.Datum.{Datum};
 ghost use Rattle.yak_model.specs.Private.{KnownObjects};
 ghost use Rattle.yak_model.specs.Room.{entry_words};
-ghost use Rattle.yak_model.specs.Tables.{Link, WordCounts};
+ghost use Rattle.yak_model.specs.Tables.{Link};
+ghost use Rattle.yak_model.specs.Texts.{WordCounts};
 ghost use Rattle.heap_tables.specs.declared.TheConstants.{FREE_SLOTS, MOST_MADE};
 ghost use Rattle.heap_tables.specs.Adds.{having_made};
 ghost use Rattle.heap_tables.specs.Merges.{AreSlots, Goes, HasEntryFor, HasMerged, HasMerging, HasNextEntry, HasShare, HasTables, IsEntryAt, IsMerge, IsMerged, IsMergedPart, IsMergedWhole, IsShare, MayMerge, Merge, MergesEntry, Stops, done_at, walk, with_shared};

@@ -16,8 +16,7 @@ use Rattle.script_text.specs.Scripts.{IsScript, IsBad}
 use Rattle.script_runner.specs.Runs.{Held, IsRun}
 use Rattle.object_layout.specs.declared.replies.Census.{Census}
 use Rattle.heap_words.specs.Contents.{contents}
-use Rattle.yak_model.specs.Texts.{words_of}
-use Rattle.group_jobs.specs.Counts.{counts_of}
+use Rattle.yak_model.specs.Texts.{counts_of, words_of}
 use Rattle.group_jobs.specs.LongWords.{has_long_word, long_word_line}
 use Rattle.group_jobs.specs.Printing.{count_line}
 use Rattle.group_jobs.specs.Alone.{HoldsCounts, TellsWhy}

@@ -1,8 +1,9 @@
 -- What one thread alone knows: a finite map from the names of some of its objects to their fields.
-use Rattle.std.specs.Prelude.{◌≡◌, ◌≢◌, ℕ, ◌≤◌, None, IsSome, replicate, slice_set}
+use Rattle.std.specs.Prelude.{◌≡◌, ◌≢◌, ℕ, ◌≤◌, None, Some, IsSome, replicate, slice_set}
 use Rattle.std.specs.List.{Contains}
 use Rattle.std.specs.FinMap as finite
 use Rattle.object_layout.specs.declared.names.Name.{Name}
+use Rattle.object_layout.specs.declared.TheConstants.{OBJECT_WORDS}
 use Rattle.object_layout.specs.declared.calls.Call.{Call}
 use Rattle.object_layout.specs.declared.calls.Call.TheVariants as call
 use Rattle.object_layout.specs.declared.replies.Reply.{Reply}
@@ -10,7 +11,7 @@ use Rattle.object_layout.specs.declared.replies.Reply.TheVariants as reply
 use Rattle.yak_model.specs.declared.datum.Datum.{Datum}
 use Rattle.yak_model.specs.declared.datum.Datum.TheVariants as datum
 use Rattle.yak_model.specs.Names.{name_cmp}
-use Rattle.yak_model.specs.Graph.{Content, Fields, Graph, fields_or_none, next_name, slot_of, thread_of}
+use Rattle.yak_model.specs.Graph.{Content, Fields, Graph, Limits, fields_or_none, next_name, size_of, slot_of, thread_of}
 use Rattle.yak_model.specs.History.{Entry, Said, Collected, Moves}
 use Rattle.yak_model.specs.Spaces.{IsOnStack, Refers, Walk, content_at}
 
@@ -27,6 +28,10 @@ pub record IsPrivate (g : Graph) (t : ℕ) (known : KnownObjects) : Type 0 where
   pub contents : (name : Name) → IsKnown known name → content_at g name ≡ finite.get known name
   pub stacks : (name : Name) → IsKnown known name → (u : ℕ) → IsOnStack g u name → u ≡ t
   pub fields : (name : Name) → IsKnown known name → (from : Name) → Refers g from name → IsKnown known from
+
+-- Each object fits a page.
+abbrev pub FitPages : Limits → KnownObjects → Type 0
+FitPages limits known = (name : Name) (content : Content) → finite.get known name ≡ Some content → size_of content ≤ limits.page
 
 -- A field of a known object, to a known object.
 abbrev pub RefersKnown : KnownObjects → Name → Name → Type 0
@@ -81,3 +86,9 @@ PrivacyIsKept =
 -- Each entry keeps it that the names are those of objects that were made.
 abbrev pub NamesStayMade : Type 0
 NamesStayMade = (g : Graph) (entry : Entry) (h : Graph) → AreMade g → Moves g entry h → AreMade h
+
+-- What is known fits pages whatever entry comes, where a page has room for an object without fields.
+abbrev pub FittingIsKept : Type 0
+FittingIsKept =
+    (g : Graph) (entry : Entry) (h : Graph) (t : ℕ) (known after : KnownObjects)
+    → OBJECT_WORDS ≤ g.limits.page → Moves g entry h → FitPages g.limits known → KnownAfter g t known entry after → FitPages g.limits after

@@ -1,5 +1,6 @@
 -- What a caller of a heap can tell of its own thread, and what one call does to that.
-use Rattle.std.specs.Prelude.{◌≡◌, ◌≢◌, ℕ, ◌+◌, ◌-◌, ◌^◌, min, Bool, true, false, List, [], ◌∷◌, ◌++◌, Option, Some, None}
+use Rattle.std.specs.Prelude.{◌≡◌, ◌≢◌, ◌↔◌, ℕ, ◌+◌, ◌-◌, ◌^◌, min, Bool, true, false, List, [], ◌∷◌, ◌++◌, Option, Some, None}
+use Rattle.std.specs.Option.{ForSome}
 use Rattle.object_layout.specs.declared.calls.Call.{Call}
 use Rattle.object_layout.specs.declared.calls.Call.TheVariants as call
 use Rattle.object_layout.specs.declared.replies.Census.{Census}
@@ -36,10 +37,22 @@ abbrev pub entries_of : Bool → ℕ → Call → Reply → List Entry
 entries_of true t asked said = Collected t ∷ Said t asked said ∷ []
 entries_of false t asked said = Said t asked said ∷ []
 
+-- Only a call for an object and the end of an epoch may make a collection of their own.
+abbrev pub MayCollect : Bool → Call → Type 0
+MayCollect false asked = Unit {0}
+MayCollect true (call.New k) = Unit {0}
+MayCollect true call.End = Unit {0}
+MayCollect true asked = ⊥
+
 -- The own list, where it is told, grows by the entries of the call.
 abbrev pub AddsEntries : ℕ → Call → Reply → Option (List Entry) → Option (List Entry) → Type 0
 AddsEntries t asked said None after = after ≡ None
-AddsEntries t asked said (Some list) after = (collected : Bool) × (after ≡ Some (list ++ entries_of collected t asked said))
+AddsEntries t asked said (Some list) after = (collected : Bool) × (after ≡ Some (list ++ entries_of collected t asked said)) × MayCollect collected asked
+
+-- There is a last call that was answered by `OutOfHeap` exactly where there were some, and no page was free then.
+pub record TellsLast (s : Standing) : Type 0 where
+  pub some : s.last ≡ None ↔ s.refusals ≡ 0
+  pub none_free : ForSome s.last (λ l. l.0.free ≡ 0)
 
 -- The call was for an object for which the heap has no room, and found no page free.
 abbrev pub IsLast : Standing → Call → Option (Census × ℕ × ℕ) → Type 0

@@ -8,7 +8,7 @@ use Rattle.yak_model.specs.declared.datum.Datum.TheVariants as datum
 use Rattle.yak_model.specs.declared.TheConstants.{BUCKETS, BYTE_VALUES, GROUP_BYTES, HASH_FACTOR}
 use Rattle.yak_model.specs.Graph.{Fields}
 use Rattle.yak_model.specs.Private.{KnownObjects}
-use Rattle.yak_model.specs.Texts.{word_cmp}
+use Rattle.yak_model.specs.Texts.{WordCounts}
 
 -- so many bytes of a word, from a place on, as one number with the first byte on top; past the word's end there are zero bytes
 abbrev pub digits : List ℕ → ℕ → ℕ → ℕ
@@ -90,10 +90,6 @@ pub record IsTable (known : KnownObjects) (name : Name) (heads : List Datum) (bu
   pub chains : (b : ℕ) → b < BUCKETS → IsChain known (slice_index_or heads b datum.Null) (buckets b)
   pub homes : (b : ℕ) → b < BUCKETS → AreInBucket b (buckets b)
   pub distinct : (b : ℕ) → b < BUCKETS → AreDifferent (buckets b)
-
--- a finite map from words to counts
-abbrev pub WordCounts : Type 0
-WordCounts = finite.FinMap word_cmp ℕ
 
 -- The object is a table of exactly these counts.
 pub record IsCountTable (known : KnownObjects) (name : Name) (counts : WordCounts) : Type 0 where

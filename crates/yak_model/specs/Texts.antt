@@ -4,7 +4,7 @@ use Rattle.std.specs.List.{slice_split}
 use Rattle.std.specs.declared.cmp.Ordering.{Ordering}
 use Rattle.std.specs.Ordering.{eq_by_cmp, nat_cmp}
 use Rattle.std.specs.Cmp.Lexicographic.{slice_cmp}
-use Rattle.std.specs.FinSet as set
+use Rattle.std.specs.FinMap as finite
 
 -- what parts words: a space, a tab, a line feed or a carriage return
 abbrev pub parts_words : ℕ → Bool
@@ -23,14 +23,22 @@ words_of bytes = filter is_word (slice_split parts_words bytes)
 abbrev pub word_cmp : List ℕ → List ℕ → Ordering
 word_cmp = slice_cmp nat_cmp
 
--- the words of a list, each once, in ascending order
-abbrev pub different : List (List ℕ) → List (List ℕ)
-different words = set.items (set.from_list {R = word_cmp} words)
-
 -- at how many places of a list a word stands
 abbrev pub places_of : List (List ℕ) → List ℕ → ℕ
 places_of words word = count_by (λ other. eq_by_cmp word_cmp other word) words
 
--- the words of a list, each once, in ascending order, with the number of places at which it stands
+-- a finite map from words to counts
+abbrev pub WordCounts : Type 0
+WordCounts = finite.FinMap word_cmp ℕ
+
+-- the words of a list, each with the number of places at which it stands
+abbrev pub word_counts : List (List ℕ) → WordCounts
+word_counts words = finite.from_entries (map (λ word. (word, places_of words word)) words)
+
+-- the same as a list, in ascending order of the words
 abbrev pub counts_of : List (List ℕ) → List (List ℕ × ℕ)
-counts_of words = map (λ word. (word, places_of words word)) (different words)
+counts_of words = finite.entries (word_counts words)
+
+-- the words of a list, each once, in ascending order
+abbrev pub different : List (List ℕ) → List (List ℕ)
+different words = finite.keys (word_counts words)

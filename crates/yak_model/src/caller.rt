@@ -1,9 +1,10 @@
 //! One thread's way to a heap, whatever kind of heap it is.
 ghost use Rattle.std.specs.Prelude.{◌≡◌, ℕ};
+ghost use Rattle.std.specs.FinMap.{empty};
 ghost use Rattle.object_layout.specs.Calls.{IsCall};
-ghost use Rattle.yak_model.specs.Graph.{Thread};
-ghost use Rattle.yak_model.specs.Private.{KnownObjects};
-ghost use Rattle.yak_model.specs.Standing.{Counted, MovesKnown, Standing, Stays};
+ghost use Rattle.yak_model.specs.Graph.{Thread, standard_limits};
+ghost use Rattle.yak_model.specs.Private.{FitPages, KnownObjects};
+ghost use Rattle.yak_model.specs.Standing.{Counted, MovesKnown, Standing, Stays, TellsLast};
 
 use object_layout::{Call, Census, Reply};
 
@@ -40,4 +41,16 @@ pub trait Caller {
     /// The census, the depth and the words asked for of the last call that was answered by `OutOfHeap`.
     fn full(&self) -> Option<(Census, u8, u16)>
         ensures { result ≡ (standing self.now).last };
+
+    // the limits are those of every heap
+    ghost standard: { (s : Self) → (standing s).limits ≡ standard_limits };
+
+    // the map without objects is known
+    ghost knows_none: { (s : Self) → ∥ knows s empty ∥₁ };
+
+    // the objects that are known fit pages
+    ghost fit: { (s : Self) (known : KnownObjects) → knows s known → FitPages (standing s).limits known };
+
+    // what is told of the last call that was answered by `OutOfHeap` is so
+    ghost told: { (s : Self) → TellsLast (standing s) };
 }

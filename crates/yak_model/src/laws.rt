@@ -1,6 +1,6 @@
 //! Laws over the definitions alone.
 ghost use Rattle.yak_model.specs.Agreement.{MachinesAgree};
-ghost use Rattle.yak_model.specs.Private.{NamesStayMade, PrivacyIsKept};
+ghost use Rattle.yak_model.specs.Private.{FittingIsKept, NamesStayMade, PrivacyIsKept};
 ghost use Rattle.yak_model.specs.Unique.{StatesAreUnique};
 
 /// The graph and the spaces agree along every history.
@@ -21,4 +21,9 @@ pub fn privacy()
 /// Each name in the graph stays that of an object that was made.
 pub fn freshness()
     ensures { NamesStayMade }
+{}
+
+/// What one thread alone knows fits pages, whatever entry comes.
+pub fn fitting()
+    ensures { FittingIsKept }
 {}

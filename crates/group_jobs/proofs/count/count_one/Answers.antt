@@ -18,7 +18,7 @@ use Rattle.group_jobs.specs.LongWords.{has_long_word}
 use Rattle.group_jobs.proofs.Progress.{progress_same}
 use Rattle.group_jobs.proofs.Starting.{few_words, tasks_within}
 use Rattle.group_jobs.proofs.Least.{room_held, root_aside}
-use Rattle.group_jobs.specs.Room.{least_room}
+use Rattle.yak_model.specs.Room.{least_room}
 use Rattle.heap_words.specs.declared.map.Areas.{Areas}
 use Rattle.heap_words.specs.Map.{page_words}
 use Rattle.group_jobs.proofs.count.count_one.Goals as goal

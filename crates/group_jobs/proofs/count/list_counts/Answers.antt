@@ -2,10 +2,9 @@ use Rattle.std.proofs.Common.{◌≡◌, ℕ, List, [], true, false, ap, sym, su
 use Rattle.yak_model.specs.Private.{KnownObjects}
 use Rattle.yak_model.specs.Standing.{Standing}
 use Rattle.group_jobs.specs.Alone.{IsListed}
-use Rattle.group_jobs.specs.Counts.{counts_of}
 use Rattle.group_jobs.specs.Listing.{IsShortTally}
 use Rattle.group_jobs.specs.Tallies.{IsProgress}
-use Rattle.yak_model.specs.Texts.{word_cmp}
+use Rattle.yak_model.specs.Texts.{counts_of, word_cmp}
 use Rattle.group_jobs.proofs.Nothing.{no_entries}
 use Rattle.group_jobs.proofs.count.list_counts.Goals as goal
 

@@ -1,7 +1,7 @@
 use Rattle.std.proofs.Common.{rules, tests}
 use Rattle.std.proofs.lemmas.Cmp.{nat_list_cmp_total}
 use Rattle.std.proofs.lemmas.List.Sorted.{ranks_by, answers_always}
-use Rattle.group_jobs.specs.Counts.{word_counts}
+use Rattle.yak_model.specs.Texts.{word_counts}
 use Rattle.group_jobs.proofs.Sorting.{sorted_entries}
 use Rattle.group_jobs.proofs.counted.sort_counts.Goals as goal
 

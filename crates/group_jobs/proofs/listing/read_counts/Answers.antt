@@ -8,7 +8,7 @@ use Rattle.heap_tables.specs.Cursors.{IsNextEntry, MayWalk, Visited}
 use Rattle.heap_tables.specs.declared.cursors.Cursor.{Cursor}
 use Rattle.heap_tables.specs.Merges.{done_at}
 use Rattle.heap_tables.proofs.RunOn.{ran_more}
-use Rattle.group_jobs.specs.Counts.{word_counts}
+use Rattle.yak_model.specs.Texts.{word_counts}
 use Rattle.group_jobs.specs.Listing.{IsShortTally}
 use Rattle.group_jobs.specs.declared.TheConstants.{TOTAL_SLOT}
 use Rattle.group_jobs.proofs.Listed.{entry_of, gets_on, listed_next, next_place, read_entries}

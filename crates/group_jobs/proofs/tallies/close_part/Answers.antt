@@ -2,7 +2,7 @@ use Rattle.std.proofs.Common.{◌*◌, length, ap, ◌∙◌, arith}
 use Rattle.yak_model.specs.Graph.{Thread}
 use Rattle.yak_model.specs.Room.{entry_words}
 use Rattle.yak_model.specs.declared.TheConstants.{ENTRY_FIELDS}
-use Rattle.group_jobs.specs.Counts.{word_counts}
+use Rattle.yak_model.specs.Texts.{word_counts}
 use Rattle.group_jobs.proofs.Joined.{out_ran, went_ran, went_then}
 use Rattle.group_jobs.proofs.Merging.{few_done, few_new, may_merge, merged_tally, size_left}
 use Rattle.group_jobs.proofs.Rooms.{err_of}

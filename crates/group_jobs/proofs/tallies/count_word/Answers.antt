@@ -7,7 +7,7 @@ use Rattle.yak_model.specs.declared.datum.Datum.TheVariants as datum
 use Rattle.heap_tables.specs.Counted.{MayCount}
 use Rattle.heap_tables.proofs.Counted.{bucket_small}
 use Rattle.heap_tables.proofs.OnResult.{ok_map}
-use Rattle.group_jobs.specs.Counts.{word_counts}
+use Rattle.yak_model.specs.Texts.{word_counts}
 use Rattle.group_jobs.specs.Tallies.{Tallies}
 use Rattle.group_jobs.specs.declared.TheConstants.{MOST_WORDS, PART_SLOT}
 use Rattle.group_jobs.proofs.Tallying.{count_is, few_in_bucket, few_places, tallies_more}

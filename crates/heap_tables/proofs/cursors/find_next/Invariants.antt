@@ -1,7 +1,7 @@
 use Rattle.std.proofs.Common.{◌≡◌, ℕ, ◌≤◌, length}
 use Rattle.object_layout.specs.declared.names.Name.{Name}
 use Rattle.yak_model.specs.Private.{KnownObjects}
-use Rattle.yak_model.specs.Tables.{WordCounts}
+use Rattle.yak_model.specs.Texts.{WordCounts}
 use Rattle.heap_tables.specs.Cursors.{IsPast, MayWalk}
 use Rattle.heap_tables.specs.Runs.{Ran}
 use Rattle.heap_tables.proofs.cursors.find_next.Given as goal

@@ -3,7 +3,7 @@ use Rattle.object_layout.specs.declared.names.Name.{Name}
 use Rattle.yak_model.specs.Graph.{Thread}
 use Rattle.yak_model.specs.Private.{KnownObjects}
 use Rattle.yak_model.specs.Standing.{Standing}
-use Rattle.yak_model.specs.Tables.{WordCounts}
+use Rattle.yak_model.specs.Texts.{WordCounts}
 use Rattle.heap_tables.specs.Adds.{MayAdd, having_made}
 use Rattle.heap_tables.specs.Counted.{MayCount, count_of}
 use Rattle.heap_tables.proofs.Counted.{added_counts, bucket_small, count_found, grown_counts, lacks_none, makes_uncounted, stay_nowhere}
