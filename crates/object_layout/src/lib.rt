@@ -91,6 +91,11 @@ mod tests {
         assert_eq!(rt; decode_value(40), Some(Value::Ref(Addr(19))));
         assert_eq!(rt; decode_value(33554434), None);
         assert_eq!(rt; decode_header(65790), None);
+        let first = Name {
+            thread: 1,
+            serial: 1,
+        };
+        assert_eq!(rt; decode_name(281474976710657), Some(first));
         assert_eq!(rt; decode_name(5), None);
         Ok(())
     }

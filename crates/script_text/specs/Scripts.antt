@@ -82,12 +82,12 @@ abbrev pub IsScript : List ℕ → Contents → Type 0
 IsScript bytes script = IsScriptOf (lines bytes) script
 
 -- the bytes are no script, and this is their first bad line, with its first reason
-abbrev pub IsBad : List ℕ → Bad → Type 0
-IsBad bytes bad = IsBadOf (lines bytes) bad
+abbrev pub IsBadLine : List ℕ → Bad → Type 0
+IsBadLine bytes bad = IsBadOf (lines bytes) bad
 
 -- what an error says of the bytes
 abbrev pub Refuses : List ℕ → ReadError → Type 0
-Refuses bytes (Refused bad) = IsBad bytes bad
+Refuses bytes (Refused bad) = IsBadLine bytes bad
 Refuses bytes Memory = Unit {0}
 
 -- a good line adds its command, if it holds one

@@ -2,7 +2,7 @@
 ghost use Rattle.std.specs.Prelude.{◌≡◌, ℕ, List};
 ghost use Rattle.script_text.specs.declared.faults.Bad.{Bad};
 ghost use Rattle.script_text.specs.Contents.{Contents};
-ghost use Rattle.script_text.specs.Scripts.{IsScript, IsBad};
+ghost use Rattle.script_text.specs.Scripts.{IsScript, IsBadLine};
 
 /// A text is one script at most.
 #[tactic(auto, using(crate::proofs::Single::same_script))]
@@ -13,11 +13,11 @@ pub fn law_one_script()
 /// A text is refused at one line and for one reason at most.
 #[tactic(auto, using(crate::proofs::Single::same_refusal))]
 pub fn law_one_refusal()
-    ensures { (bytes : List ℕ) (one other : Bad) → IsBad bytes one → IsBad bytes other → one ≡ other }
+    ensures { (bytes : List ℕ) (one other : Bad) → IsBadLine bytes one → IsBadLine bytes other → one ≡ other }
 {}
 
 /// No text is both a script and refused.
 #[tactic(auto, using(crate::proofs::Single::script_or_refusal))]
 pub fn law_script_or_refusal()
-    ensures { (bytes : List ℕ) (script : Contents) (bad : Bad) → IsScript bytes script → IsBad bytes bad → ⊥ }
+    ensures { (bytes : List ℕ) (script : Contents) (bad : Bad) → IsScript bytes script → IsBadLine bytes bad → ⊥ }
 {}

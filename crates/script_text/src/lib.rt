@@ -16,6 +16,7 @@ mod words;
 pub use commands::find_call;
 pub use faults::{Bad, ReadError, Reason};
 pub use laws::{law_one_refusal, law_one_script, law_script_or_refusal};
+pub use numbers::number_of;
 pub use printing::print_script;
 pub use reading::{command_word, read_script, text_lines};
 pub use replies::print_reply;

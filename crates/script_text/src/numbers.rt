@@ -28,8 +28,8 @@ fn parsed(text: &[u8]) -> Option<u64>
     }
 }
 
-/// The number from `least` to `most` whose decimal digits these are. A sign or a needless zero makes it none.
-pub(crate) fn number_of(text: &[u8], least: u64, most: u64) -> Option<u64>
+/// The number from `least` to `most` whose decimal digits these bytes are. A sign or a needless zero makes it none.
+pub fn number_of(text: &[u8], least: u64, most: u64) -> Option<u64>
     ensures { MatchOption result (IsOther least most text.now) (λ n. (least ≤ n) × (n ≤ most) × (text.now ≡ decimal n)) }
 {
     let number = parsed(text)?;

@@ -5,7 +5,7 @@ ghost use Rattle.script_text.specs.declared.faults.ReadError.TheVariants.{Refuse
 ghost use Rattle.script_text.specs.Contents.{Contents, Heap};
 ghost use Rattle.script_text.specs.Printing.{IsValid};
 ghost use Rattle.script_text.specs.Words.{lines};
-ghost use Rattle.script_text.specs.Scripts.{IsSilent, HasCommandWord, IsCommand, IsFault, IsHeader, IsScript, IsBad, Refuses, Adds, Stops};
+ghost use Rattle.script_text.specs.Scripts.{IsSilent, HasCommandWord, IsCommand, IsFault, IsHeader, IsScript, IsBadLine, Refuses, Adds, Stops};
 
 use crate::commands::read_command;
 use crate::faults::{Bad, ReadError, Reason};
@@ -152,7 +152,7 @@ pub fn read_script(alloc: Global, bytes: &[u8]) -> Result<Script, ReadError>
     ensures found { IfOk result (λ script. IsScript bytes.now script × IsValid script) }
     ensures refused { IfErr result (λ error. Refuses bytes.now error) }
     ensures every_script { (script : Contents) → IsScript bytes.now script → (result ≡ Ok script) ⊎ (result ≡ Err Memory) }
-    ensures every_fault { (bad : Bad) → IsBad bytes.now bad → (result ≡ Err (Refused bad)) ⊎ (result ≡ Err Memory) }
+    ensures every_fault { (bad : Bad) → IsBadLine bytes.now bad → (result ≡ Err (Refused bad)) ⊎ (result ≡ Err Memory) }
 {
     read_lines(alloc, bytes)
 }

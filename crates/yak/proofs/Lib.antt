@@ -1,4 +1,3 @@
-pub mod Decimals
 pub mod Settings
 pub mod Words
 pub mod Rounds

@@ -2,6 +2,7 @@
 use Rattle.std.proofs.Common.{◌≡◌, ◌≤◌, ℕ, List, Option, None, Some, sym, subst, inl, inr, arith}
 use Rattle.std.specs.Prelude.{IfSome}
 use Rattle.script_text.specs.declared.TheConstants.{MAX_PAGES}
+use Rattle.yak.specs.declared.forms.TheConstants.{DEFAULT_TASK}
 use Rattle.yak.specs.declared.forms.Form.{Form}
 use Rattle.yak.specs.declared.forms.Form.TheVariants.{Count}
 use Rattle.yak.specs.declared.forms.Options.{Options}
@@ -40,7 +41,7 @@ pub record IsRanged (options : Options) : Type 0 where
 ranged : (settings : Settings) → AreNumbers settings → IsRanged (chosen settings)
 ranged settings are =
     let pages = default_number Pages settings.pages MAX_PAGES are.pages (record { some = omega arith; few = omega arith }) in
-    let task = default_number Task settings.task 64 are.task (record { some = omega arith; few = omega arith }) in
+    let task = default_number Task settings.task DEFAULT_TASK are.task (record { some = omega arith; few = omega arith }) in
     record { pages = (pages.some, pages.few); task = task.some }
 
 form_ranged : (words : List (List ℕ)) (options : Options) → IsForm words (Count options) → IsRanged options

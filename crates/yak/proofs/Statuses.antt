@@ -7,7 +7,7 @@ use Rattle.yak_io.specs.Causes.{Rose}
 use Rattle.script_text.specs.declared.TheConstants.{INPUT_LIMIT}
 use Rattle.script_text.specs.declared.faults.Bad.{Bad}
 use Rattle.script_text.specs.Contents.{Contents}
-use Rattle.script_text.specs.Scripts.{IsBad, IsScript}
+use Rattle.script_text.specs.Scripts.{IsBadLine, IsScript}
 use Rattle.script_runner.specs.Runs.{Held}
 use Rattle.yak.specs.declared.endings.Status.{Status}
 use Rattle.yak.specs.declared.endings.Status.TheVariants.{Done, Usage, Refused, ReadFault, WriteFault, NoMemory, TooLarge, OutOfHeap, LongWord}
@@ -60,7 +60,7 @@ not_large input bytes told fits large = let more = of_told input.before bytes (�
 -- ---- statuses
 
 abbrev pub Never : Type 0
-Never = (bytes : List ℕ) (script : Contents) (bad : Bad) → IsScript bytes script → IsBad bytes bad → ⊥
+Never = (bytes : List ℕ) (script : Contents) (bad : Bad) → IsScript bytes script → IsBadLine bytes bad → ⊥
 
 done_replayed : (words : List (List ℕ)) (input : Input) (output : Output) (text : List ℕ) (kept : Option Held) → Appends output.before output.after text
     → belongs Done words input text kept → IsReplay words → EndsReplayed input output kept
@@ -88,7 +88,7 @@ done_asked words input text kept (inr (inl (rounds, gen, more))) = (Gen rounds, 
 done_asked words input text kept (inr (inr (options, count, more))) = count_asked words options count
 
 done_refused : Never → (words : List (List ℕ)) (input : Input) (output : Output) (text : List ℕ) (kept : Option Held) → belongs Done words input text kept
-    → (bytes : List ℕ) (bad : Bad) → IsReplay words → IsFaultless input output bytes → IsBad bytes bad → ⊥
+    → (bytes : List ℕ) (bad : Bad) → IsReplay words → IsFaultless input output bytes → IsBadLine bytes bad → ⊥
 done_refused never words input output text kept (inl (replay, (other, is, (held, here, replays)))) bytes bad named clean bad_is =
     never bytes replays.script bad (subst (λ (l : List ℕ). IsScript l replays.script) (same_input input bytes other clean.told is) replays.read) bad_is
 done_refused never words input output text kept (inr (inl (rounds, gen, more))) bytes bad named clean bad_is = gen_or_replay words rounds named gen
@@ -170,7 +170,7 @@ script_ends never Done words input output kept h bytes script named clean fits i
 script_ends never Usage words input output kept h bytes script named clean fits is = absurd (h.1.meaning.0 (Replay, named, tt))
 script_ends never Refused words input output kept h bytes script named clean fits is =
     let told = h.1.meaning.1 in
-    absurd (never bytes script told.2.bad is (subst (λ (l : List ℕ). IsBad l told.2.bad) (same_input input bytes told.0 clean.told told.1) told.2.refused))
+    absurd (never bytes script told.2.bad is (subst (λ (l : List ℕ). IsBadLine l told.2.bad) (same_input input bytes told.0 clean.told told.1) told.2.refused))
 script_ends never ReadFault words input output kept h bytes script named clean fits is = absurd (clean.read_well h.1.meaning.1)
 script_ends never WriteFault words input output kept h bytes script named clean fits is = absurd (clean.written_well h.1.3.rose)
 script_ends never NoMemory words input output kept h bytes script named clean fits is = inr refl
@@ -179,7 +179,7 @@ script_ends never OutOfHeap words input output kept h bytes script named clean f
 script_ends never LongWord words input output kept h bytes script named clean fits is = absurd (count_or_replay words h.1.meaning.0.0 named h.1.meaning.0.1)
 
 pub refusal_ends : Never → (status : Status) (words : List (List ℕ)) (input : Input) (output : Output) (kept : Option Held) → ends status words input output kept
-    → (bytes : List ℕ) (bad : Bad) → IsReplay words → IsFaultless input output bytes → length bytes ≤ INPUT_LIMIT → IsBad bytes bad → (status ≡ Refused) ⊎ (status ≡ NoMemory)
+    → (bytes : List ℕ) (bad : Bad) → IsReplay words → IsFaultless input output bytes → length bytes ≤ INPUT_LIMIT → IsBadLine bytes bad → (status ≡ Refused) ⊎ (status ≡ NoMemory)
 refusal_ends never Done words input output kept h bytes bad named clean fits is = absurd (done_refused never words input output h.0 kept h.1.meaning bytes bad named clean is)
 refusal_ends never Usage words input output kept h bytes bad named clean fits is = absurd (h.1.meaning.0 (Replay, named, tt))
 refusal_ends never Refused words input output kept h bytes bad named clean fits is = inl refl

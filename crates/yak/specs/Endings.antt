@@ -12,7 +12,7 @@ use Rattle.yak.specs.declared.endings.Status.{Status}
 use Rattle.yak.specs.declared.endings.Status.TheVariants.{Done, Usage, Refused, ReadFault, WriteFault, NoMemory, TooLarge, OutOfHeap, LongWord}
 use Rattle.object_layout.specs.declared.replies.Reply.{Reply}
 use Rattle.script_text.specs.Printing.{script_text}
-use Rattle.script_text.specs.Scripts.{IsScript, IsBad}
+use Rattle.script_text.specs.Scripts.{IsScript, IsBadLine}
 use Rattle.script_runner.specs.Runs.{Held, IsRun}
 use Rattle.object_layout.specs.declared.replies.Census.{Census}
 use Rattle.heap_words.specs.Contents.{contents}
@@ -108,7 +108,7 @@ refusal_line bad = bad_text bad ++ codes "\n"
 -- the bytes are no script, and this text tells why
 pub record Refuses (bytes text : List ℕ) : Type 0 where
   pub bad : Bad
-  pub refused : IsBad bytes bad
+  pub refused : IsBadLine bytes bad
   pub line : text ≡ refusal_line bad
 
 -- what is kept of a heap, where any is: nothing but after a script ran or a text was counted

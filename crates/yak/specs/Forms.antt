@@ -2,7 +2,7 @@
 use Rattle.std.specs.Prelude.{◌≡◌, ◌≤◌, ◌⊎◌, ℕ, List, [], ◌∷◌, ◌++◌, Option, Some, None, codes, decimal}
 use Rattle.object_layout.specs.declared.TheConstants.{MAX_THREADS}
 use Rattle.script_text.specs.declared.TheConstants.{INPUT_LIMIT, MAX_PAGES}
-use Rattle.yak.specs.declared.forms.TheConstants.{MAX_ROUNDS}
+use Rattle.yak.specs.declared.forms.TheConstants.{DEFAULT_TASK, MAX_ROUNDS}
 use Rattle.yak.specs.declared.forms.Form.{Form}
 use Rattle.yak.specs.declared.forms.Form.TheVariants.{Replay, Threads, Count, Gen}
 use Rattle.yak.specs.declared.forms.Options.{Options}
@@ -69,7 +69,7 @@ or_default (Some number) other = number
 
 -- what a count is made with
 abbrev pub chosen : Settings → Options
-chosen settings = record { workers = or_default settings.workers 1; task = or_default settings.task 64; pages = or_default settings.pages MAX_PAGES }
+chosen settings = record { workers = or_default settings.workers 1; task = or_default settings.task DEFAULT_TASK; pages = or_default settings.pages MAX_PAGES }
 
 -- ---- the forms
 

@@ -5,12 +5,13 @@ ghost use Rattle.yak.specs.declared.forms.Setting.{Setting};
 ghost use Rattle.yak.specs.declared.forms.Settings.{Settings};
 ghost use Rattle.yak.specs.Forms.{IsAsked, IsBuiltForm, IsForm, IsJoined, IsSetting, Sets, chosen, most_of, setting_word, tell, told, unset};
 
-use crate::numbers::number_of;
 use object_layout::MAX_THREADS;
-use script_text::{INPUT_LIMIT, MAX_PAGES};
+use script_text::{INPUT_LIMIT, MAX_PAGES, number_of};
 
 /// The greatest number of rounds of a generated script.
 pub const MAX_ROUNDS: u32 = 100000;
+/// The lines of a task of a count, where they aren't told.
+pub const DEFAULT_TASK: u32 = 64;
 
 /// What a count is made with.
 #[derive(Clone, Copy, Debug, PartialEq, Eq, Drop)]
@@ -118,7 +119,7 @@ impl Settings {
     {
         Options {
             workers: self.workers.unwrap_or(1),
-            task: self.task.unwrap_or(64),
+            task: self.task.unwrap_or(DEFAULT_TASK),
             pages: self.pages.unwrap_or(MAX_PAGES),
         }
     }

@@ -4,7 +4,6 @@
 mod endings;
 mod forms;
 mod generator;
-mod numbers;
 mod plain;
 mod summaries;
 #[cfg(test)]

@@ -3,7 +3,7 @@ ghost use Rattle.std.specs.Prelude.{◌≡◌, ◌≢◌, ◌≤◌, ◌<◌, �
 ghost use Rattle.std.specs.Io.KnownBytes.{Appends};
 ghost use Rattle.script_text.specs.Contents.{Contents};
 ghost use Rattle.yak_io.specs.Causes.{Rose};
-ghost use Rattle.script_text.specs.Scripts.{IsBad, IsScript};
+ghost use Rattle.script_text.specs.Scripts.{IsBadLine, IsScript};
 ghost use Rattle.group_jobs.specs.LongWords.{has_long_word, long_word_line};
 ghost use Rattle.yak.specs.declared.forms.Options.{Options};
 ghost use Rattle.yak.specs.Forms.{IsAsked, IsCount, IsGen, IsReading, IsReplay};
@@ -175,7 +175,7 @@ fn count(alloc: Global, options: Options, bytes: &[u8]) -> Prepared
 
 /// A run that is refused for a bad line.
 fn refused(alloc: Global, bad: Bad) -> Prepared
-    ensures { (bytes : List ℕ) → IsBad bytes bad → comes_to result.status bytes result.text.items (held_by ⟦<Image as Words>⟧.words result.kept) }
+    ensures { (bytes : List ℕ) → IsBadLine bytes bad → comes_to result.status bytes result.text.items (held_by ⟦<Image as Words>⟧.words result.kept) }
 {
     match refusal(alloc, bad) {
         Ok(text) => Prepared {
@@ -271,7 +271,7 @@ fn ended<S: Source, K: Sink>(
         (output_of (K.written sink.old) (K.written sink.new) (K.faults sink.old) (K.faults sink.new)) bytes → length bytes ≤ INPUT_LIMIT → IsScript bytes script → (result ≡ Status.Done) ⊎ (result ≡ Status.NoMemory) }
     ensures every_refusal { (bytes : List ℕ) (bad : Bad) → IsReplay (map string_bytes args.now) → IsFaultless
         (input_of (S.left source.old) (S.left source.new) (S.faults source.old) (S.faults source.new))
-        (output_of (K.written sink.old) (K.written sink.new) (K.faults sink.old) (K.faults sink.new)) bytes → length bytes ≤ INPUT_LIMIT → IsBad bytes bad → (result ≡ Status.Refused) ⊎ (result ≡ Status.NoMemory) }
+        (output_of (K.written sink.old) (K.written sink.new) (K.faults sink.old) (K.faults sink.new)) bytes → length bytes ≤ INPUT_LIMIT → IsBadLine bytes bad → (result ≡ Status.Refused) ⊎ (result ≡ Status.NoMemory) }
     ensures every_gen { (rounds : ℕ) → IsGen (map string_bytes args.now) rounds → (Rose (K.faults sink.old) (K.faults sink.new) → ⊥) → (result ≡ Status.Done) ⊎ (result ≡ Status.NoMemory) }
     ensures every_count { (options : Options) (bytes : List ℕ) → IsCount (map string_bytes args.now) options → IsFaultless
         (input_of (S.left source.old) (S.left source.new) (S.faults source.old) (S.faults source.new))
@@ -337,7 +337,7 @@ pub fn plain<S: Source, K: Sink>(
         (output_of (K.written sink.old) (K.written sink.new) (K.faults sink.old) (K.faults sink.new)) bytes → length bytes ≤ INPUT_LIMIT → IsScript bytes script → (result ≡ 0) ⊎ (result ≡ 5) }
     ensures every_refusal { (bytes : List ℕ) (bad : Bad) → IsReplay (map string_bytes args.now) → IsFaultless
         (input_of (S.left source.old) (S.left source.new) (S.faults source.old) (S.faults source.new))
-        (output_of (K.written sink.old) (K.written sink.new) (K.faults sink.old) (K.faults sink.new)) bytes → length bytes ≤ INPUT_LIMIT → IsBad bytes bad → (result ≡ 2) ⊎ (result ≡ 5) }
+        (output_of (K.written sink.old) (K.written sink.new) (K.faults sink.old) (K.faults sink.new)) bytes → length bytes ≤ INPUT_LIMIT → IsBadLine bytes bad → (result ≡ 2) ⊎ (result ≡ 5) }
     ensures every_gen { (rounds : ℕ) → IsGen (map string_bytes args.now) rounds → (Rose (K.faults sink.old) (K.faults sink.new) → ⊥) → (result ≡ 0) ⊎ (result ≡ 5) }
     ensures every_excess { (bytes : List ℕ) → IsReading (map string_bytes args.now) → IsFaultless
         (input_of (S.left source.old) (S.left source.new) (S.faults source.old) (S.faults source.new))

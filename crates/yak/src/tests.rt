@@ -1,9 +1,14 @@
 use crate::forms::{Form, read_form};
 use crate::plain::{Kept, plain};
-use object_layout::{Call, Reply, WORD_LIMIT};
+use epoch_lattice::{Space, below};
+use heap_words::MakeError;
+use object_layout::{
+    BadSlot, Call, LogFull, NoMemory, NoPage, OutOfHeap, Reply, StackEmpty, StackFull, WORD_LIMIT,
+};
+use script_text::{Bad, ReadError, Reason};
 use std::alloc::{AllocError, Global};
 use std::test::Fail;
-use yak_io::{MemorySink, MemorySource, SureSource};
+use yak_io::{Failed, MemorySink, MemorySource, ReadAllError, SureSource};
 
 const FIRST_PATH: &[u8] = b"heap 4 1\n1 int 7\n1 get 1\n";
 
@@ -120,6 +125,78 @@ fn generated_scripts_are_summed_up(rt: HostRuntime) -> Result<(), Fail> {
             panic!(rt; "no heap was kept");
         };
         assert_eq!(rt; (core.pages(), core.threads()), (64, 4), "{line}");
+    }
+    Ok(())
+}
+
+#[test]
+fn a_generated_script_runs_the_same_twice(rt: HostRuntime) -> Result<(), Fail> {
+    let alloc = rt.alloc();
+    let args = words_of(alloc, "gen 2000")?;
+    let mut first = MemorySink::new(alloc, 100, Vec::new(alloc))?;
+    let mut second = MemorySink::new(alloc, 100, Vec::new(alloc))?;
+    for sink in [&mut first, &mut second] {
+        let mut source = SureSource::new(Vec::new(alloc));
+        let mut kept = Kept::Nothing;
+        assert_eq!(rt; plain(alloc, &args, &mut source, sink, &mut kept), 0);
+    }
+    assert!(rt; first.written().starts_with(b"calls 15210\nmoved 1994\n"));
+    assert_eq!(rt; second.written(), first.written());
+    Ok(())
+}
+
+#[test]
+fn spaces_lie_below_each_other(rt: HostRuntime) -> Result<(), Fail> {
+    let outer = Space::Region {
+        thread: 1,
+        depth: 1,
+    };
+    let inner = Space::Region {
+        thread: 1,
+        depth: 2,
+    };
+    assert!(rt; below(inner, outer) && below(outer, Space::Control));
+    assert!(rt; !below(outer, inner) && !below(Space::Control, outer));
+    Ok(())
+}
+
+#[test]
+fn errors_have_texts(rt: HostRuntime) -> Result<(), Fail> {
+    let alloc = rt.alloc();
+    let bad = Bad {
+        line: 2,
+        reason: Reason::BadThread,
+    };
+    for (shown, text) in [
+        (format!(in alloc; "{NoMemory}")?, "no memory"),
+        (format!(in alloc; "{NoPage}")?, "no page is free"),
+        (format!(in alloc; "{LogFull}")?, "the store buffer is full"),
+        (format!(in alloc; "{StackFull}")?, "the stack is full"),
+        (format!(in alloc; "{StackEmpty}")?, "the stack is empty"),
+        (format!(in alloc; "{BadSlot}")?, "no such stack slot"),
+        (format!(in alloc; "{OutOfHeap}")?, "out of heap"),
+        (format!(in alloc; "{Failed}")?, "the outside failed"),
+        (
+            format!(in alloc; "{}", ReadAllError::Failed)?,
+            "the input could not be read",
+        ),
+        (
+            format!(in alloc; "{}", ReadAllError::TooLarge)?,
+            "the input is too large",
+        ),
+        (format!(in alloc; "{}", ReadAllError::Memory)?, "no memory"),
+        (
+            format!(in alloc; "{}", ReadError::Refused(bad))?,
+            "line 2: bad thread",
+        ),
+        (format!(in alloc; "{}", ReadError::Memory)?, "no memory"),
+        (
+            format!(in alloc; "{}", MakeError::BadConfig)?,
+            "a heap has 1 to 4096 pages and 1 to 8 threads",
+        ),
+        (format!(in alloc; "{}", MakeError::Memory)?, "no memory"),
+    ] {
+        assert_eq!(rt; shown.as_str(), text);
     }
     Ok(())
 }
