@@ -9,7 +9,7 @@ ghost use Rattle.remember_sets.specs.Filed.{IsFiled, LiesIn, SetsHold, with_sets
 
 use crate::{SET_ENTRIES, entries};
 use epoch_lattice::{MAX_DEPTH, Space, index_of};
-use heap_words::{Areas, PAGE_WORDS, Words, get_head, get_page, get_set, set_head, set_set};
+use heap_words::{Areas, Words, get_head, get_page, get_set, set_head, set_set};
 
 /// Takes the slot at a place out of the list, which has so many, and puts the last one there.
 fn remove_entry<W: Words>(words: &mut W, map: Areas, count: usize, k: usize)
@@ -44,7 +44,7 @@ fn lies_in<W: Words>(words: &mut W, map: Areas, slot: u64, space: Space) -> bool
     ensures reads { W.reads words.new ≤ W.reads words.old + 1 }
     ensures base { W.base words.new ≡ W.base words.old }
 {
-    let page = (slot / u64::from(PAGE_WORDS)) as u32;
+    let page = (slot / u64::from(map.page_words())) as u32;
     get_page(words, map, page, 0) == u64::from(index_of(space)) + 1
 }
 
