@@ -185,6 +185,11 @@ module _ (m : Areas) (was now : Contents) (t : ℕ) (asked : Call) (stepped : St
   few : is-new.0 + OBJECT_WORDS ≤ 2 ^ 16 - 1
   few = ∥∥₁_elim some (hlevel props) (λ q. let page = ap (λ (l : Limits). l.page) q.1.whole.limits in omega (arith, page, (nothing-made q.0 q.1).0))
 
+  pub words-kept : (words : ℕ) → words ≡ min (words_asked asked) (2 ^ 16 - 1) → words ≡ words_asked asked
+  words-kept words wide =
+      let asks : words_asked asked ≡ is-new.0 + OBJECT_WORDS = ap words_asked is-new.1 in
+      omega (arith, wide, asks, few)
+
   pub counted-full : (made made' refusals refusals' depth words : ℕ) (last : Option (Census × ℕ × ℕ)) (census : Census) → CountsFull now census → made' ≡ counted_on made (words_made asked stepped.reply) → refusals' ≡ counted_on refusals 1 → depth ≡ depth_of now t → words ≡ min (words_asked asked) (2 ^ 16 - 1)
       → Counted (standing_told was t made refusals last) asked stepped.reply (standing_told now t made' refusals' (Some (census, depth, words)))
   counted-full made made' refusals refusals' depth words last census counts more once deep wide =

@@ -11,9 +11,10 @@ ghost use Rattle.yak_model.specs.Graph.{thread_of};
 ghost use Rattle.yak_model.specs.Lawful.{present_words};
 ghost use Rattle.yak_model.specs.Placed.{used_mark};
 ghost use Rattle.yak_model.specs.Spaces.{SpaceState};
-ghost use Rattle.yak_model.specs.Standing.{counted_on, words_made};
+ghost use Rattle.yak_model.specs.Private.{KnownObjects};
+ghost use Rattle.yak_model.specs.Standing.{Counted, MovesKnown, Stays, counted_on, words_made};
 ghost use Rattle.yak_model.specs.Stands.{Stands};
-ghost use Rattle.heap_core.specs.Callers.{FillsPages, KnowsAlone, TellsKnown, TellsThread, standing_told, thread_told, words_asked, words_used};
+ghost use Rattle.heap_core.specs.Callers.{FillsPages, KnowsAlone, MakesStep, TellsKnown, TellsThread, standing_told, thread_told, words_asked, words_used};
 
 use crate::owned::Core;
 use heap_words::{Areas, Words, get_page};
@@ -68,7 +69,13 @@ impl<W: Words> Caller for CoreCaller<W> {
 
     ghost told = { λ s. record { some = s.some; none_free = s.none_free } };
 
-    fn make_call(&mut self, call: Call) -> Reply {
+    fn make_call(&mut self, call: Call) -> Reply
+        requires { IsCall call }
+        ensures stays { Stays ⟦<CoreCaller<W> as Caller>⟧.base ⟦<CoreCaller<W> as Caller>⟧.tells ⟦<CoreCaller<W> as Caller>⟧.tells_known self.old self.new }
+        ensures counted { Counted (⟦<CoreCaller<W> as Caller>⟧.standing self.old) call result (⟦<CoreCaller<W> as Caller>⟧.standing self.new) }
+        ensures known { (known : KnownObjects) → ⟦<CoreCaller<W> as Caller>⟧.knows self.old known → MovesKnown (⟦<CoreCaller<W> as Caller>⟧.standing self.old) known call result (⟦<CoreCaller<W> as Caller>⟧.standing self.new).own (⟦<CoreCaller<W> as Caller>⟧.knows self.new) }
+        ensures step { MakesStep self.old.core.map (contents self.old.core.map (W.words self.old.core.words)) (contents self.new.core.map (W.words self.new.core.words)) self.old.thread call result self.old.last self.new.last }
+    {
         let stepped = self.core.step(self.thread, call);
         self.made = count_up(self.made, words_made(call, stepped.reply));
         if let Some(census) = stepped.full {
