@@ -68,7 +68,7 @@ module _ (m : Areas) (before later : List ℕ) (t : ℕ) (asked : Call) (stepped
   pub call-knows : (made refusals : ℕ) (last : Option (Census × ℕ × ℕ)) (known : _) → KnowsAlone m (contents m before) t known → MovesKnown (standing_told (contents m before) t made refusals last) known asked stepped.reply (thread_told (contents m later) t) (KnowsAlone m (contents m later) t)
   call-knows made refusals last known knows =
       let turn = k.steps knows.state knows.stands in
-      moves-known m (contents m before) knows.state knows.stands (contents m later) t known knows.made knows.private asked stepped turn.0 turn.1 turn.2 made refusals last
+      moves-known m (contents m before) knows.state knows.stands (contents m later) t known knows.made knows.private knows.fits asked stepped turn.0 turn.1 turn.2 made refusals last
 
   pub call-holds : (present made made' more : ℕ) → words_used (contents m before).table ≤ present + made → more ≡ words_made asked stepped.reply → made' ≡ counted_on made more → words_used (contents m later).table ≤ present + made'
   call-holds present made made' more holds same count =
@@ -80,6 +80,9 @@ module _ (m : Areas) (before later : List ℕ) (t : ℕ) (asked : Call) (stepped
   -- where the counts of the pages are told, the heap was full
   is-full : (census : Census) → stepped.full ≡ Some census → (stepped.reply ≡ reply.OutOfHeap) × CountsFull (contents m later) census
   is-full census e = subst (λ o. MatchOption o (stepped.reply ≢ reply.OutOfHeap) (λ counts. (stepped.reply ≡ reply.OutOfHeap) × CountsFull (contents m later) counts)) e k.tells
+
+  pub call-none-free : (census : Census) → stepped.full ≡ Some census → census.free ≡ 0
+  call-none-free census e = (is-full census e).1.none_free
 
   pub call-fills : (census : Census) → stepped.full ≡ Some census → (words : ℕ) → words_used (contents m later).table ≤ words → FillsPages m words (depth_of (contents m later) t)
   call-fills census e = fills-pages m (contents m before) (contents m later) t asked stepped k.steps k.thread k.some k.some_now k.fills (is-full census e).0 k.areas k.longer

@@ -67,7 +67,7 @@ module _ (m : Areas) (was now : Contents) (t : ℕ) (asked : Call) (stepped : St
       record {
         thread = tells.thread;
         other = tells.other;
-        alone = knows-after m was k.state k.stands t u known k.made k.private asked stepped turn.0 turn.1 now turn.2 known ((λ e. absurd (tells.other (sym e))), (λ ne. refl));
+        alone = knows-after m was k.state k.stands t u known k.made k.private asked stepped turn.0 turn.1 k.fits now turn.2 known ((λ e. absurd (tells.other (sym e))), (λ ne. refl));
       }
 
   -- ---- the words in use

@@ -13,7 +13,7 @@ use Rattle.yak_model.specs.declared.datum.Datum.{Datum}
 use Rattle.yak_model.specs.declared.datum.Datum.TheVariants as datum
 use Rattle.yak_model.specs.Names.{name_cmp}
 use Rattle.yak_model.specs.Graph.{Content, Graph, Thread, standard_limits}
-use Rattle.yak_model.specs.Private.{AreMade, IsPrivate, KnownObjects}
+use Rattle.yak_model.specs.Private.{AreMade, FitPages, IsPrivate, KnownObjects}
 use Rattle.yak_model.specs.Spaces.{SpaceState}
 use Rattle.yak_model.specs.Standing.{Standing}
 use Rattle.yak_model.specs.Stands.{Stands}
@@ -63,12 +63,13 @@ abbrev pub graph_with : Graph → KnownObjects → Graph
 graph_with g known = record g { objects = with_absent g.objects (finite.entries known) }
 
 -- The thread alone knows the map, in the state for which the words stand with those objects of the map added that were made
--- and aren't present any more.
+-- and aren't present any more. Each object of the map fits a page.
 pub record KnowsAlone (m : Areas) (c : Contents) (t : ℕ) (known : KnownObjects) : Type 0 where
   pub state : SpaceState
   pub stands : Stands m c state
   pub made : AreMade (graph_with state.graph known)
   pub private : IsPrivate (graph_with state.graph known) t known
+  pub fits : FitPages standard_limits known
 
 -- Another thread of the heap, other than the caller's own, alone knows the map.
 pub record TellsKnown (m : Areas) (c : Contents) (own t : ℕ) (known : KnownObjects) : Type 0 where

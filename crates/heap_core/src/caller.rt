@@ -1,6 +1,6 @@
 //! One thread's way to a heap that is owned.
 
-ghost use Rattle.std.specs.Prelude.{◌≡◌, ◌≤◌, ◌<◌, ◌+◌, ◌-◌, ◌^◌, ℕ, min, None};
+ghost use Rattle.std.specs.Prelude.{◌≡◌, ◌↔◌, ◌≤◌, ◌<◌, ◌+◌, ◌-◌, ◌^◌, ℕ, min, None, refl};
 ghost use Rattle.std.specs.Option.{ForSome};
 ghost use Rattle.std.specs.FinMap.{empty};
 ghost use Rattle.object_layout.specs.Calls.{IsCall};
@@ -38,6 +38,11 @@ pub struct CoreCaller<W: Words> {
     pub ghost has_thread: { HasThread core.map thread },
     // the present objects have at most the words of those that were present and those that were made
     pub ghost holds: { words_used (contents core.map (W.words core.words)).table ≤ present + made },
+    // the thread knows the map without objects
+    pub ghost knows_none: { ∥ KnowsAlone core.map (contents core.map (W.words core.words)) thread empty ∥₁ },
+    // there is a last call that was answered by `OutOfHeap` exactly where there were some, and no page was free then
+    pub ghost some: { last ≡ None ↔ refusals ≡ 0 },
+    pub ghost none_free: { ForSome last (λ l. l.0.free ≡ 0) },
     // where there was no room and the heap has one thread, those words fill its pages
     pub ghost filled: { ForSome last (λ l. FillsPages core.map (present + made) l.1) },
 }
@@ -54,6 +59,14 @@ impl<W: Words> Caller for CoreCaller<W> {
     ghost tells = { λ s t own. TellsThread s.core.map (contents s.core.map (W.words s.core.words)) s.thread t own };
 
     ghost tells_known = { λ s t known. TellsKnown s.core.map (contents s.core.map (W.words s.core.words)) s.thread t known };
+
+    ghost standard = { λ s. refl };
+
+    ghost knows_none = { λ s. s.knows_none };
+
+    ghost fit = { λ s known k. k.fits };
+
+    ghost told = { λ s. record { some = s.some; none_free = s.none_free } };
 
     fn make_call(&mut self, call: Call) -> Reply {
         let stepped = self.core.step(self.thread, call);

@@ -5,7 +5,8 @@ use Rattle.heap_words.specs.Map.{IsAreas}
 use Rattle.heap_words.specs.Contents.{contents, depth_of}
 use Rattle.yak_model.specs.Standing.{counted_on}
 use Rattle.heap_core.specs.Callers.{FillsPages, words_used}
-use Rattle.heap_core.proofs.Called.{Called, call-counted, call-fills, call-holds, call-knows-as, call-tells, call-tells_known, called}
+use Rattle.heap_core.proofs.Called.{Called, call-counted, call-fills, call-holds, call-knows-as, call-none-free, call-tells, call-tells_known, called}
+use Rattle.heap_core.proofs.Calling.{some-knows-nothing}
 use Rattle.heap_core.proofs.Filling.{fills-more}
 use Rattle.heap_core.proofs.caller.CoreCallerCaller.make_call.Goals as goal
 
@@ -13,6 +14,9 @@ use Rattle.heap_core.proofs.caller.CoreCallerCaller.make_call.Goals as goal
 abbrev depth_told : Option (Census × ℕ × ℕ) → ℕ
 depth_told None = 0
 depth_told (Some x) = x.1
+
+some-last : (x y : Census × ℕ × ℕ) → Some x ≡ Some y → x ≡ y
+some-last x y e = cc
 
 pub invariant_of-self : goal.invariant_of-self
 invariant_of-self g c =
@@ -26,6 +30,9 @@ invariant_of-self g c =
     let holds = call-holds core.map w0 w1 s.thread c.args.call step.result k s.present s.made c.count_up-self.result c.words_made.result s.holds c.words_made.ensures c.count_up-self.ensures.counted in
     record {
       has_thread = rw (c.depth.ensures.map, step.ensures.map) s.has_thread;
+      knows_none = some-knows-nothing c.depth.new.self.map (contents c.depth.new.self.map (g.W.Words.words c.depth.new.self.words)) s.thread c.depth.new.self.stands;
+      some = (λ e. cc, λ e. let count = c.count_up-self-in-Some.ensures.counted in absurd (omega (arith, count, e)));
+      none_free = λ x e. subst (λ (l : Census × ℕ × ℕ). l.0.free ≡ 0) (some-last (c.in-Some.census, c.depth.result, c.words_asked.result) x e) (call-none-free core.map w0 w1 s.thread c.args.call step.result k c.in-Some.census c.in-Some.is);
       holds = rw (c.depth.ensures.words, c.depth.ensures.map, step.ensures.map) holds;
       filled = λ x e.
           let deep : x.1 ≡ depth_of (contents core.map w1) s.thread = ap (λ (o : Option (Census × ℕ × ℕ)). depth_told o) (sym e) ∙ c.depth.ensures.depth ∙ ap (λ m. depth_of (contents m w1) s.thread) step.ensures.map in
@@ -44,6 +51,9 @@ invariant_of-self-in_default g c =
     let holds = call-holds core.map w0 w1 s.thread c.args.call step.result k s.present s.made c.count_up-self.result c.words_made.result s.holds c.words_made.ensures c.count_up-self.ensures.counted in
     record {
       has_thread = rw step.ensures.map s.has_thread;
+      knows_none = some-knows-nothing step.new.self.map (contents step.new.self.map w1) s.thread step.new.self.stands;
+      some = s.some;
+      none_free = s.none_free;
       holds = rw step.ensures.map holds;
       filled = λ x e. rw step.ensures.map (fills-more core.map (s.present + s.made) (s.present + c.count_up-self.result) x.1 (omega (arith, c.count_up-self.ensures.rises)) (s.filled x e));
     }
