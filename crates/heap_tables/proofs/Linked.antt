@@ -64,7 +64,7 @@ known_other known x y h none e = let q : IsSome {T = Content} None = subst (λ o
 pub shared_table : (known : KnownObjects) (name : Name) (heads : List Datum) (buckets : ℕ → List Link) (table : IsTable known name heads buckets) (word : List ℕ) (n b : ℕ) (home : bucket_of word ≡ b) (bound : b < BUCKETS) (lacks : LacksWord word (buckets b))
     (key entry : Name) (no_entry : get known entry ≡ None) (is_key : IsKey known key word) (name_key : name ≢ key)
     → (knows : KnownObjects → Type 0) → knows (insert (with_fields known entry (get_or heads b datum.Null) (datum.Object key) n) name (Fields (set heads b (datum.Object entry))))
-    → IsAddedTo known word n name buckets knows
+    → (added : IsAddedTo known word n name buckets knows) × (added.links ≡ record { entry = entry; key = key; word = word; count = n } ∷ buckets b)
 shared_table known name heads buckets table word n b home bound lacks key entry no_entry is_key name_key knows k =
     let two : KnownObjects = with_fields known entry (get_or heads b datum.Null) (datum.Object key) n in
     let last : List Datum = set heads b (datum.Object entry) in
@@ -76,32 +76,34 @@ shared_table known name heads buckets table word n b home bound lacks key entry 
     let entry_there : get two entry ≡ Some (Fields (entry_fields (get_or heads b datum.Null) key n)) = get-same known entry (Fields (get_or heads b datum.Null ∷ datum.Object key ∷ datum.Int n ∷ [])) in
     let key_there : get two key ≡ Some (Fields is_key.0) = g2 key _ is_key.1 in
     let name_entry : name ≢ entry = other_name known name entry _ no_entry table.object in
-    let within : b < length heads = omega (arith, bound, table.size) in
-    record {
-      after = after;
-      heads = last;
-      links = link ∷ buckets b;
-      known_now = k;
-      is_table = subst (λ i. IsTable after name last (with_bucket buckets i (link ∷ buckets b))) (sym home) (record {
-        object = get-same two name (Fields last);
-        size = length-set heads b (datum.Object entry) ∙ table.size;
-        chains = in_bucket (λ c ls. IsChain after (get_or last c datum.Null) ls) buckets b (link ∷ buckets b) (
-          get_or-set_same heads b (datum.Object entry) datum.Null within,
-          (
-            get_or heads b datum.Null,
-            (agree entry (λ e. name_entry (sym e)) ∙ entry_there, (is_key.0, agree key (λ e. name_key (sym e)) ∙ key_there, is_key.2, is_key.3)),
-            chain_agrees two after name agree (buckets b) (get_or heads b datum.Null) (table_apart two name heads buckets t2 (buckets b) (get_or heads b datum.Null) (t2.chains b bound)) (t2.chains b bound),
-          ),
-        )
-            (λ c h o. subst (λ v. IsChain after v (buckets c)) (sym (get_or-set_other heads b c (datum.Object entry) datum.Null o))
-            (chain_agrees two after name agree (buckets c) (get_or heads c datum.Null) (table_apart two name heads buckets t2 (buckets c) (get_or heads c datum.Null) (t2.chains c h)) (t2.chains c h)));
-        homes = in_bucket AreInBucket buckets b (link ∷ buckets b) (home, table.homes b bound) (λ c h o. table.homes c h);
-        distinct = in_bucket (λ c ls. AreDifferent ls) buckets b (link ∷ buckets b) (lacks, table.distinct b bound) (λ c h o. table.distinct c h);
-      });
-      adds = inr (subst (λ i. LacksWord word (buckets i)) (sym home) lacks, (link, refl, refl, ap (λ i. link ∷ buckets i) (sym home)));
-      others = λ x kx o no. get-other two name (Fields last) x o ∙ (grown_known known two g2 x kx).0;
-      fresh = λ x kx no. (known_other known x entry kx no_entry, subst (λ i. IsNoEntry x (buckets i)) home no);
-    }
+    let within : b < length heads = omega (arith, bound, table.size) in (
+      record {
+        after = after;
+        heads = last;
+        links = link ∷ buckets b;
+        known_now = k;
+        is_table = subst (λ i. IsTable after name last (with_bucket buckets i (link ∷ buckets b))) (sym home) (record {
+          object = get-same two name (Fields last);
+          size = length-set heads b (datum.Object entry) ∙ table.size;
+          chains = in_bucket (λ c ls. IsChain after (get_or last c datum.Null) ls) buckets b (link ∷ buckets b) (
+            get_or-set_same heads b (datum.Object entry) datum.Null within,
+            (
+              get_or heads b datum.Null,
+              (agree entry (λ e. name_entry (sym e)) ∙ entry_there, (is_key.0, agree key (λ e. name_key (sym e)) ∙ key_there, is_key.2, is_key.3)),
+              chain_agrees two after name agree (buckets b) (get_or heads b datum.Null) (table_apart two name heads buckets t2 (buckets b) (get_or heads b datum.Null) (t2.chains b bound)) (t2.chains b bound),
+            ),
+          )
+              (λ c h o. subst (λ v. IsChain after v (buckets c)) (sym (get_or-set_other heads b c (datum.Object entry) datum.Null o))
+              (chain_agrees two after name agree (buckets c) (get_or heads c datum.Null) (table_apart two name heads buckets t2 (buckets c) (get_or heads c datum.Null) (t2.chains c h)) (t2.chains c h)));
+          homes = in_bucket AreInBucket buckets b (link ∷ buckets b) (home, table.homes b bound) (λ c h o. table.homes c h);
+          distinct = in_bucket (λ c ls. AreDifferent ls) buckets b (link ∷ buckets b) (lacks, table.distinct b bound) (λ c h o. table.distinct c h);
+        });
+        adds = inr (subst (λ i. LacksWord word (buckets i)) (sym home) lacks, (link, refl, refl, ap (λ i. link ∷ buckets i) (sym home)));
+        others = λ x kx o no. get-other two name (Fields last) x o ∙ (grown_known known two g2 x kx).0;
+        fresh = λ x kx no. (known_other known x entry kx no_entry, subst (λ i. IsNoEntry x (buckets i)) home no);
+      },
+      refl,
+    )
 
 pub linked_table : (known : KnownObjects) (name : Name) (heads : List Datum) (buckets : ℕ → List Link) (table : IsTable known name heads buckets) (word : List ℕ) (n b : ℕ) (home : bucket_of word ≡ b) (bound : b < BUCKETS) (lacks : LacksWord word (buckets b))
     (key entry : Name) (d : Content) (no_key : get known key ≡ None) (no_entry : get (insert known key d) entry ≡ None) (is_key : IsKey (insert known key d) key word)
@@ -111,7 +113,7 @@ linked_table known name heads buckets table word n b home bound lacks key entry 
     let one : KnownObjects = insert known key d in
     let g1 : Grows known one = insert_grows known key d no_key in
     let t1 = table_grows known one g1 name heads buckets table in
-    let a = shared_table one name heads buckets t1 word n b home bound lacks key entry no_entry is_key (other_name known name key _ no_key table.object) knows k in
+    let a = (shared_table one name heads buckets t1 word n b home bound lacks key entry no_entry is_key (other_name known name key _ no_key table.object) knows k).0 in
     record {
       after = a.after;
       heads = a.heads;

@@ -10,7 +10,7 @@ use Rattle.yak_model.proofs.Names.{get-same}
 use Rattle.yak_model.specs.Standing.{Standing}
 use Rattle.yak_model.specs.Tables.{Link, IsChain, IsEntry}
 use Rattle.heap_tables.specs.Walks.{IsApart, IsAtChain, with_place}
-use Rattle.object_layout.specs.declared.TheConstants.{WORD_LIMIT}
+use Rattle.heap_tables.specs.declared.TheConstants.{KEY_BYTES}
 use Rattle.heap_tables.specs.Reads.{AreShort, IsCopied, Took}
 use Rattle.heap_tables.specs.Seeks.{IsSkipped, Passed, first_of}
 use Rattle.heap_tables.specs.Runs.{pushed}
@@ -140,9 +140,9 @@ pub front_is : (ls rest : List Link) (link : Link) → ls ≡ link ∷ rest → 
 front_is [] rest link e = cc
 front_is (l ∷ ls) rest link e = ap first_of e
 
-pub short_first : (n : ℕ) (links rest : List Link) (link : Link) → AreShort links → drop n links ≡ link ∷ rest → length link.word ≤ WORD_LIMIT
+pub short_first : (n : ℕ) (links rest : List Link) (link : Link) → AreShort links → drop n links ≡ link ∷ rest → length link.word ≤ KEY_BYTES
 short_first zero [] rest link short e = cc
-short_first zero (l ∷ links) rest link short e = let q : l ≡ link = cc in subst (λ (m : Link). length m.word ≤ WORD_LIMIT) q short.0
+short_first zero (l ∷ links) rest link short e = let q : l ≡ link = cc in subst (λ (m : Link). length m.word ≤ KEY_BYTES) q short.0
 short_first (suc n) [] rest link short e = cc
 short_first (suc n) (l ∷ links) rest link short e = short_first n links rest link short.1 e
 

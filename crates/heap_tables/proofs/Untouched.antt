@@ -8,18 +8,20 @@ use Rattle.object_layout.specs.declared.TheConstants.{MAX_INT}
 use Rattle.object_layout.specs.declared.names.Name.{Name}
 use Rattle.yak_model.specs.declared.datum.Datum.{Datum}
 use Rattle.yak_model.specs.declared.datum.Datum.TheVariants as datum
-use Rattle.yak_model.specs.Graph.{Thread}
-use Rattle.yak_model.specs.Private.{IsKnown, KnownObjects}
+use Rattle.yak_model.specs.Graph.{Limits, Thread, standard_limits}
+use Rattle.yak_model.specs.Private.{FitPages, IsKnown, KnownObjects}
 use Rattle.yak_model.specs.Standing.{Standing}
 use Rattle.yak_model.specs.Tables.{AreDifferent, AreInBucket, IsChain, IsCountTable, IsKey, IsTable, LacksWord, Link, bucket_of}
 use Rattle.yak_model.specs.Texts.{WordCounts}
 use Rattle.heap_tables.specs.Adds.{AddsCount, IsAddedTo, IsNoEntry, KeepsOthers, MayAdd, StayNowhere, having_made, with_bucket}
 use Rattle.heap_tables.specs.Counted.{count_of, or_zero, raised}
-use Rattle.heap_tables.specs.Merges.{AreSlots, AreSums, Goes, IsEntryAt, IsMerge, IsMerged, IsShare, KeepsUntouched, Merge, MergesEntry, SharesNone, Stops, done_at, news, one_if_none, raised_by, walk, with_shared}
+use Rattle.heap_tables.specs.Merges.{AreSlots, AreSums, Goes, IsEntryAt, IsMerge, IsMerged, IsShare, KeepsUntouched, Merge, MergesEntry, MergesLink, MergesLinks, SharesLink, SharesNone, Stops, done_at, news, one_if_none, raised_by, walk, with_shared}
+use Rattle.heap_tables.specs.Reads.{AreShort}
 use Rattle.heap_tables.specs.Runs.{Ran, RanOut, next_of}
 use Rattle.heap_tables.specs.Walks.{IsApart, IsAtChain}
 use Rattle.heap_tables.proofs.Counted.{added_counts, bucket_small, count_found, count_other}
 use Rattle.heap_tables.proofs.Entries.{key_no_entry}
+use Rattle.heap_tables.proofs.Fitting.{chain_short}
 use Rattle.heap_tables.proofs.Linked.{shared_table}
 use Rattle.heap_tables.proofs.Sought.{entry_drop}
 use Rattle.heap_tables.proofs.RunOn.{out_words, ran_out, ran_then, ran_words}
@@ -144,6 +146,19 @@ sums_drop counts zero (x ∷ xs) rest link sums e = let q : x ≡ link = cc in s
 sums_drop counts (suc p) [] rest link sums e = cc
 sums_drop counts (suc p) (x ∷ xs) rest link sums e = sums_drop counts p xs rest link sums.1 e
 
+-- ---- the entries
+
+merges_more : (done : List Link) (link : Link) (first now next : ℕ → List Link) → MergesLinks done first now → MergesLink link now next → MergesLinks (done ++ link ∷ []) first next
+merges_more [] link first now next e step = (next, subst (λ bs. MergesLink link bs next) e step, refl)
+merges_more (l ∷ done) link first now next h step = (h.0, h.1, merges_more done link h.0 now next h.2 step)
+
+-- an entry of a word that is there
+pub shares_present : (word : List ℕ) (n : ℕ) (link : Link) (links after : List Link) → word ≡ link.word → n ≡ link.count → (LacksWord word links → ⊥) → AddsCount word n links after → SharesLink link links after
+shares_present word n link links after e f there adds = elim adds [
+  | inl a ↦ inl (a.0, a.1, a.2, a.3, a.4 ∙ e, a.5 ∙ ap (λ k. a.0 ++ (record a.1 { count = (a.1).count + k }) ∷ a.2) f)
+  | inr b ↦ absurd (there b.0)
+]
+
 -- ---- what stays
 
 apart_nowhere : (name : Name) (ls : List Link) → IsApart name ls → IsNoEntry name ls
@@ -219,8 +234,8 @@ few_step now word n links adds c = elim (eqb_cases (bucket_of word) c) [
 ]
 
 pub merged_step : (m : Merge) (is : IsMerge m) (done : List Link) (knows : KnownObjects → Type 0) (d : IsMerged m is done knows) (word : List ℕ) (n : ℕ) (link : Link) → word ≡ link.word → n ≡ link.count
-    → (after : KnownObjects → Type 0) → IsAddedTo d.after word n m.into_name (d.into_table).buckets after → IsMerged m is (done ++ link ∷ []) after
-merged_step m is done knows d word n link e f after added =
+    → (after : KnownObjects → Type 0) (added : IsAddedTo d.after word n m.into_name (d.into_table).buckets after) → SharesLink link ((d.into_table).buckets (bucket_of word)) added.links → IsMerged m is (done ++ link ∷ []) after
+merged_step m is done knows d word n link e f after added shares =
     record {
       after = added.after;
       known_now = added.known_now;
@@ -233,10 +248,14 @@ merged_step m is done knows d word n link e f after added =
           let step = few_step (d.into_table).buckets word n added.links added.adds c in
           let long = length-append done (link ∷ []) in
           omega (arith, old, step, long);
+      entries =
+          let now = (d.into_table).buckets in
+          merges_more done link (is.into_table).buckets now (with_bucket now (bucket_of word) added.links) d.entries
+          (added.links, ap (λ w. with_bucket now (bucket_of w) added.links) e, subst (λ w. SharesLink link (now (bucket_of w)) added.links) e shares);
     }
 
 pub merged_as : (m : Merge) (is : IsMerge m) (done : List Link) (knows after : KnownObjects → Type 0) (d : IsMerged m is done knows) → after d.after → IsMerged m is done after
-merged_as m is done knows after d k = record { after = d.after; known_now = k; counts = d.counts; counts_are = d.counts_are; into_table = d.into_table; untouched = d.untouched; few = d.few }
+merged_as m is done knows after d k = record { after = d.after; known_now = k; counts = d.counts; counts_are = d.counts_are; into_table = d.into_table; untouched = d.untouched; few = d.few; entries = d.entries }
 
 pub merged_none : (m : Merge) (is : IsMerge m) (knows : KnownObjects → Type 0) → knows m.known → IsMerged m is [] knows
 merged_none m is knows k = record {
@@ -247,6 +266,7 @@ merged_none m is knows k = record {
   into_table = is.into_table;
   untouched = λ other h ne away. (refl, away);
   few = λ c h. omega arith;
+  entries = refl;
 }
 
 -- the word may be added
@@ -424,12 +444,16 @@ module _ (m : Merge) (is : IsMerge m) (b p : ℕ) (bound : b < BUCKETS) (knows :
       let size = f.size in
       (((slot, f.object), omega (arith, size, bound), f.chains b bound), table_apart d.after m.from_name m.heads m.buckets f (m.buckets b) (get_or m.heads b datum.Null) (f.chains b bound))
 
+  pub from_short : (limits : Limits) → limits ≡ standard_limits → FitPages limits d.after → AreShort (m.buckets b)
+  from_short limits standard fit = let f = from_now in chain_short limits standard d.after fit (m.buckets b) (get_or m.heads b datum.Null) (f.chains b bound)
+
   pub get_now : (word : List ℕ) (link : Link) → word ≡ link.word → get d.counts word ≡ get (raised_by m.counts (done_at m.buckets b p)) link.word
   get_now word link e = ap (λ cs. get cs word) d.counts_are ∙ ap (get (raised_by m.counts (done_at m.buckets b p))) e
 
   -- a new entry with the key of the other table's entry
   pub shared_now : (word : List ℕ) (n : ℕ) (link : Link) (rest : List Link) → IsEntryAt m b p word n link rest → LacksWord word ((d.into_table).buckets (bucket_of word)) → (s : Standing) → get d.after (next_of s) ≡ None
-      → (after : KnownObjects → Type 0) → after (with_shared s d.after m.into_name (d.into_table).heads b link.key n) → IsAddedTo d.after word n m.into_name (d.into_table).buckets after
+      → (after : KnownObjects → Type 0) → after (with_shared s d.after m.into_name (d.into_table).heads b link.key n)
+      → (added : IsAddedTo d.after word n m.into_name (d.into_table).buckets after) × SharesLink link ((d.into_table).buckets (bucket_of word)) added.links
   shared_now word n link rest at lacks s fresh after k =
       let f = from_now in
       let t = (d.into_table).table in
@@ -437,8 +461,11 @@ module _ (m : Merge) (is : IsMerge m) (b p : ℕ) (bound : b < BUCKETS) (knows :
       let entry = entry_drop d.after (get_or m.heads b datum.Null) (m.buckets b) rest link p (f.chains b bound) at.0 in
       let key : IsKey d.after link.key word = subst (IsKey d.after link.key) (sym at.1) entry.1.1 in
       let apart = table_apart d.after m.into_name (d.into_table).heads (d.into_table).buckets t (m.buckets b) (get_or m.heads b datum.Null) (f.chains b bound) in
-      shared_table d.after m.into_name (d.into_table).heads (d.into_table).buckets t word n b home bound (subst (λ c. LacksWord word ((d.into_table).buckets c)) home lacks)
-      link.key (next_of s) fresh key (λ e. apart_link m.into_name p (m.buckets b) rest link apart at.0 (sym e)) after k
+      let now = (d.into_table).buckets in
+      let r = shared_table d.after m.into_name (d.into_table).heads now t word n b home bound (subst (λ c. LacksWord word (now c)) home lacks)
+      link.key (next_of s) fresh key (λ e. apart_link m.into_name p (m.buckets b) rest link apart at.0 (sym e)) after k in
+      let entry_now : ℕ → List ℕ → Link = λ k w. record { entry = next_of s; key = link.key; word = w; count = k } in
+      (r.0, inr (subst (λ w. LacksWord w (now (bucket_of word))) at.1 lacks, (next_of s, r.1 ∙ ap (λ c. entry_now n word ∷ now c) (sym home) ∙ ap (λ w. entry_now n w ∷ now (bucket_of word)) at.1 ∙ ap (λ k. entry_now k link.word ∷ now (bucket_of word)) at.2)))
 
 module _ {S B : Type 0} (base : S → B) (tells : S → ℕ → Thread → Type 0) (tells_known : S → ℕ → KnownObjects → Type 0) (standing : S → Standing) (m : Merge) (is : IsMerge m) (b p : ℕ) (x y : S) (knows : KnownObjects → Type 0) where
   pub merges_end : (more : Bool) → more ≡ false → MergesEntry base tells tells_known standing m is b p more x y knows → (drop p (m.buckets b) ≡ []) × Goes base tells tells_known standing m is (done_at m.buckets b p) (done_at m.buckets b p) x y knows

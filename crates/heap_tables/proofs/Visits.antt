@@ -1,12 +1,12 @@
 -- The walk through the buckets of a table.
-use Rattle.std.proofs.Common.{zero, suc, ◌≡◌, ◌⊎◌, inl, inr, ℕ, ◌+◌, ◌<◌, ◌≤◌, List, [], ◌∷◌, ◌++◌, drop, take, refl, ◌∙◌, ap, sym, subst, Some, None, Option, IsSome, is_some, cond, arith, length, get_or, append_assoc}
+use Rattle.std.proofs.Common.{zero, suc, ◌≡◌, ◌⊎◌, inl, inr, ℕ, ◌+◌, ◌<◌, ◌≤◌, List, [], ◌∷◌, ◌++◌, drop, take, refl, ◌∙◌, ap, sym, subst, Some, None, Option, cond, arith, length, get_or}
 use Rattle.yak_model.specs.declared.TheConstants.{BUCKETS}
 use Rattle.std.proofs.lemmas.Bool.{cases_lt}
 use Rattle.std.specs.FinMap.{get}
-use Rattle.object_layout.specs.declared.TheConstants.{WORD_LIMIT}
 use Rattle.object_layout.specs.declared.names.Name.{Name}
 use Rattle.yak_model.specs.declared.datum.Datum.TheVariants as datum
-use Rattle.yak_model.specs.Private.{KnownObjects}
+use Rattle.yak_model.specs.Graph.{standard_limits}
+use Rattle.yak_model.specs.Private.{FitPages, KnownObjects}
 use Rattle.yak_model.specs.Standing.{Standing}
 use Rattle.yak_model.specs.Tables.{AreDifferent, AreInBucket, HasCount, IsCountTable, LacksWord, Link, bucket_of}
 use Rattle.yak_model.specs.Texts.{WordCounts}
@@ -17,6 +17,7 @@ use Rattle.heap_tables.specs.declared.cursors.Cursor.{Cursor}
 use Rattle.heap_tables.proofs.Counted.{one_count}
 use Rattle.heap_tables.proofs.Effects.{value_same}
 use Rattle.heap_tables.proofs.Raised.{distinct_parts, eqb_cases, has_count_at, home_at, lacks_at, table_apart}
+use Rattle.heap_tables.proofs.Fitting.{chain_short}
 use Rattle.heap_tables.proofs.Sought.{short_first}
 
 same_pair : (p q : ℕ × ℕ) → Some p ≡ Some q → p ≡ q
@@ -120,14 +121,9 @@ module _ (known : KnownObjects) (name : Name) (counts : WordCounts) (table : IsC
           let apart = distinct_parts passed rest link (subst AreDifferent parts ((table.table).distinct b bound)) in
           e ∙ ap Some (one_count link.word (passed ++ link ∷ rest) k link.count has (has_count_at link.word passed rest link apart.0 refl))
 
-  pub short_rest : ((word : List ℕ) → IsSome (get counts word) → length word ≤ WORD_LIMIT) → (passed rest : List Link) → table.buckets b ≡ passed ++ rest → AreShort rest
-  short_rest short passed [] parts = tt
-  short_rest short passed (link ∷ rest) parts =
-      (short link.word (ap is_some (counted_at passed rest link parts)), short_rest short (passed ++ link ∷ []) rest (parts ∙ sym (append_assoc passed (link ∷ []) rest)))
-
 module _ (s : Standing) (known : KnownObjects) (table : ℕ) (name : Name) (counts : WordCounts) (may : MayWalk s known table name counts) (b : ℕ) (bound : b < BUCKETS) where
-  pub walk_short : AreShort ((may.is_table).buckets b)
-  walk_short = short_rest known name counts may.is_table b bound may.short [] ((may.is_table).buckets b) refl
+  pub walk_short : s.limits ≡ standard_limits → FitPages s.limits known → AreShort ((may.is_table).buckets b)
+  walk_short standard fit = let t = (may.is_table).table in chain_short s.limits standard known fit ((may.is_table).buckets b) (get_or (may.is_table).heads b datum.Null) (t.chains b bound)
 
   pub walk_at : (now : Standing) → now.own ≡ s.own → IsAtChain now known table b name (may.is_table).heads ((may.is_table).buckets b)
   walk_at now own =
@@ -142,7 +138,6 @@ walk_now s now known table name counts may own = record {
   slot = value_same s.own now.own table own ∙ may.slot;
   is_table = may.is_table;
   few = may.few;
-  short = may.short;
 }
 
 -- the count of the next word of the walk

@@ -18,7 +18,7 @@ use Rattle.heap_tables.proofs.Counted.{bucket_small, count_other, count_same, no
 use Rattle.heap_tables.proofs.Places.{word_cases}
 use Rattle.heap_tables.proofs.Raised.{lacks_at, other_bucket}
 use Rattle.heap_tables.proofs.Untouched.{from_stays, lacks_append, raised_lacks, walk_lacks}
-use Rattle.heap_tables.proofs.Visits.{counted_at, short_rest}
+use Rattle.heap_tables.proofs.Visits.{counted_at}
 
 raised_append : (counts : WordCounts) (xs ys : List Link) → raised_by counts (xs ++ ys) ≡ raised_by (raised_by counts xs) ys
 raised_append counts [] ys = refl
@@ -83,9 +83,8 @@ module _ (s : Standing) (known : KnownObjects) (from into : ℕ) (from_name into
   sums_rest : (b : ℕ) → b < BUCKETS → (passed rest : List Link) → (may.from_table).buckets b ≡ passed ++ rest → AreSums into_counts rest
   sums_rest b bound passed [] parts = tt
   sums_rest b bound passed (l ∷ rest) parts =
-      let e = ap or_zero (counted_at known from_name from_counts may.from_table b bound passed rest l parts) in
-      let sum = may.sums l.word in
-      (omega (arith, e, sum), sums_rest b bound (passed ++ l ∷ []) rest (parts ∙ sym (append_assoc passed (l ∷ []) rest)))
+      let sum = may.sums l.word l.count (counted_at known from_name from_counts may.from_table b bound passed rest l parts) in
+      (sum, sums_rest b bound (passed ++ l ∷ []) rest (parts ∙ sym (append_assoc passed (l ∷ []) rest)))
 
   pub few_short : (b : ℕ) (bound : b < BUCKETS) → AreSums into_counts ((may.from_table).buckets b)
   few_short b bound = sums_rest b bound [] ((may.from_table).buckets b) refl
@@ -108,7 +107,6 @@ module _ (s : Standing) (known : KnownObjects) (from into : ℕ) (from_name into
     apart = may.apart;
     from_few = may.from_few;
     into_few = may.into_few;
-    short = λ b bound. short_rest known from_name from_counts may.from_table b bound may.short [] ((may.from_table).buckets b) refl;
     sums = few_short;
   }
 
@@ -130,6 +128,7 @@ module _ (s : Standing) (known : KnownObjects) (from into : ℕ) (from_name into
           sums_are = λ w. ap (λ cs. get cs w) d.counts_are ∙ whole_sum known from_name from_counts may.from_table into_counts w;
           from_same = refl;
           untouched = d.untouched;
+          entries = d.entries;
           made = goes.made;
           new_words = let e = goes.new_words in omega (arith, e);
           ran = goes.ran;
@@ -158,6 +157,7 @@ module _ (s : Standing) (known : KnownObjects) (from into : ℕ) (from_name into
           counts_are = d.counts_are;
           from_same = refl;
           untouched = d.untouched;
+          entries = d.entries;
           made = stops.made;
           new_words = let e = stops.new_words in omega (arith, e);
           ran_out = stops.ran_out;

@@ -28,6 +28,11 @@ AddsCount word n links after =
 abbrev pub with_bucket : (ℕ → List Link) → ℕ → List Link → ℕ → List Link
 with_bucket buckets b links c = cond (eqb c b) links (buckets c)
 
+-- The word's count has risen in its bucket, and all other buckets are as they were.
+abbrev pub AddsWord : List ℕ → ℕ → (ℕ → List Link) → (ℕ → List Link) → Type 0
+AddsWord word n buckets after =
+    (links : List Link) × (after ≡ with_bucket buckets (bucket_of word) links) × AddsCount word n (buckets (bucket_of word)) links
+
 -- The object is no entry of the chain.
 abbrev pub IsNoEntry : Name → List Link → Type 0
 IsNoEntry name [] = Unit {0}

@@ -10,7 +10,7 @@ use Rattle.heap_tables.specs.Runs.{slot_in}
 use Rattle.yak_model.specs.Tables.{bucket_of}
 use Rattle.yak_model.specs.Tables.{IsCountTable}
 use Rattle.yak_model.specs.Texts.{WordCounts}
-use Rattle.heap_tables.specs.Adds.{Grows, KeepsOthers, StayNowhere}
+use Rattle.heap_tables.specs.Adds.{AddsWord, Grows, KeepsOthers, StayNowhere}
 
 abbrev pub or_zero : Option ℕ → ℕ
 or_zero None = 0
@@ -38,11 +38,12 @@ abbrev pub MakesUncounted : Standing → Standing → WordCounts → List ℕ �
 MakesUncounted s after counts word =
     (IsSome (finite.get counts word) → after.own.made ≡ s.own.made) × (finite.get counts word ≡ None → after.own.made ≡ s.own.made + 2)
 
--- A known map has the table with the word's count raised by n, and other objects as they were.
+-- A known map has the table with the word's count raised by n, in the word's entry or in a new one at the front of its
+-- bucket, and other objects as they were.
 abbrev pub IsCounted : (s after : Standing) (known : KnownObjects) (table : ℕ) (word : List ℕ) (n : ℕ) (name : Name) (counts : WordCounts) → MayCount s known table word n name counts → (KnownObjects → Type 0) → Type 0
 IsCounted s after known table word n name counts may knows =
     MakesUncounted s after counts word
-    × ((later : KnownObjects) × knows later × (table : IsCountTable later name (raised counts word n)) × KeepsOthers known name ((may.is_table).buckets (bucket_of word)) later × StayNowhere known (may.is_table).buckets table.buckets)
+    × ((later : KnownObjects) × knows later × (table : IsCountTable later name (raised counts word n)) × KeepsOthers known name ((may.is_table).buckets (bucket_of word)) later × StayNowhere known (may.is_table).buckets table.buckets × AddsWord word n (may.is_table).buckets table.buckets)
 
 -- The word is not counted, and a known map has the table with the same counts, and all other objects as they were.
 abbrev pub IsUncounted : (s : Standing) (known : KnownObjects) (table : ℕ) (word : List ℕ) (n : ℕ) (name : Name) (counts : WordCounts) → MayCount s known table word n name counts → (KnownObjects → Type 0) → Type 0

@@ -1,7 +1,6 @@
 -- The walk through a table, from a place on.
-use Rattle.std.specs.Prelude.{◌≡◌, ℕ, ◌+◌, ◌^◌, ◌<◌, ◌≤◌, ◌⊎◌, List, [], ◌∷◌, cond, drop, eqb, length, take, Option, None, Some, IsSome}
+use Rattle.std.specs.Prelude.{◌≡◌, ℕ, ◌+◌, ◌^◌, ◌<◌, ◌≤◌, ◌⊎◌, List, [], ◌∷◌, cond, drop, eqb, length, take, Option, None, Some}
 use Rattle.std.specs.FinMap as finite
-use Rattle.object_layout.specs.declared.TheConstants.{WORD_LIMIT}
 use Rattle.object_layout.specs.declared.names.Name.{Name}
 use Rattle.yak_model.specs.declared.TheConstants.{BUCKETS}
 use Rattle.yak_model.specs.declared.datum.Datum.TheVariants as datum
@@ -9,6 +8,7 @@ use Rattle.yak_model.specs.Private.{KnownObjects}
 use Rattle.yak_model.specs.Standing.{Standing}
 use Rattle.yak_model.specs.Tables.{IsCountTable, Link}
 use Rattle.yak_model.specs.Texts.{WordCounts}
+use Rattle.heap_tables.specs.declared.TheConstants.{KEY_BYTES}
 use Rattle.heap_tables.specs.Reads.{IsCopied}
 use Rattle.heap_tables.specs.Runs.{slot_in}
 use Rattle.heap_tables.specs.Walks.{IsApart, IsAtChain}
@@ -59,15 +59,13 @@ IsVisited at b links (Some said) buffer =
 -- What is found in all buckets.
 abbrev pub IsFound : (ℕ → List Link) → Cursor → Option (ℕ × ℕ × Cursor) → List ℕ → Type 0
 IsFound buckets at None buffer = IsEnd buckets at
-IsFound buckets at (Some said) buffer = (said.0 ≤ WORD_LIMIT) × IsNext buckets at (take said.0 buffer) said.1 said.2
+IsFound buckets at (Some said) buffer = (said.0 ≤ KEY_BYTES) × IsNext buckets at (take said.0 buffer) said.1 said.2
 
--- A slot refers to a table of these counts in a known map. Its words are no longer than words may be, and no bucket has too
--- many of them.
+-- A slot refers to a table of these counts in a known map. No bucket has too many words.
 pub record MayWalk (s : Standing) (known : KnownObjects) (table : ℕ) (name : Name) (counts : WordCounts) : Type 0 where
   pub slot : slot_in s table ≡ datum.Object name
   pub is_table : IsCountTable known name counts
   pub few : (b : ℕ) → b < BUCKETS → length (is_table.buckets b) < 2 ^ 32
-  pub short : (word : List ℕ) → IsSome (finite.get counts word) → length word ≤ WORD_LIMIT
 
 abbrev pub HasTableWalk : Standing → (KnownObjects → Type 0) → ℕ → Type 0
 HasTableWalk s knows table = (known : KnownObjects) × (name : Name) × (counts : WordCounts) × knows known × MayWalk s known table name counts

@@ -1,7 +1,7 @@
 -- What a merge of two tables leaves.
-use Rattle.std.specs.Prelude.{◌≡◌, ◌≢◌, ℕ, ◌+◌, ◌*◌, ◌^◌, ◌<◌, ◌≤◌, zero, suc, Bool, true, false, List, [], ◌∷◌, ◌++◌, drop, length, slice_index_or, slice_set, take, Option, None, Some, IsSome}
+use Rattle.std.specs.Prelude.{◌≡◌, ◌≢◌, ℕ, ◌+◌, ◌*◌, ◌^◌, ◌<◌, ◌≤◌, ◌⊎◌, zero, suc, Bool, true, false, List, [], ◌∷◌, ◌++◌, drop, length, slice_index_or, slice_set, take, Option, None, Some}
 use Rattle.std.specs.FinMap as finite
-use Rattle.object_layout.specs.declared.TheConstants.{MAX_INT, WORD_LIMIT}
+use Rattle.object_layout.specs.declared.TheConstants.{MAX_INT}
 use Rattle.object_layout.specs.declared.names.Name.{Name}
 use Rattle.yak_model.specs.declared.TheConstants.{BUCKETS, ENTRY_FIELDS}
 use Rattle.yak_model.specs.declared.datum.Datum.{Datum}
@@ -10,11 +10,10 @@ use Rattle.yak_model.specs.Graph.{Fields, Thread}
 use Rattle.yak_model.specs.Private.{IsKnown, KnownObjects}
 use Rattle.yak_model.specs.Room.{entry_words}
 use Rattle.yak_model.specs.Standing.{Standing}
-use Rattle.yak_model.specs.Tables.{IsCountTable, IsTable, Link}
+use Rattle.yak_model.specs.Tables.{IsCountTable, IsTable, LacksWord, Link, bucket_of}
 use Rattle.yak_model.specs.Texts.{WordCounts}
-use Rattle.heap_tables.specs.Adds.{IsNoEntry, IsNowhere, having_made, with_fields}
+use Rattle.heap_tables.specs.Adds.{IsNoEntry, IsNowhere, having_made, with_bucket, with_fields}
 use Rattle.heap_tables.specs.Counted.{count_of, or_zero, raised}
-use Rattle.heap_tables.specs.Reads.{AreShort}
 use Rattle.heap_tables.specs.Runs.{IsInSlot, Ran, RanOut, next_of, slot_in}
 use Rattle.heap_tables.specs.Walks.{IsApart, IsAtChain, IsEntryInSlot}
 
@@ -73,6 +72,23 @@ abbrev pub one_if_none : Option ℕ → ℕ
 one_if_none None = 1
 one_if_none (Some n) = 0
 
+-- The count of an entry of another table was added: to that of its word's entry, or in a new entry at the front, which has
+-- the other entry's key.
+abbrev pub SharesLink : Link → List Link → List Link → Type 0
+SharesLink other links after =
+    ((passed : List Link) × (link : Link) × (rest : List Link) × (links ≡ passed ++ link ∷ rest) × (link.word ≡ other.word) × (after ≡ passed ++ (record link { count = link.count + other.count }) ∷ rest))
+    ⊎ (LacksWord other.word links × ((entry : Name) × (after ≡ (record other { entry = entry }) ∷ links)))
+
+-- That was done in the bucket of its word, and all other buckets are as they were.
+abbrev pub MergesLink : Link → (ℕ → List Link) → (ℕ → List Link) → Type 0
+MergesLink other buckets after =
+    (links : List Link) × (after ≡ with_bucket buckets (bucket_of other.word) links) × SharesLink other (buckets (bucket_of other.word)) links
+
+-- It was done for each of the links, one after the other.
+abbrev pub MergesLinks : List Link → (ℕ → List Link) → (ℕ → List Link) → Type 0
+MergesLinks [] buckets after = after ≡ buckets
+MergesLinks (other ∷ links) buckets after = (next : ℕ → List Link) × MergesLink other buckets next × MergesLinks links next after
+
 -- how many words of the links are new, as they are added one after the other
 abbrev pub news : WordCounts → List Link → ℕ
 news counts [] = 0
@@ -87,7 +103,7 @@ pub record Merge : Type 0 where
   pub buckets : ℕ → List Link
   pub counts : WordCounts
 
--- The tables are two, which share no entry, with few words that aren't too long and whose sums aren't too large.
+-- The tables are two, which share no entry, with few words whose sums aren't too large.
 pub record IsMerge (m : Merge) : Type 0 where
   pub from_table : IsTable m.known m.from_name m.heads m.buckets
   pub into_table : IsCountTable m.known m.into_name m.counts
@@ -95,7 +111,6 @@ pub record IsMerge (m : Merge) : Type 0 where
   pub apart : (b c : ℕ) → b < BUCKETS → c < BUCKETS → SharesNone (m.buckets b) (into_table.buckets c)
   pub from_few : (b : ℕ) → b < BUCKETS → length (m.buckets b) < 2 ^ 32
   pub into_few : (b : ℕ) → b < BUCKETS → length (into_table.buckets b) < 2 ^ 32
-  pub short : (b : ℕ) → b < BUCKETS → AreShort (m.buckets b)
   pub sums : (b : ℕ) → b < BUCKETS → AreSums m.counts (m.buckets b)
 
 -- Slots refer to the two tables.
@@ -116,6 +131,7 @@ pub record IsMerged (m : Merge) (is : IsMerge m) (done : List Link) (knows : Kno
   pub into_table : IsCountTable after m.into_name counts
   pub untouched : KeepsUntouched m.known m.into_name (is.into_table).buckets after into_table.buckets
   pub few : (c : ℕ) → c < BUCKETS → length (into_table.buckets c) ≤ length ((is.into_table).buckets c) + length done
+  pub entries : MergesLinks done (is.into_table).buckets into_table.buckets
 
 -- Calls were made between, which added the counts of the entries that are done later, and made an entry for each new word.
 pub record Goes {S B : Type 0} (base : S → B) (tells : S → ℕ → Thread → Type 0) (tells_known : S → ℕ → KnownObjects → Type 0) (standing : S → Standing) (m : Merge) (is : IsMerge m) (done later : List Link) (a b : S) (knows : KnownObjects → Type 0) : Type 0 where
@@ -165,8 +181,8 @@ MergesEntry base tells tells_known standing m is b p false x y knows =
 
 -- ---- whole tables
 
--- Slots refer to two different tables of one known map that share no entry. The words of the one are no longer than words may
--- be, and its counts can be added to those of the other.
+-- Slots refer to two different tables of one known map that share no entry. The counts of the one can be added to those of
+-- the other.
 pub record MayMerge (s : Standing) (known : KnownObjects) (from into : ℕ) (from_name into_name : Name) (from_counts into_counts : WordCounts) : Type 0 where
   pub from_slot : slot_in s from ≡ datum.Object from_name
   pub into_slot : slot_in s into ≡ datum.Object into_name
@@ -176,8 +192,7 @@ pub record MayMerge (s : Standing) (known : KnownObjects) (from into : ℕ) (fro
   pub apart : (b c : ℕ) → b < BUCKETS → c < BUCKETS → SharesNone (from_table.buckets b) (into_table.buckets c)
   pub from_few : (b : ℕ) → b < BUCKETS → length (from_table.buckets b) < 2 ^ 32
   pub into_few : (b : ℕ) → b < BUCKETS → length (into_table.buckets b) < 2 ^ 32
-  pub short : (word : List ℕ) → IsSome (finite.get from_counts word) → length word ≤ WORD_LIMIT
-  pub sums : (word : List ℕ) → count_of into_counts word + count_of from_counts word ≤ MAX_INT
+  pub sums : (word : List ℕ) (n : ℕ) → finite.get from_counts word ≡ Some n → count_of into_counts word + n ≤ MAX_INT
 
 abbrev pub HasTables : Standing → (KnownObjects → Type 0) → ℕ → ℕ → Type 0
 HasTables s knows from into =
@@ -189,7 +204,7 @@ sum_of first None = first
 sum_of first (Some n) = Some (or_zero first + n)
 
 -- A known map has the sums in the one table and the same counts in the other, and all else that isn't the one table's own as
--- it was. One entry was made for each new word.
+-- it was. One entry was made for each new word, in the order of the walk, at the front of its bucket and with the same key.
 pub record IsMergedWhole {S B : Type 0} (base : S → B) (tells : S → ℕ → Thread → Type 0) (tells_known : S → ℕ → KnownObjects → Type 0) (standing : S → Standing) (known : KnownObjects) (from_name into_name : Name) (from_counts into_counts : WordCounts) (from_buckets into_buckets : ℕ → List Link) (a b : S) (knows : KnownObjects → Type 0) : Type 0 where
   pub later : KnownObjects
   pub known_now : knows later
@@ -199,13 +214,14 @@ pub record IsMergedWhole {S B : Type 0} (base : S → B) (tells : S → ℕ → 
   pub sums_are : (word : List ℕ) → finite.get sums word ≡ sum_of (finite.get into_counts word) (finite.get from_counts word)
   pub from_same : from_table.buckets ≡ from_buckets
   pub untouched : KeepsUntouched known into_name into_buckets later into_table.buckets
+  pub entries : MergesLinks (walk from_buckets BUCKETS) into_buckets into_table.buckets
   pub made : ℕ
   pub new_words : made ≡ news into_counts (walk from_buckets BUCKETS)
   pub ran : Ran base tells tells_known standing a b (made * entry_words)
   pub own : (standing b).own ≡ having_made (standing a).own made
 
 -- A known map has the counts of the first entries of the walk added, up to one whose word is new. One entry was made for each
--- new word before it, and there was no room for its own.
+-- new word before it, at the front of its bucket and with the same key, and there was no room for its own.
 pub record IsMergedPart {S B : Type 0} (base : S → B) (tells : S → ℕ → Thread → Type 0) (tells_known : S → ℕ → KnownObjects → Type 0) (standing : S → Standing) (known : KnownObjects) (from_name into_name : Name) (from_counts into_counts : WordCounts) (from_buckets into_buckets : ℕ → List Link) (a b : S) (knows : KnownObjects → Type 0) : Type 0 where
   pub done : List Link
   pub link : Link
@@ -220,6 +236,7 @@ pub record IsMergedPart {S B : Type 0} (base : S → B) (tells : S → ℕ → T
   pub counts_are : counts ≡ raised_by into_counts done
   pub from_same : from_table.buckets ≡ from_buckets
   pub untouched : KeepsUntouched known into_name into_buckets later into_table.buckets
+  pub entries : MergesLinks done into_buckets into_table.buckets
   pub made : ℕ
   pub new_words : made ≡ news into_counts done
   pub ran_out : RanOut base tells tells_known standing a b (made * entry_words) ENTRY_FIELDS

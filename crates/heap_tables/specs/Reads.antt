@@ -1,31 +1,31 @@
 -- What is read of the entries of a table.
 use Rattle.std.specs.Prelude.{◌≡◌, ℕ, ◌^◌, ◌<◌, ◌≤◌, List, [], ◌∷◌, length, take, Option, None, Some}
-use Rattle.object_layout.specs.declared.TheConstants.{WORD_LIMIT}
 use Rattle.object_layout.specs.declared.names.Name.{Name}
 use Rattle.yak_model.specs.declared.datum.Datum.{Datum}
 use Rattle.yak_model.specs.Private.{KnownObjects}
 use Rattle.yak_model.specs.Standing.{Standing}
 use Rattle.yak_model.specs.Tables.{Link}
+use Rattle.heap_tables.specs.declared.TheConstants.{KEY_BYTES}
 use Rattle.heap_tables.specs.Keys.{IsKeyInSlot}
 use Rattle.heap_tables.specs.Walks.{IsApart, IsAtChain, IsEntryInSlot}
 
--- No word of the links is longer than a word may be.
+-- The keys of the links' words fit pages.
 abbrev pub AreShort : List Link → Type 0
 AreShort [] = Unit {0}
-AreShort (link ∷ links) = (length link.word ≤ WORD_LIMIT) × AreShort links
+AreShort (link ∷ links) = (length link.word ≤ KEY_BYTES) × AreShort links
 
 -- A slot refers to the key of such a word, which has a byte at a place, or to its entry.
 abbrev pub HasShortKey : Standing → (KnownObjects → Type 0) → ℕ → Type 0
 HasShortKey s knows i =
-    (known : KnownObjects) × (name : Name) × (word : List ℕ) × knows known × IsKeyInSlot s known i name word × (length word ≤ WORD_LIMIT)
+    (known : KnownObjects) × (name : Name) × (word : List ℕ) × knows known × IsKeyInSlot s known i name word × (length word ≤ KEY_BYTES)
 
 abbrev pub HasKeyByte : Standing → (KnownObjects → Type 0) → ℕ → ℕ → Type 0
 HasKeyByte s knows i n =
-    (known : KnownObjects) × (name : Name) × (word : List ℕ) × knows known × IsKeyInSlot s known i name word × (length word ≤ WORD_LIMIT) × (n < length word)
+    (known : KnownObjects) × (name : Name) × (word : List ℕ) × knows known × IsKeyInSlot s known i name word × (length word ≤ KEY_BYTES) × (n < length word)
 
 abbrev pub HasShortEntry : Standing → (KnownObjects → Type 0) → ℕ → Type 0
 HasShortEntry s knows i =
-    (known : KnownObjects) × (next : Datum) × (link : Link) × knows known × IsEntryInSlot s known i next link × (length link.word ≤ WORD_LIMIT)
+    (known : KnownObjects) × (next : Datum) × (link : Link) × knows known × IsEntryInSlot s known i next link × (length link.word ≤ KEY_BYTES)
 
 -- A slot refers to a table one of whose chains has such words alone.
 abbrev pub HasShortWalk : Standing → (KnownObjects → Type 0) → ℕ → ℕ → Type 0

@@ -1,6 +1,5 @@
 //! Walks along the chains of a table.
 ghost use Rattle.std.specs.Prelude.{◌≡◌, ◌≢◌, ℕ, ◌+◌, ◌-◌, ◌*◌, ◌^◌, ◌<◌, ◌≤◌, ◌↔◌, ◌++◌, ◌∷◌, [], List, length, IsTrue, OnOk, OnErr, slice_index, slice_index_or};
-ghost use Rattle.object_layout.specs.declared.TheConstants.{WORD_LIMIT};
 ghost use Rattle.yak_model.specs.declared.TheConstants.{STACK_SLOTS};
 ghost use Rattle.yak_model.specs.Private.{KnownObjects};
 ghost use Rattle.yak_model.specs.declared.datum.Datum.{Datum};
@@ -8,6 +7,7 @@ ghost use Rattle.yak_model.specs.declared.datum.Datum.TheVariants as datum;
 ghost use Rattle.object_layout.specs.declared.names.Name.{Name};
 ghost use Rattle.heap_tables.specs.Runs.{KeepsKnown, IsInSlot, Ran, stack_in};
 ghost use Rattle.yak_model.specs.Tables.{Link};
+ghost use Rattle.heap_tables.specs.declared.TheConstants.{KEY_BYTES};
 ghost use Rattle.heap_tables.specs.Walks.{HasEntry, IsEntryInSlot, HasChain, HasPlace, IsAtChain, Examined, Looked, HasWalk, IsApart, Walked, Found};
 
 use crate::keys::is_key;
@@ -25,7 +25,7 @@ pub enum Look {
 /// Whether a slot refers to an entry of the word.
 fn entry_is<C: Caller>(caller: &mut C, entry: u32, word: &[u8], top: u32) -> bool
     requires entry { HasEntry (C.standing caller.old) (C.knows caller.old) entry }
-    requires word { length word.now ≤ WORD_LIMIT }
+    requires word { length word.now ≤ KEY_BYTES }
     requires room { length (stack_in (C.standing caller.old)) + 1 < STACK_SLOTS }
     requires top { length (stack_in (C.standing caller.old)) ≡ top }
     ensures ran { Ran C.base C.tells C.tells_known C.standing caller.old caller.new 0 }
@@ -42,7 +42,7 @@ fn entry_is<C: Caller>(caller: &mut C, entry: u32, word: &[u8], top: u32) -> boo
 /// Whether the top slot refers to an entry of the word. If it doesn't, the walk goes on to the next one.
 fn examine<C: Caller>(caller: &mut C, table: u32, bucket: u32, word: &[u8], top: u32) -> bool
     requires place { HasPlace (C.standing caller.old) (C.knows caller.old) table bucket top }
-    requires word { length word.now ≤ WORD_LIMIT }
+    requires word { length word.now ≤ KEY_BYTES }
     requires room { length (stack_in (C.standing caller.old)) + 1 < STACK_SLOTS }
     requires top { length (stack_in (C.standing caller.old)) ≡ top + 1 }
     ensures ran { Ran C.base C.tells C.tells_known C.standing caller.old caller.new 0 }
@@ -59,7 +59,7 @@ fn examine<C: Caller>(caller: &mut C, table: u32, bucket: u32, word: &[u8], top:
 /// Looks at the first entry of a chain, pushes it if it is the word's, and else goes on to the next.
 fn look_on<C: Caller>(caller: &mut C, table: u32, bucket: u32, word: &[u8], top: u32) -> Look
     requires chain { HasChain (C.standing caller.old) (C.knows caller.old) table bucket }
-    requires word { length word.now ≤ WORD_LIMIT }
+    requires word { length word.now ≤ KEY_BYTES }
     requires room { length (stack_in (C.standing caller.old)) + 2 < STACK_SLOTS }
     requires top { length (stack_in (C.standing caller.old)) ≡ top }
     ensures ran { Ran C.base C.tells C.tells_known C.standing caller.old caller.new 0 }
@@ -80,7 +80,7 @@ fn look_on<C: Caller>(caller: &mut C, table: u32, bucket: u32, word: &[u8], top:
 /// Walks along a chain of the table to the word's entry, and pushes it if there is one. The place of the walk stays in the table.
 fn walk<C: Caller>(caller: &mut C, table: u32, bucket: u32, word: &[u8], top: u32) -> bool
     requires chain { HasWalk (C.standing caller.old) (C.knows caller.old) table bucket }
-    requires word { length word.now ≤ WORD_LIMIT }
+    requires word { length word.now ≤ KEY_BYTES }
     requires room { length (stack_in (C.standing caller.old)) + 2 < STACK_SLOTS }
     requires top { length (stack_in (C.standing caller.old)) ≡ top }
     ensures ran { Ran C.base C.tells C.tells_known C.standing caller.old caller.new 0 }
@@ -105,7 +105,7 @@ pub(crate) fn find<C: Caller>(
     top: u32,
 ) -> bool
     requires chain { HasWalk (C.standing caller.old) (C.knows caller.old) table bucket }
-    requires word { length word.now ≤ WORD_LIMIT }
+    requires word { length word.now ≤ KEY_BYTES }
     requires room { length (stack_in (C.standing caller.old)) + 3 < STACK_SLOTS }
     requires top { length (stack_in (C.standing caller.old)) ≡ top }
     ensures ran { Ran C.base C.tells C.tells_known C.standing caller.old caller.new 0 }

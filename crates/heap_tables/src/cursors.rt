@@ -1,21 +1,21 @@
 //! The walk through a table, entry by entry.
 ghost use Rattle.std.specs.Prelude.{◌≡◌, ℕ, ◌+◌, ◌^◌, ◌<◌, ◌≤◌, List, length, IfOk};
-ghost use Rattle.object_layout.specs.declared.TheConstants.{WORD_LIMIT};
 ghost use Rattle.object_layout.specs.declared.names.Name.{Name};
 ghost use Rattle.yak_model.specs.declared.TheConstants.{BUCKETS, STACK_SLOTS};
 ghost use Rattle.yak_model.specs.declared.datum.Datum.{Datum};
 ghost use Rattle.yak_model.specs.Private.{KnownObjects};
 ghost use Rattle.yak_model.specs.Tables.{Link};
 ghost use Rattle.yak_model.specs.Texts.{WordCounts};
-ghost use Rattle.heap_tables.specs.declared.TheConstants.{FREE_SLOTS};
+ghost use Rattle.heap_tables.specs.declared.TheConstants.{FREE_SLOTS, KEY_BYTES};
 ghost use Rattle.heap_tables.specs.Cursors.{HasFew, HasTableWalk, IsFound, IsNextEntry, IsVisited, MayWalk, Visited, start_in};
 ghost use Rattle.heap_tables.specs.Reads.{HasShortWalk};
 ghost use Rattle.heap_tables.specs.Runs.{Ran, stack_in};
 ghost use Rattle.heap_tables.specs.Walks.{IsApart, IsAtChain};
 
+use crate::KEY_BYTES;
 use crate::reading::take_entry;
 use crate::steps::stack_size;
-use object_layout::{NoMemory, WORD_LIMIT};
+use object_layout::NoMemory;
 use std::alloc::Global;
 use std::marker::Model;
 use yak_model::{BUCKETS, Caller};
@@ -65,7 +65,7 @@ fn visit<C: Caller>(
     requires chain { HasShortWalk (C.standing caller.old) (C.knows caller.old) table bucket }
     requires few { HasFew (C.standing caller.old) (C.knows caller.old) table bucket }
     requires bucket { bucket < BUCKETS }
-    requires buffer { WORD_LIMIT ≤ length buffer.old }
+    requires buffer { KEY_BYTES ≤ length buffer.old }
     requires room { length (stack_in (C.standing caller.old)) + 3 < STACK_SLOTS }
     requires top { length (stack_in (C.standing caller.old)) ≡ top }
     ensures ran { Ran C.base C.tells C.tells_known C.standing caller.old caller.new 0 }
@@ -97,7 +97,7 @@ fn find_next<C: Caller>(
     top: u32,
 ) -> Option<(usize, u64, Cursor)>
     requires table { HasTableWalk (C.standing caller.old) (C.knows caller.old) table }
-    requires buffer { WORD_LIMIT ≤ length buffer.old }
+    requires buffer { KEY_BYTES ≤ length buffer.old }
     requires room { length (stack_in (C.standing caller.old)) + 3 < STACK_SLOTS }
     requires top { length (stack_in (C.standing caller.old)) ≡ top }
     ensures ran { Ran C.base C.tells C.tells_known C.standing caller.old caller.new 0 }
@@ -144,7 +144,7 @@ pub fn next_entry<C: Caller>(
     ensures next { IfOk result (λ found. (known : KnownObjects) (name : Name) (counts : WordCounts) (may : MayWalk (C.standing caller.old) known table name counts) → C.knows caller.old known → IsNextEntry counts (may.is_table).buckets at found) }
 {
     let top = stack_size(caller);
-    let mut buffer = [0; WORD_LIMIT as usize];
+    let mut buffer = [0; KEY_BYTES];
     match find_next(caller, table, at, &mut buffer, top) {
         Some((size, count, next)) => {
             let word = copy_word(alloc, &buffer[..size])?;

@@ -1,13 +1,14 @@
 //! The keys of words.
 ghost use Rattle.std.specs.Prelude.{◌≡◌, ◌≢◌, ℕ, ◌+◌, ◌-◌, ◌*◌, ◌/◌, ◌%◌, ◌^◌, ◌<◌, ◌≤◌, ◌↔◌, ◌++◌, ◌∷◌, [], List, length, IsTrue, OnOk, OnErr, slice_index, slice_index_or, None};
 ghost use Rattle.std.specs.FinMap as finite;
-ghost use Rattle.object_layout.specs.declared.TheConstants.{MAX_INT, MAX_SERIAL, OBJECT_WORDS, PAGE_WORDS, WORD_LIMIT};
+ghost use Rattle.object_layout.specs.declared.TheConstants.{MAX_FIELDS, MAX_INT, MAX_SERIAL, WORD_LIMIT};
 ghost use Rattle.yak_model.specs.declared.TheConstants.{BUCKETS, STACK_SLOTS};
 ghost use Rattle.yak_model.specs.Room.{key_words};
 ghost use Rattle.yak_model.specs.Private.{KnownObjects};
 ghost use Rattle.object_layout.specs.declared.names.Name.{Name};
 ghost use Rattle.heap_tables.specs.Runs.{KeepsKnown, Ran, RanOut, stack_in, slot_in, KnowsSome, next_of, with_made};
 ghost use Rattle.yak_model.specs.Tables.{digits, group, groups, bucket_of};
+ghost use Rattle.heap_tables.specs.declared.TheConstants.{KEY_BYTES};
 ghost use Rattle.heap_tables.specs.Keys.{HasKey, IsKeyInSlot, IsKeyBegun};
 
 use crate::steps::{field_is, push_new, put_int};
@@ -23,9 +24,9 @@ fn byte_at(word: &[u8], i: usize) -> u8
 
 /// How many groups hold the bytes of a word.
 fn groups(word: &[u8]) -> u32
-    requires word { length word.now ≤ WORD_LIMIT }
+    requires word { length word.now ≤ KEY_BYTES }
     ensures groups { result ≡ groups (length word.now) }
-    ensures few { result + 1 + OBJECT_WORDS ≤ PAGE_WORDS }
+    ensures few { result + 1 ≤ MAX_FIELDS }
 {
     (word.len() as u32 + (GROUP_BYTES as u32 - 1)) / GROUP_BYTES as u32
 }
@@ -58,7 +59,7 @@ pub(crate) fn bucket_of(word: &[u8]) -> u32
 /// Whether a slot refers to the key of the word.
 pub(crate) fn is_key<C: Caller>(caller: &mut C, key: u32, word: &[u8], top: u32) -> bool
     requires key { HasKey (C.standing caller.old) (C.knows caller.old) key }
-    requires word { length word.now ≤ WORD_LIMIT }
+    requires word { length word.now ≤ KEY_BYTES }
     requires room { length (stack_in (C.standing caller.old)) < STACK_SLOTS }
     requires top { length (stack_in (C.standing caller.old)) ≡ top }
     ensures ran { Ran C.base C.tells C.tells_known C.standing caller.old caller.new 0 }
@@ -82,7 +83,6 @@ pub(crate) fn is_key<C: Caller>(caller: &mut C, key: u32, word: &[u8], top: u32)
 pub(crate) fn make_key<C: Caller>(caller: &mut C, word: &[u8], top: u32) -> Result<(), OutOfHeap>
     requires some { KnowsSome (C.knows caller.old) }
     requires word { length word.now ≤ WORD_LIMIT }
-    requires page { PAGE_WORDS ≤ (C.standing caller.old).limits.page }
     requires names { (C.standing caller.old).own.made < MAX_SERIAL }
     requires room { length (stack_in (C.standing caller.old)) + 1 < STACK_SLOTS }
     requires top { length (stack_in (C.standing caller.old)) ≡ top }

@@ -1,7 +1,7 @@
 //! The merge of two tables.
 ghost use Rattle.std.specs.Prelude.{◌≡◌, ℕ, ◌+◌, ◌*◌, ◌^◌, ◌<◌, ◌≤◌, [], List, length, None, OnOk, OnErr, IfOk};
 ghost use Rattle.std.specs.FinMap as finite;
-ghost use Rattle.object_layout.specs.declared.TheConstants.{MAX_INT, MAX_SERIAL, PAGE_WORDS, WORD_LIMIT};
+ghost use Rattle.object_layout.specs.declared.TheConstants.{MAX_INT, MAX_SERIAL};
 ghost use Rattle.object_layout.specs.declared.names.Name.{Name};
 ghost use Rattle.yak_model.specs.declared.TheConstants.{BUCKETS, ENTRY_FIELDS, STACK_SLOTS};
 ghost use Rattle.yak_model.specs.declared.datum.Datum.{Datum};
@@ -9,17 +9,18 @@ ghost use Rattle.yak_model.specs.Private.{KnownObjects};
 ghost use Rattle.yak_model.specs.Room.{entry_words};
 ghost use Rattle.yak_model.specs.Tables.{Link};
 ghost use Rattle.yak_model.specs.Texts.{WordCounts};
-ghost use Rattle.heap_tables.specs.declared.TheConstants.{FREE_SLOTS, MOST_MADE};
+ghost use Rattle.heap_tables.specs.declared.TheConstants.{FREE_SLOTS, KEY_BYTES, MOST_MADE};
 ghost use Rattle.heap_tables.specs.Adds.{having_made};
 ghost use Rattle.heap_tables.specs.Merges.{AreSlots, Goes, HasEntryFor, HasMerged, HasMerging, HasNextEntry, HasShare, HasTables, IsEntryAt, IsMerge, IsMerged, IsMergedPart, IsMergedWhole, IsShare, MayMerge, Merge, MergesEntry, Stops, done_at, walk, with_shared};
 ghost use Rattle.heap_tables.specs.Runs.{IsInSlot, KeepsKnown, Ran, RanOut, next_of, stack_in};
 ghost use Rattle.heap_tables.specs.Walks.{IsEntryInSlot};
 
+use crate::KEY_BYTES;
 use crate::reading::take_entry;
 use crate::seek::seek;
 use crate::steps::{load, pop, stack_size};
 use crate::tables::{add_present, link_new};
-use object_layout::{OutOfHeap, WORD_LIMIT};
+use object_layout::OutOfHeap;
 use yak_model::{BUCKETS, Caller};
 
 /// Makes an entry for the key of another entry, and puts it at the front of a bucket.
@@ -33,7 +34,6 @@ fn share_key<C: Caller>(
 ) -> Result<(), OutOfHeap>
     requires number { n ≤ MAX_INT }
     requires entry { HasEntryFor (C.standing caller.old) (C.knows caller.old) entry into bucket }
-    requires page { PAGE_WORDS ≤ (C.standing caller.old).limits.page }
     requires names { (C.standing caller.old).own.made < MAX_SERIAL }
     requires room { length (stack_in (C.standing caller.old)) + 3 < STACK_SLOTS }
     requires top { length (stack_in (C.standing caller.old)) ≡ top }
@@ -65,7 +65,6 @@ fn share<C: Caller>(
 ) -> Result<(), OutOfHeap>
     requires number { n ≤ MAX_INT }
     requires tables { HasShare (C.standing caller.old) (C.knows caller.old) from into bucket place }
-    requires page { PAGE_WORDS ≤ (C.standing caller.old).limits.page }
     requires names { (C.standing caller.old).own.made < MAX_SERIAL }
     requires room { length (stack_in (C.standing caller.old)) + 5 < STACK_SLOTS }
     requires top { length (stack_in (C.standing caller.old)) ≡ top }
@@ -96,8 +95,7 @@ fn add_entry<C: Caller>(
 ) -> Result<(), OutOfHeap>
     requires tables { HasNextEntry (C.standing caller.old) (C.knows caller.old) from into bucket place word.now n }
     requires bucket { bucket < BUCKETS }
-    requires word { length word.now ≤ WORD_LIMIT }
-    requires page { PAGE_WORDS ≤ (C.standing caller.old).limits.page }
+    requires word { length word.now ≤ KEY_BYTES }
     requires names { (C.standing caller.old).own.made < MAX_SERIAL }
     requires room { length (stack_in (C.standing caller.old)) + 5 < STACK_SLOTS }
     requires top { length (stack_in (C.standing caller.old)) ≡ top }
@@ -122,8 +120,7 @@ fn merge_entry<C: Caller>(
 ) -> Result<bool, OutOfHeap>
     requires tables { HasMerging (C.standing caller.old) (C.knows caller.old) from into bucket place }
     requires bucket { bucket < BUCKETS }
-    requires buffer { WORD_LIMIT ≤ length buffer.old }
-    requires page { PAGE_WORDS ≤ (C.standing caller.old).limits.page }
+    requires buffer { KEY_BYTES ≤ length buffer.old }
     requires names { (C.standing caller.old).own.made < MAX_SERIAL }
     requires room { length (stack_in (C.standing caller.old)) + 5 < STACK_SLOTS }
     requires top { length (stack_in (C.standing caller.old)) ≡ top }
@@ -160,8 +157,7 @@ fn merge_bucket<C: Caller>(
 ) -> Result<(), OutOfHeap>
     requires tables { HasMerged (C.standing caller.old) (C.knows caller.old) from into bucket }
     requires bucket { bucket < BUCKETS }
-    requires buffer { WORD_LIMIT ≤ length buffer.old }
-    requires page { PAGE_WORDS ≤ (C.standing caller.old).limits.page }
+    requires buffer { KEY_BYTES ≤ length buffer.old }
     requires names { (C.standing caller.old).own.made + 2 ^ 32 < MAX_SERIAL }
     requires room { length (stack_in (C.standing caller.old)) + 5 < STACK_SLOTS }
     requires top { length (stack_in (C.standing caller.old)) ≡ top }
@@ -186,8 +182,7 @@ fn merge_buckets<C: Caller>(
     top: u32,
 ) -> Result<(), OutOfHeap>
     requires tables { HasMerged (C.standing caller.old) (C.knows caller.old) from into 0 }
-    requires buffer { WORD_LIMIT ≤ length buffer.old }
-    requires page { PAGE_WORDS ≤ (C.standing caller.old).limits.page }
+    requires buffer { KEY_BYTES ≤ length buffer.old }
     requires names { (C.standing caller.old).own.made ≤ MOST_MADE }
     requires room { length (stack_in (C.standing caller.old)) + 5 < STACK_SLOTS }
     requires top { length (stack_in (C.standing caller.old)) ≡ top }
@@ -207,13 +202,12 @@ fn merge_buckets<C: Caller>(
 /// `OutOfHeap` where the heap has no room for an entry. The counts of the entries before it in the walk were added.
 pub fn merge<C: Caller>(caller: &mut C, from: u32, into: u32) -> Result<(), OutOfHeap>
     requires tables { HasTables (C.standing caller.old) (C.knows caller.old) from into }
-    requires page { PAGE_WORDS ≤ (C.standing caller.old).limits.page }
     requires names { (C.standing caller.old).own.made ≤ MOST_MADE }
     requires room { length (stack_in (C.standing caller.old)) + FREE_SLOTS ≤ STACK_SLOTS }
     ensures merged { OnOk result ((known : KnownObjects) (from_name into_name : Name) (from_counts into_counts : WordCounts) (may : MayMerge (C.standing caller.old) known from into from_name into_name from_counts into_counts) → C.knows caller.old known → IsMergedWhole C.base C.tells C.tells_known C.standing known from_name into_name from_counts into_counts (may.from_table).buckets (may.into_table).buckets caller.old caller.new (C.knows caller.new)) }
     ensures stopped { OnErr result ((known : KnownObjects) (from_name into_name : Name) (from_counts into_counts : WordCounts) (may : MayMerge (C.standing caller.old) known from into from_name into_name from_counts into_counts) → C.knows caller.old known → IsMergedPart C.base C.tells C.tells_known C.standing known from_name into_name from_counts into_counts (may.from_table).buckets (may.into_table).buckets caller.old caller.new (C.knows caller.new)) }
 {
     let top = stack_size(caller);
-    let mut buffer = [0; WORD_LIMIT as usize];
+    let mut buffer = [0; KEY_BYTES];
     merge_buckets(caller, from, into, &mut buffer, top)
 }

@@ -1,11 +1,11 @@
 //! Words and counts, read from the entries of a table.
 ghost use Rattle.std.specs.Prelude.{◌≡◌, ◌≢◌, ℕ, ◌+◌, ◌/◌, ◌%◌, ◌^◌, ◌<◌, ◌≤◌, List, length, drop, take, slice_index, slice_index_or, IsTrue};
-ghost use Rattle.object_layout.specs.declared.TheConstants.{WORD_LIMIT};
 ghost use Rattle.object_layout.specs.declared.names.Name.{Name};
 ghost use Rattle.yak_model.specs.declared.TheConstants.{GROUP_BYTES, STACK_SLOTS};
 ghost use Rattle.yak_model.specs.declared.datum.Datum.{Datum};
 ghost use Rattle.yak_model.specs.Private.{KnownObjects};
 ghost use Rattle.yak_model.specs.Tables.{AreBytes, Link, digits, group};
+ghost use Rattle.heap_tables.specs.declared.TheConstants.{KEY_BYTES};
 ghost use Rattle.heap_tables.specs.Keys.{IsKeyInSlot};
 ghost use Rattle.heap_tables.specs.Reads.{AreShort, HasKeyByte, HasShortEntry, HasShortKey, HasShortWalk, IsCopied, Took};
 ghost use Rattle.heap_tables.specs.Runs.{KeepsKnown, Ran, stack_in};
@@ -46,7 +46,7 @@ fn group_of<C: Caller>(caller: &mut C, key: u32, i: usize, last: u64, top: u32) 
 /// Copies the word of a key into the buffer, and gives its length.
 fn read_word<C: Caller>(caller: &mut C, key: u32, buffer: &mut [u8], top: u32) -> usize
     requires key { HasShortKey (C.standing caller.old) (C.knows caller.old) key }
-    requires buffer { WORD_LIMIT ≤ length buffer.old }
+    requires buffer { KEY_BYTES ≤ length buffer.old }
     requires room { length (stack_in (C.standing caller.old)) < STACK_SLOTS }
     requires top { length (stack_in (C.standing caller.old)) ≡ top }
     ensures ran { Ran C.base C.tells C.tells_known C.standing caller.old caller.new 0 }
@@ -67,7 +67,7 @@ fn read_word<C: Caller>(caller: &mut C, key: u32, buffer: &mut [u8], top: u32) -
 /// Copies the word of an entry into the buffer, and gives its length.
 fn entry_word<C: Caller>(caller: &mut C, entry: u32, buffer: &mut [u8], top: u32) -> usize
     requires entry { HasShortEntry (C.standing caller.old) (C.knows caller.old) entry }
-    requires buffer { WORD_LIMIT ≤ length buffer.old }
+    requires buffer { KEY_BYTES ≤ length buffer.old }
     requires room { length (stack_in (C.standing caller.old)) + 1 < STACK_SLOTS }
     requires top { length (stack_in (C.standing caller.old)) ≡ top }
     ensures ran { Ran C.base C.tells C.tells_known C.standing caller.old caller.new 0 }
@@ -93,7 +93,7 @@ pub(crate) fn take_entry<C: Caller>(
     top: u32,
 ) -> Option<(usize, u64)>
     requires chain { HasShortWalk (C.standing caller.old) (C.knows caller.old) table bucket }
-    requires buffer { WORD_LIMIT ≤ length buffer.old }
+    requires buffer { KEY_BYTES ≤ length buffer.old }
     requires room { length (stack_in (C.standing caller.old)) + 3 < STACK_SLOTS }
     requires top { length (stack_in (C.standing caller.old)) ≡ top }
     ensures ran { Ran C.base C.tells C.tells_known C.standing caller.old caller.new 0 }

@@ -4,7 +4,7 @@ ghost use Rattle.std.specs.FinMap as finite;
 ghost use Rattle.yak_model.specs.Private.{KnownObjects};
 ghost use Rattle.heap_tables.specs.Runs.{KeepsKnown, IsInSlot, HasField, HasFields, KnowsSome, Ran, stack_in, slot_in, pushed, popped, next_of, with_made, with_new, with_field, IsShown, RanOut};
 ghost use Rattle.object_layout.specs.declared.names.Name.{Name};
-ghost use Rattle.object_layout.specs.declared.TheConstants.{MAX_INT, MAX_SERIAL, OBJECT_WORDS};
+ghost use Rattle.object_layout.specs.declared.TheConstants.{MAX_FIELDS, MAX_INT, MAX_SERIAL, OBJECT_WORDS};
 ghost use Rattle.yak_model.specs.declared.TheConstants.{STACK_SLOTS};
 ghost use Rattle.object_layout.specs.declared.replies.Reply.TheVariants as said;
 ghost use Rattle.object_layout.specs.declared.replies.Refusal.TheVariants as refusal;
@@ -73,8 +73,7 @@ pub fn store<C: Caller>(caller: &mut C, s: u32, f: u32, x: u32)
 
 /// Makes an object of null fields, and pushes a reference to it.
 pub fn push_new<C: Caller>(caller: &mut C, k: u32) -> Result<(), OutOfHeap>
-    requires some { KnowsSome (C.knows caller.old) }
-    requires fits { k + OBJECT_WORDS ≤ (C.standing caller.old).limits.page }
+    requires fields { k ≤ MAX_FIELDS }
     requires room { length (stack_in (C.standing caller.old)) < STACK_SLOTS }
     requires names { (C.standing caller.old).own.made < MAX_SERIAL }
     ensures ran { OnOk result (Ran C.base C.tells C.tells_known C.standing caller.old caller.new (k + OBJECT_WORDS)) }

@@ -1,15 +1,15 @@
 //! Count tables.
 ghost use Rattle.std.specs.Prelude.{◌≡◌, ◌≢◌, ℕ, ◌+◌, ◌-◌, ◌*◌, ◌^◌, ◌<◌, ◌≤◌, ◌↔◌, ◌++◌, ◌∷◌, [], List, length, IsTrue, OnOk, OnErr, slice_index, slice_index_or, None, replicate};
 ghost use Rattle.std.specs.FinMap as finite;
-ghost use Rattle.object_layout.specs.declared.TheConstants.{MAX_INT, MAX_SERIAL, PAGE_WORDS, WORD_LIMIT};
+ghost use Rattle.object_layout.specs.declared.TheConstants.{MAX_INT, MAX_SERIAL, WORD_LIMIT};
 ghost use Rattle.yak_model.specs.declared.TheConstants.{BUCKETS, ENTRY_FIELDS, STACK_SLOTS};
 ghost use Rattle.yak_model.specs.Room.{entry_words, key_words, table_words};
-ghost use Rattle.heap_tables.specs.declared.TheConstants.{FREE_SLOTS, MOST_MADE};
+ghost use Rattle.heap_tables.specs.declared.TheConstants.{FREE_SLOTS, KEY_BYTES, MOST_MADE};
 ghost use Rattle.yak_model.specs.declared.datum.Datum.TheVariants as datum;
 ghost use Rattle.yak_model.specs.Private.{KnownObjects};
 ghost use Rattle.yak_model.specs.declared.datum.Datum.{Datum};
 ghost use Rattle.object_layout.specs.declared.names.Name.{Name};
-ghost use Rattle.heap_tables.specs.Runs.{HasField, IsInSlot, slot_in, KeepsKnown, KnowsSome, Ran, RanOut, stack_in, next_of, with_made, with_new};
+ghost use Rattle.heap_tables.specs.Runs.{HasField, IsInSlot, slot_in, KeepsKnown, Ran, RanOut, stack_in, next_of, with_made, with_new};
 ghost use Rattle.yak_model.specs.Tables.{Link, IsCountTable, IsTable, LacksWord};
 ghost use Rattle.yak_model.specs.Texts.{WordCounts};
 ghost use Rattle.heap_tables.specs.Counted.{HasCountTable, MayCount, IsCounted, IsUncounted};
@@ -42,8 +42,6 @@ fn raise<C: Caller>(caller: &mut C, entry: u32, n: u64, top: u32)
 ///
 /// `OutOfHeap` where the heap has no room for the table.
 pub fn make<C: Caller>(caller: &mut C) -> Result<(), OutOfHeap>
-    requires some { KnowsSome (C.knows caller.old) }
-    requires page { PAGE_WORDS ≤ (C.standing caller.old).limits.page }
     requires room { length (stack_in (C.standing caller.old)) + FREE_SLOTS ≤ STACK_SLOTS }
     requires names { (C.standing caller.old).own.made ≤ MOST_MADE }
     ensures ran { OnOk result (Ran C.base C.tells C.tells_known C.standing caller.old caller.new table_words) }
@@ -65,7 +63,7 @@ pub(crate) fn add_present<C: Caller>(
     top: u32,
 ) -> bool
     requires table { HasTable (C.standing caller.old) (C.knows caller.old) table word.now n }
-    requires word { length word.now ≤ WORD_LIMIT }
+    requires word { length word.now ≤ KEY_BYTES }
     requires room { length (stack_in (C.standing caller.old)) + 3 < STACK_SLOTS }
     requires top { length (stack_in (C.standing caller.old)) ≡ top }
     ensures ran { Ran C.base C.tells C.tells_known C.standing caller.old caller.new 0 }
@@ -111,7 +109,6 @@ pub(crate) fn link_new<C: Caller>(
 ) -> Result<(), OutOfHeap>
     requires number { n ≤ MAX_INT }
     requires table { HasField (C.standing caller.old) (C.knows caller.old) table bucket }
-    requires page { PAGE_WORDS ≤ (C.standing caller.old).limits.page }
     requires names { (C.standing caller.old).own.made < MAX_SERIAL }
     requires room { length (stack_in (C.standing caller.old)) + 1 < STACK_SLOTS }
     requires top { length (stack_in (C.standing caller.old)) ≡ front + 2 }
@@ -141,7 +138,6 @@ fn insert_new<C: Caller>(
     requires number { n ≤ MAX_INT }
     requires table { HasField (C.standing caller.old) (C.knows caller.old) table bucket }
     requires word { length word.now ≤ WORD_LIMIT }
-    requires page { PAGE_WORDS ≤ (C.standing caller.old).limits.page }
     requires names { (C.standing caller.old).own.made + 1 < MAX_SERIAL }
     requires room { length (stack_in (C.standing caller.old)) + 2 < STACK_SLOTS }
     requires top { length (stack_in (C.standing caller.old)) ≡ front + 1 }
@@ -175,7 +171,6 @@ fn add_links<C: Caller>(
 ) -> Result<(), OutOfHeap>
     requires table { HasTable (C.standing caller.old) (C.knows caller.old) table word.now n }
     requires word { length word.now ≤ WORD_LIMIT }
-    requires page { PAGE_WORDS ≤ (C.standing caller.old).limits.page }
     requires names { (C.standing caller.old).own.made ≤ MOST_MADE }
     requires room { length (stack_in (C.standing caller.old)) + FREE_SLOTS ≤ STACK_SLOTS }
     requires top { length (stack_in (C.standing caller.old)) ≡ top }
@@ -211,7 +206,6 @@ fn add_links<C: Caller>(
 pub fn add<C: Caller>(caller: &mut C, table: u32, word: &[u8], n: u64) -> Result<(), OutOfHeap>
     requires table { HasCountTable (C.standing caller.old) (C.knows caller.old) table word.now n }
     requires word { length word.now ≤ WORD_LIMIT }
-    requires page { PAGE_WORDS ≤ (C.standing caller.old).limits.page }
     requires names { (C.standing caller.old).own.made ≤ MOST_MADE }
     requires room { length (stack_in (C.standing caller.old)) + FREE_SLOTS ≤ STACK_SLOTS }
     ensures ran { OnOk result (AddRan C.base C.tells C.tells_known C.standing caller.old caller.new word.now) }

@@ -30,7 +30,7 @@ visit-requires-clause-chain g c =
       walk_at s h.0 c.args.table h.1 h.2 h.4 b bound (C.standing c.loop-bucket.caller) c.loop-bucket.invariant.own,
       walk_apart s h.0 c.args.table h.1 h.2 h.4 b bound,
       omega (arith, few),
-      walk_short s h.0 c.args.table h.1 h.2 h.4 b bound,
+      walk_short s h.0 c.args.table h.1 h.2 h.4 b bound (g.met.C.Caller.standard c.args.caller.now) (g.met.C.Caller.fit c.args.caller.now h.0 h.3),
     )
 
 pub visit-requires-clause-few : goal.visit-requires-clause-few
@@ -70,7 +70,7 @@ returns-in-Some-clause-found g c known name counts may k =
     let bound : b < BUCKETS = omega (arith, c.loop-bucket-test.true) in
     let r = c.loop-bucket.invariant.gone known name counts may k in
     let v = c.in-Some.ensures.visited known name (may.is_table).heads ((may.is_table).buckets b) r.0 (walk_at s known c.args.table name counts may b bound (C.standing c.loop-bucket.caller) c.loop-bucket.invariant.own) (walk_apart s known c.args.table name counts may b bound) in
-    (is_next (may.is_table).buckets c.args.at b bound c.loop-bucket.invariant.low r.1 c.in-Some.found c.visit.new.buffer (walk_short s known c.args.table name counts may b bound) v.0, v.1)
+    (is_next (may.is_table).buckets c.args.at b bound c.loop-bucket.invariant.low r.1 c.in-Some.found c.visit.new.buffer (walk_short s known c.args.table name counts may b bound (g.met.C.Caller.standard c.args.caller.now) (g.met.C.Caller.fit c.args.caller.now known k)) v.0, v.1)
 
 pub loop-bucket-preserved : goal.loop-bucket-preserved
 loop-bucket-preserved g c =

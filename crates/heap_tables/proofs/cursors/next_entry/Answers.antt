@@ -2,7 +2,7 @@ use Rattle.std.proofs.Common.{◌≡◌, ℕ, ◌∙◌, ap, sym, subst, arith, 
 use Rattle.yak_model.specs.Graph.{Thread}
 use Rattle.heap_tables.specs.Cursors.{IsNext}
 use Rattle.std.proofs.lemmas.List.{length-replicate}
-use Rattle.object_layout.specs.declared.TheConstants.{WORD_LIMIT}
+use Rattle.heap_tables.specs.declared.TheConstants.{KEY_BYTES}
 use Rattle.heap_tables.proofs.Bytes.{length_front}
 use Rattle.heap_tables.proofs.RunOn.{ran_more}
 use Rattle.heap_tables.proofs.Visits.{next_count, walk_now}
@@ -23,7 +23,7 @@ slice_bounds-buffer-end g c =
     let h = c.requires.table in
     let may = walk_now (C.standing c.args.caller.now) (C.standing c.stack_size-top.new.caller) h.0 c.args.table h.1 h.2 h.4 c.stack_size-top.ensures.own in
     let small = (c.in-Some.ensures.found h.0 h.1 h.2 may (c.stack_size-top.ensures.keeps h.0 h.3)).0.0 in
-    let long : length c.find_next.new.buffer ≡ WORD_LIMIT = c.find_next.ensures.buffer ∙ length-replicate {A = ℕ} WORD_LIMIT 0 in
+    let long : length c.find_next.new.buffer ≡ KEY_BYTES = c.find_next.ensures.buffer ∙ length-replicate {A = ℕ} KEY_BYTES 0 in
     omega (arith, small, long)
 
 pub slice_bounds-copy_word-end : goal.slice_bounds-copy_word-end
@@ -32,7 +32,7 @@ slice_bounds-copy_word-end g c =
     let h = c.requires.table in
     let may = walk_now (C.standing c.args.caller.now) (C.standing c.stack_size-top.new.caller) h.0 c.args.table h.1 h.2 h.4 c.stack_size-top.ensures.own in
     let small = (c.in-Some.ensures.found h.0 h.1 h.2 may (c.stack_size-top.ensures.keeps h.0 h.3)).0.0 in
-    let long : length c.find_next.new.buffer ≡ WORD_LIMIT = c.find_next.ensures.buffer ∙ length-replicate {A = ℕ} WORD_LIMIT 0 in
+    let long : length c.find_next.new.buffer ≡ KEY_BYTES = c.find_next.ensures.buffer ∙ length-replicate {A = ℕ} KEY_BYTES 0 in
     sym (length_front c.in-Some.size c.find_next.new.buffer (omega (arith, small, long)))
 
 pub returns-in_err-word-in-Some-clause-ran : goal.returns-in_err-word-in-Some-clause-ran

@@ -1,5 +1,5 @@
 use Rattle.std.proofs.Common.{◌∙◌, ap, sym, refl, arith, length}
-use Rattle.yak_model.specs.Graph.{Limits, Thread}
+use Rattle.yak_model.specs.Graph.{Thread}
 use Rattle.yak_model.specs.Tables.{bucket_of}
 use Rattle.heap_tables.specs.Adds.{having_made}
 use Rattle.heap_tables.specs.Merges.{AreSlots, done_at}
@@ -7,7 +7,7 @@ use Rattle.heap_tables.proofs.Counted.{lacks_count, lacks_none}
 use Rattle.heap_tables.proofs.Effects.{value_same}
 use Rattle.heap_tables.proofs.OnResult.{err_map, ok_both, ok_map, err_both}
 use Rattle.heap_tables.proofs.RunOn.{then_out, then_ran}
-use Rattle.heap_tables.proofs.Untouched.{get_now, goes_new, goes_present, is_share, length_walk, may_merge, merged_as, merged_step, shared_now, stops_here}
+use Rattle.heap_tables.proofs.Untouched.{get_now, goes_new, goes_present, is_share, length_walk, may_merge, merged_as, merged_step, shared_now, shares_present, stops_here}
 use Rattle.heap_tables.proofs.merging.add_entry.Goals as goal
 
 pub add_present-requires-clause-table : goal.add_present-requires-clause-table
@@ -41,7 +41,7 @@ returns-then-add_present-clause-added g c m is link rest slots d at =
     let may = may_merge s c.args.into m is b p (C.knows c.args.caller.now) d c.requires.bucket (omega (arith, c.ranges.place)) (length_walk m.buckets is.from_few b (omega (arith, c.requires.bucket))) slots.1 word n link rest at in
     let table = d.into_table in
     let a = (c.if-add_present.ensures.added d.after m.into_name table.heads table.buckets d.known_now may).0 refl in
-    let merged = merged_step m is (done_at m.buckets b p) (C.knows c.args.caller.now) d word n link at.1 at.2 (C.knows c.add_present.new.caller) a.0 in
+    let merged = merged_step m is (done_at m.buckets b p) (C.knows c.args.caller.now) d word n link at.1 at.2 (C.knows c.add_present.new.caller) a.0 (shares_present word n link (table.buckets (bucket_of word)) (a.0).links at.1 at.2 (λ lacks. lacks_count word (table.buckets (bucket_of word)) a.1.0 lacks a.1.1) (a.0).adds) in
     goes_present C.base C.tells C.tells_known C.standing m is b p word n link rest at c.args.caller.now c.add_present.new.caller (C.knows c.add_present.new.caller) merged
     (λ none. lacks_count word (table.buckets (bucket_of word)) a.1.0 (table.absent word (get_now m is b p c.requires.bucket (C.knows c.args.caller.now) d word link at.1 ∙ none)) a.1.1)
     c.add_present.ensures.ran c.add_present.ensures.own
@@ -90,10 +90,6 @@ share-requires-clause-tables g c =
     let shares = is_share m is b p c.requires.bucket (C.knows c.args.caller.now) d (C.standing c.add_present.new.caller) c.args.from c.args.into now_slots link rest at.0 in
     (d.after, m.from_name, m.into_name, m.heads, table.heads, m.buckets b, link, rest, missing.1, shares)
 
-pub share-requires-clause-page : goal.share-requires-clause-page
-share-requires-clause-page g c =
-    let page = ap (λ (l : Limits). l.page) c.add_present.ensures.ran.since.limits in omega (arith, c.requires.page, page)
-
 pub share-requires-clause-names : goal.share-requires-clause-names
 share-requires-clause-names g c =
     omega (arith, c.requires.names, ap (λ (o : Thread). o.made) c.add_present.ensures.own)
@@ -125,7 +121,7 @@ returns-clause-added g c =
     let sh = all.0 d.after m.from_name m.into_name m.heads table.heads (m.buckets b) link rest missing.1 shares in
     let mid = C.standing c.add_present.new.caller in
     let added = shared_now m is b p c.requires.bucket (C.knows c.args.caller.now) d word n link rest at missing.0 mid sh.1 (C.knows c.share.new.caller) sh.0 in
-    let merged = merged_step m is (done_at m.buckets b p) (C.knows c.args.caller.now) d word n link at.1 at.2 (C.knows c.share.new.caller) added in
+    let merged = merged_step m is (done_at m.buckets b p) (C.knows c.args.caller.now) d word n link at.1 at.2 (C.knows c.share.new.caller) added.0 added.1 in
     let absent = sym (get_now m is b p c.requires.bucket (C.knows c.args.caller.now) d word link at.1) ∙ lacks_none d.after m.into_name d.counts table word missing.0 in
     goes_new C.base C.tells C.tells_known C.standing m is b p word n link rest at c.args.caller.now c.share.new.caller (C.knows c.share.new.caller) merged absent
     (then_ran C.base C.tells C.tells_known C.standing _ _ _ _ c.add_present.ensures.ran all.1.0) (all.1.1 ∙ ap (λ o. having_made o 1) own))

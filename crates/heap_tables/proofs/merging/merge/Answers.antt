@@ -1,6 +1,6 @@
 use Rattle.std.proofs.Common.{◌∙◌, ap, arith, length, []}
 use Rattle.yak_model.specs.declared.TheConstants.{BUCKETS}
-use Rattle.yak_model.specs.Graph.{Limits, Thread}
+use Rattle.yak_model.specs.Graph.{Thread}
 use Rattle.heap_tables.specs.Merges.{AreSlots, walk}
 use Rattle.heap_tables.proofs.Effects.{value_same}
 use Rattle.heap_tables.proofs.OnResult.{err_map, ok_map}
@@ -19,9 +19,6 @@ merge_buckets-requires-clause-tables g c =
     let is = is_merge s h.0 c.args.from c.args.into h.1 h.2 h.3 h.4 may in
     let slots : AreSlots (C.standing c.stack_size-top.new.caller) c.args.from c.args.into m = (value_same s.own _ c.args.from own ∙ may.from_slot, value_same s.own _ c.args.into own ∙ may.into_slot) in
     (m, is, slots, merged_none m is (C.knows c.stack_size-top.new.caller) (c.stack_size-top.ensures.keeps h.0 h.5))
-
-pub merge_buckets-requires-clause-page : goal.merge_buckets-requires-clause-page
-merge_buckets-requires-clause-page g c = let page = ap (λ (l : Limits). l.page) c.stack_size-top.ensures.ran.since.limits in omega (arith, c.requires.page, page)
 
 pub merge_buckets-requires-clause-names : goal.merge_buckets-requires-clause-names
 merge_buckets-requires-clause-names g c = omega (arith, c.requires.names, ap (λ (o : Thread). o.made) c.stack_size-top.ensures.own)

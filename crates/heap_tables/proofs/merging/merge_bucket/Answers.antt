@@ -1,6 +1,6 @@
 use Rattle.std.proofs.Common.{◌+◌, ◌≤◌, ◌∙◌, ap, sym, subst, refl, arith, length}
 use Rattle.std.proofs.lemmas.List.{drop_all}
-use Rattle.yak_model.specs.Graph.{Limits, Thread}
+use Rattle.yak_model.specs.Graph.{Thread}
 use Rattle.heap_tables.specs.Merges.{AreSlots, Goes, done_at, walk}
 use Rattle.heap_tables.proofs.OnResult.{on_err}
 use Rattle.heap_tables.proofs.RunOn.{ran_none}
@@ -33,20 +33,6 @@ merge_entry-requires-clause-tables g c =
 pub merge_entry-requires-clause-buffer : goal.merge_entry-requires-clause-buffer
 merge_entry-requires-clause-buffer g c =
     let e = c.loop-place.invariant.buffer in omega (arith, c.requires.buffer, e)
-
-pub merge_entry-requires-clause-page : goal.merge_entry-requires-clause-page
-merge_entry-requires-clause-page g c =
-    let C = g.C.Caller in
-    let s = C.standing c.args.caller.now in
-    let h = c.requires.tables in
-    let m = h.0 in
-    let is = h.1 in
-    let slots = h.2 in
-    let d = h.3 in
-    let G = c.loop-place.invariant.goes m is slots d in
-    let own = G.own in
-    let now_slots : AreSlots (C.standing c.loop-place.caller) c.args.from c.args.into m = (made_slot s (C.standing c.loop-place.caller) G.made c.args.from own ∙ slots.0, made_slot s (C.standing c.loop-place.caller) G.made c.args.into own ∙ slots.1) in
-    let page = ap (λ (l : Limits). l.page) G.ran.since.limits in omega (arith, c.requires.page, page)
 
 pub merge_entry-requires-clause-names : goal.merge_entry-requires-clause-names
 merge_entry-requires-clause-names g c =

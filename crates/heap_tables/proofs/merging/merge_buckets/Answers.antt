@@ -1,6 +1,6 @@
 use Rattle.std.proofs.Common.{◌-◌, ◌≡◌, ◌+◌, ◌*◌, ◌^◌, ◌≤◌, ◌∙◌, ap, subst, refl, arith, length, []}
 use Rattle.yak_model.specs.declared.TheConstants.{BUCKETS}
-use Rattle.yak_model.specs.Graph.{Limits, Thread}
+use Rattle.yak_model.specs.Graph.{Thread}
 use Rattle.heap_tables.specs.Merges.{AreSlots, Goes, walk}
 use Rattle.heap_tables.proofs.OnResult.{on_err}
 use Rattle.heap_tables.proofs.RunOn.{ran_none}
@@ -33,20 +33,6 @@ merge_bucket-requires-clause-tables g c =
 pub merge_bucket-requires-clause-buffer : goal.merge_bucket-requires-clause-buffer
 merge_bucket-requires-clause-buffer g c =
     let e = c.loop-bucket.invariant.buffer in omega (arith, c.requires.buffer, e)
-
-pub merge_bucket-requires-clause-page : goal.merge_bucket-requires-clause-page
-merge_bucket-requires-clause-page g c =
-    let C = g.C.Caller in
-    let s = C.standing c.args.caller.now in
-    let h = c.requires.tables in
-    let m = h.0 in
-    let is = h.1 in
-    let slots = h.2 in
-    let d = h.3 in
-    let G = c.loop-bucket.invariant.goes m is slots d in
-    let own = G.own in
-    let now_slots : AreSlots (C.standing c.loop-bucket.caller) c.args.from c.args.into m = (made_slot s (C.standing c.loop-bucket.caller) G.made c.args.from own ∙ slots.0, made_slot s (C.standing c.loop-bucket.caller) G.made c.args.into own ∙ slots.1) in
-    let page = ap (λ (l : Limits). l.page) G.ran.since.limits in omega (arith, c.requires.page, page)
 
 pub merge_bucket-requires-clause-names : goal.merge_bucket-requires-clause-names
 merge_bucket-requires-clause-names g c =

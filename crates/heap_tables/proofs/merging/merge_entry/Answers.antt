@@ -1,11 +1,11 @@
 use Rattle.std.proofs.Common.{ℕ, ◌∙◌, ap, sym, arith, length, drop, take, List}
-use Rattle.yak_model.specs.Graph.{Limits, Thread}
+use Rattle.yak_model.specs.Graph.{Thread}
 use Rattle.heap_tables.specs.Merges.{AreSlots, IsEntryAt, done_at}
 use Rattle.heap_tables.proofs.Bytes.{length_front}
 use Rattle.heap_tables.proofs.Effects.{value_same}
 use Rattle.heap_tables.proofs.OnResult.{on_err}
 use Rattle.heap_tables.proofs.Sought.{short_first}
-use Rattle.heap_tables.proofs.Untouched.{from_chain, goes_nowhere, goes_stops, goes_then, merged_as}
+use Rattle.heap_tables.proofs.Untouched.{from_chain, from_short, goes_nowhere, goes_stops, goes_then, merged_as}
 use Rattle.heap_tables.proofs.Visits.{took_nothing, took_parts}
 use Rattle.heap_tables.proofs.merging.merge_entry.Goals as goal
 
@@ -22,7 +22,7 @@ take_entry-requires-clause-chain g c =
     let p = c.args.place in
     let at = from_chain m is b p c.requires.bucket (C.knows c.args.caller.now) d s c.args.from slots.0 in
     let few = is.from_few b c.requires.bucket in
-    (d.after, m.from_name, m.heads, m.buckets b, d.known_now, at.0, at.1, omega (arith, few), is.short b c.requires.bucket)
+    (d.after, m.from_name, m.heads, m.buckets b, d.known_now, at.0, at.1, omega (arith, few), from_short m is b p c.requires.bucket (C.knows c.args.caller.now) d s.limits (g.met.C.Caller.standard c.args.caller.now) (g.met.C.Caller.fit c.args.caller.now d.after d.known_now))
 
 pub slice_bounds-add_entry-end : goal.slice_bounds-add_entry-end
 slice_bounds-add_entry-end g c =
@@ -38,7 +38,7 @@ slice_bounds-add_entry-end g c =
     let at = from_chain m is b p c.requires.bucket (C.knows c.args.caller.now) d s c.args.from slots.0 in
     let took = c.in-Some.ensures.took d.after m.from_name m.heads (m.buckets b) d.known_now at.0 at.1 in
     let r = took_parts (drop p (m.buckets b)) c.in-Some.size c.in-Some.count c.take_entry.new.buffer took.0 in
-    let long = short_first p (m.buckets b) r.1 r.0 (is.short b c.requires.bucket) r.2 in
+    let long = short_first p (m.buckets b) r.1 r.0 (from_short m is b p c.requires.bucket (C.knows c.args.caller.now) d s.limits (g.met.C.Caller.standard c.args.caller.now) (g.met.C.Caller.fit c.args.caller.now d.after d.known_now)) r.2 in
     let size = r.3.0 in
     let own = c.take_entry.ensures.own in
     let now_slots : AreSlots (C.standing c.take_entry.new.caller) c.args.from c.args.into m = (value_same s.own _ c.args.from own ∙ slots.0, value_same s.own _ c.args.into own ∙ slots.1) in
@@ -60,7 +60,7 @@ slice_bounds-add_entry-end-in-Some g c =
     let at = from_chain m is b p c.requires.bucket (C.knows c.args.caller.now) d s c.args.from slots.0 in
     let took = c.in-Some.ensures.took d.after m.from_name m.heads (m.buckets b) d.known_now at.0 at.1 in
     let r = took_parts (drop p (m.buckets b)) c.in-Some.size c.in-Some.count c.take_entry.new.buffer took.0 in
-    let long = short_first p (m.buckets b) r.1 r.0 (is.short b c.requires.bucket) r.2 in
+    let long = short_first p (m.buckets b) r.1 r.0 (from_short m is b p c.requires.bucket (C.knows c.args.caller.now) d s.limits (g.met.C.Caller.standard c.args.caller.now) (g.met.C.Caller.fit c.args.caller.now d.after d.known_now)) r.2 in
     let size = r.3.0 in
     let own = c.take_entry.ensures.own in
     let now_slots : AreSlots (C.standing c.take_entry.new.caller) c.args.from c.args.into m = (value_same s.own _ c.args.from own ∙ slots.0, value_same s.own _ c.args.into own ∙ slots.1) in
@@ -82,7 +82,7 @@ add_entry-requires-clause-tables g c =
     let at = from_chain m is b p c.requires.bucket (C.knows c.args.caller.now) d s c.args.from slots.0 in
     let took = c.in-Some.ensures.took d.after m.from_name m.heads (m.buckets b) d.known_now at.0 at.1 in
     let r = took_parts (drop p (m.buckets b)) c.in-Some.size c.in-Some.count c.take_entry.new.buffer took.0 in
-    let long = short_first p (m.buckets b) r.1 r.0 (is.short b c.requires.bucket) r.2 in
+    let long = short_first p (m.buckets b) r.1 r.0 (from_short m is b p c.requires.bucket (C.knows c.args.caller.now) d s.limits (g.met.C.Caller.standard c.args.caller.now) (g.met.C.Caller.fit c.args.caller.now d.after d.known_now)) r.2 in
     let size = r.3.0 in
     let own = c.take_entry.ensures.own in
     let now_slots : AreSlots (C.standing c.take_entry.new.caller) c.args.from c.args.into m = (value_same s.own _ c.args.from own ∙ slots.0, value_same s.own _ c.args.into own ∙ slots.1) in
@@ -104,17 +104,13 @@ add_entry-requires-clause-word g c =
     let at = from_chain m is b p c.requires.bucket (C.knows c.args.caller.now) d s c.args.from slots.0 in
     let took = c.in-Some.ensures.took d.after m.from_name m.heads (m.buckets b) d.known_now at.0 at.1 in
     let r = took_parts (drop p (m.buckets b)) c.in-Some.size c.in-Some.count c.take_entry.new.buffer took.0 in
-    let long = short_first p (m.buckets b) r.1 r.0 (is.short b c.requires.bucket) r.2 in
+    let long = short_first p (m.buckets b) r.1 r.0 (from_short m is b p c.requires.bucket (C.knows c.args.caller.now) d s.limits (g.met.C.Caller.standard c.args.caller.now) (g.met.C.Caller.fit c.args.caller.now d.after d.known_now)) r.2 in
     let size = r.3.0 in
     let own = c.take_entry.ensures.own in
     let now_slots : AreSlots (C.standing c.take_entry.new.caller) c.args.from c.args.into m = (value_same s.own _ c.args.from own ∙ slots.0, value_same s.own _ c.args.into own ∙ slots.1) in
     let merged = merged_as m is (done_at m.buckets b p) (C.knows c.args.caller.now) (C.knows c.take_entry.new.caller) d took.1 in
     let entry : IsEntryAt m b p (take c.in-Some.size c.take_entry.new.buffer) c.in-Some.count r.0 r.1 = (r.2, r.3.1, r.4) in
     let e = ap (λ (ls : List ℕ). length ls) r.3.1 in omega (arith, e, long)
-
-pub add_entry-requires-clause-page : goal.add_entry-requires-clause-page
-add_entry-requires-clause-page g c =
-    let page = ap (λ (l : Limits). l.page) c.take_entry.ensures.ran.since.limits in omega (arith, c.requires.page, page)
 
 pub add_entry-requires-clause-names : goal.add_entry-requires-clause-names
 add_entry-requires-clause-names g c =
@@ -150,7 +146,7 @@ returns-in_ok-add_entry-in-Some-clause-merged g c m is slots d =
     let at = from_chain m is b p c.requires.bucket (C.knows c.args.caller.now) d s c.args.from slots.0 in
     let took = c.in-Some.ensures.took d.after m.from_name m.heads (m.buckets b) d.known_now at.0 at.1 in
     let r = took_parts (drop p (m.buckets b)) c.in-Some.size c.in-Some.count c.take_entry.new.buffer took.0 in
-    let long = short_first p (m.buckets b) r.1 r.0 (is.short b c.requires.bucket) r.2 in
+    let long = short_first p (m.buckets b) r.1 r.0 (from_short m is b p c.requires.bucket (C.knows c.args.caller.now) d s.limits (g.met.C.Caller.standard c.args.caller.now) (g.met.C.Caller.fit c.args.caller.now d.after d.known_now)) r.2 in
     let size = r.3.0 in
     let own = c.take_entry.ensures.own in
     let now_slots : AreSlots (C.standing c.take_entry.new.caller) c.args.from c.args.into m = (value_same s.own _ c.args.from own ∙ slots.0, value_same s.own _ c.args.into own ∙ slots.1) in
@@ -171,7 +167,7 @@ returns-in_err-add_entry-in-Some-clause-stopped g c =
     let at = from_chain m is b p c.requires.bucket (C.knows c.args.caller.now) d s c.args.from slots.0 in
     let took = c.in-Some.ensures.took d.after m.from_name m.heads (m.buckets b) d.known_now at.0 at.1 in
     let r = took_parts (drop p (m.buckets b)) c.in-Some.size c.in-Some.count c.take_entry.new.buffer took.0 in
-    let long = short_first p (m.buckets b) r.1 r.0 (is.short b c.requires.bucket) r.2 in
+    let long = short_first p (m.buckets b) r.1 r.0 (from_short m is b p c.requires.bucket (C.knows c.args.caller.now) d s.limits (g.met.C.Caller.standard c.args.caller.now) (g.met.C.Caller.fit c.args.caller.now d.after d.known_now)) r.2 in
     let size = r.3.0 in
     let own = c.take_entry.ensures.own in
     let now_slots : AreSlots (C.standing c.take_entry.new.caller) c.args.from c.args.into m = (value_same s.own _ c.args.from own ∙ slots.0, value_same s.own _ c.args.into own ∙ slots.1) in

@@ -1,6 +1,6 @@
 use Rattle.std.proofs.Common.{◌≡◌, ◌+◌, ◌∙◌, ap, sym, refl, arith, length, drop, get_or}
 use Rattle.std.specs.FinMap.{get}
-use Rattle.yak_model.specs.Graph.{Limits, Thread}
+use Rattle.yak_model.specs.Graph.{Thread}
 use Rattle.yak_model.specs.Room.{entry_words}
 use Rattle.yak_model.specs.declared.datum.Datum.TheVariants as datum
 use Rattle.heap_tables.specs.Adds.{having_made}
@@ -32,13 +32,6 @@ share_key-shared-requires-clause-entry g c =
     let size2 = size_after (pushed s.own front) _ ent two in
     let there = top_after (pushed s.own front) _ ent (c.args.top + 1) two (omega (arith, size1, c.requires.top)) in
     (h.0, h.2, h.4, entry.0, h.6, q.1, into2, is.within, (there, entry.1))
-
-pub share_key-shared-requires-clause-page : goal.share_key-shared-requires-clause-page
-share_key-shared-requires-clause-page g c =
-    let C = g.C.Caller in
-    let s = C.standing c.args.caller.now in
-    let page = ap (λ (l : Limits). l.page) c.seek.ensures.ran.since.limits in
-    omega (arith, c.requires.page, page)
 
 pub share_key-shared-requires-clause-names : goal.share_key-shared-requires-clause-names
 share_key-shared-requires-clause-names g c =

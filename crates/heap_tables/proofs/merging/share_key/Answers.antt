@@ -1,6 +1,6 @@
 use Rattle.std.proofs.Common.{◌≡◌, ◌+◌, ◌∙◌, ap, sym, arith, length, get_or}
 use Rattle.std.specs.FinMap.{get}
-use Rattle.yak_model.specs.Graph.{Limits, Thread}
+use Rattle.yak_model.specs.Graph.{Thread}
 use Rattle.yak_model.specs.Room.{entry_words}
 use Rattle.yak_model.specs.declared.datum.Datum.TheVariants as datum
 use Rattle.yak_model.specs.Tables.{entry_fields}
@@ -64,14 +64,6 @@ link_new-linked-requires-clause-table g c =
     let into2 = slot_after _ _ key h.0 c.args.into h.1 h.2 e2 into1 in
     let size2 = size_after (C.standing c.load.new.caller).own _ key e2 in
     (h.0, h.1, h.2, k2, into2, h.7)
-
-pub link_new-linked-requires-clause-page : goal.link_new-linked-requires-clause-page
-link_new-linked-requires-clause-page g c =
-    let C = g.C.Caller in
-    let s = C.standing c.args.caller.now in
-    let limits = c.load-2.ensures.ran.since.limits ∙ c.load.ensures.ran.since.limits in
-    let page = ap (λ (l : Limits). l.page) limits in
-    omega (arith, c.requires.page, page)
 
 pub link_new-linked-requires-clause-names : goal.link_new-linked-requires-clause-names
 link_new-linked-requires-clause-names g c =

@@ -62,7 +62,7 @@ returns-clause-counted g c = ok_map c.add_links.result _ _
     let same = ap (λ (o : Thread). o.made) c.stack_size-top.ensures.own in
     let makes = makes_uncounted (C.standing c.stack_size-top.new.caller) (C.standing c.add_links.new.caller) known name counts table word made in (
       (λ some. makes.0 some ∙ same, λ none. makes.1 none ∙ ap (λ m. m + 2) same),
-      (added.after, added.known_now, added_counts known name counts table word c.args.n (bucket_small word) (C.knows c.add_links.new.caller) added, added.others, stay_nowhere known table.buckets word c.args.n name (C.knows c.add_links.new.caller) added),
+      (added.after, added.known_now, added_counts known name counts table word c.args.n (bucket_small word) (C.knows c.add_links.new.caller) added, added.others, stay_nowhere known table.buckets word c.args.n name (C.knows c.add_links.new.caller) added, (added.links, refl, added.adds)),
     ))
     (ok_both c.add_links.result _ _ c.add_links.ensures.added c.add_links.ensures.made)
 

@@ -10,9 +10,6 @@ use Rattle.heap_tables.proofs.KeyGrowth.{made_at, made_size}
 use Rattle.heap_tables.proofs.Linked.{made_below, popped_made, other_name}
 use Rattle.heap_tables.proofs.tables.link_new.Goals as goal
 
-pub push_new-requires-clause-some : goal.push_new-requires-clause-some
-push_new-requires-clause-some g c = let h = c.requires.table in (h.0, h.3)
-
 pub fill_entry-requires-clause-entry : goal.fill_entry-requires-clause-entry
 fill_entry-requires-clause-entry g c =
     let h = c.requires.table in
