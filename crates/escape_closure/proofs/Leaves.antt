@@ -330,3 +330,8 @@ module _ (m : Areas) (c : Contents) (s : SpaceState) (st : Stands m c s) (record
         filed = leaves.buffers;
         gone = none_left;
       }
+
+  -- the places are those that the moves leave
+  pub ended_places : (counts : Counts (IsEscaping s t) count) (spaces : (k : ℕ) → k < count → IsValid MAX_DEPTH (moves k).space) → (state_ended counts spaces).stands.places ≡ later
+  unfolding state_ended
+  ended_places counts spaces = refl
