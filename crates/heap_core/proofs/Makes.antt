@@ -19,7 +19,7 @@ use Rattle.heap_words.specs.Contents.{Contents, depth_of, made_of, stack_of, wit
 use Rattle.epoch_lattice.specs.declared.Space.{Space}
 use Rattle.epoch_lattice.specs.Lattice.{inner_of, space_index}
 use Rattle.yak_model.specs.declared.datum.Datum.TheVariants as datum
-use Rattle.yak_model.specs.Graph.{Limits, is_stack_full, next_name, thread_of}
+use Rattle.yak_model.specs.Graph.{Limits, is_stack_full, next_name, standard_limits, thread_of}
 use Rattle.yak_model.specs.Graph as graph
 use Rattle.yak_model.specs.Spaces.{SpaceState, innermost}
 use Rattle.yak_model.specs.State.{IsDatum, State, Thing, view}
@@ -80,11 +80,11 @@ written-more c d e a first second size i least lt fits h he =
     }
 
 -- the tests of a call that makes an object
-too_many : (s : SpaceState) (m : Areas) (c : Contents) → Stands m c s → (k : ℕ) → MAX_FIELDS < k → ltb (s.graph.limits.page - 3) k ≡ true
-too_many s m c h k lt = ap (λ (x : Limits). ltb (x.page - 3) k) h.whole.limits ∙ (let e : ltb 253 k ≡ true = grind (arith, nat_tests) in e)
+too_many : (s : SpaceState) (m : Areas) (c : Contents) → Stands m c s → (k : ℕ) → MAX_FIELDS < k → ltb (s.graph.limits.page - OBJECT_WORDS) k ≡ true
+too_many s m c h k lt = ap (λ (x : Limits). ltb (x.page - OBJECT_WORDS) k) h.whole.limits ∙ (let e : ltb (standard_limits.page - OBJECT_WORDS) k ≡ true = grind (arith, nat_tests) in e)
 
-few_enough : (s : SpaceState) (m : Areas) (c : Contents) → Stands m c s → (k : ℕ) → k ≤ MAX_FIELDS → ltb (s.graph.limits.page - 3) k ≡ false
-few_enough s m c h k le = ap (λ (x : Limits). ltb (x.page - 3) k) h.whole.limits ∙ (let e : ltb 253 k ≡ false = grind (arith, nat_tests) in e)
+few_enough : (s : SpaceState) (m : Areas) (c : Contents) → Stands m c s → (k : ℕ) → k ≤ MAX_FIELDS → ltb (s.graph.limits.page - OBJECT_WORDS) k ≡ false
+few_enough s m c h k le = ap (λ (x : Limits). ltb (x.page - OBJECT_WORDS) k) h.whole.limits ∙ (let e : ltb (standard_limits.page - OBJECT_WORDS) k ≡ false = grind (arith, nat_tests) in e)
 
 stack_room : (m : Areas) (c : Contents) (s : SpaceState) (h : Stands m c s) (t : ℕ) → length (stack_of c t) < STACK_SLOTS → is_stack_full s.graph t ≡ false
 stack_room m c s h t lt = within STACK_SLOTS (length (graph.stack_of s.graph t)) (omega (arith, lt, stack_length m c s h t))
@@ -146,9 +146,9 @@ new-stands m c1 c2 s at t k a first second here ef es h =
       work_word = h.zero 2 (omega arith) (omega arith);
       fields = λ f lt.
           let lt' : f < k = rw (← long) lt in
-          let same : a + OBJECT_WORDS + f ≡ a + (3 + f) = omega arith in
+          let same : a + OBJECT_WORDS + f ≡ a + (OBJECT_WORDS + f) = omega arith in
           let null : get_or (replicate k datum.Null) f datum.Null ≡ datum.Null = get_or-replicate k f datum.Null datum.Null lt' in
-          ap (λ i. get_or c2.heap i 0) same ∙ h.zero (3 + f) (omega arith) (omega arith) ∙ ap (datum_word at) (sym null);
+          ap (λ i. get_or c2.heap i 0) same ∙ h.zero (OBJECT_WORDS + f) (omega arith) (omega arith) ∙ ap (datum_word at) (sym null);
     })
 
 -- the place that it takes

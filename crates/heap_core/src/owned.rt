@@ -14,6 +14,7 @@ ghost use Rattle.yak_model.specs.Packed.{IsPacked};
 ghost use Rattle.heap_core.specs.Done.{CollectsWhere, EndsSo, FillsHeap, StepRecords, StepRoom, TellsFull, TellsPages, TellsShortage};
 ghost use Rattle.heap_core.specs.EpochEnds.{ReadsFew};
 ghost use Rattle.heap_core.specs.Lawful.{AreLawful, PackedIfAsked};
+ghost use Rattle.heap_core.specs.Opening.{IsOpened};
 ghost use Rattle.heap_core.specs.Records.{SomeRecorded, StandsRecorded};
 ghost use Rattle.heap_core.specs.Steps.{entries};
 
@@ -49,6 +50,7 @@ impl Core<Image> {
     /// A new heap of so many pages and threads, in the opening state.
     pub fn new(alloc: Global, pages: u32, threads: u8) -> Result<Core<Image>, MakeError>
         ensures opening { IfOk result (λ core. StandsRecorded core.map (contents core.map (⟦<Image as Words>⟧.words core.words)) (opening_spaces standard_limits threads)) }
+        ensures opened { IfOk result (λ core. IsOpened core.map (contents core.map (⟦<Image as Words>⟧.words core.words))) }
         ensures map { IfOk result (λ core. core.map ≡ record { pages = pages; threads = threads }) }
         ensures within_limits { IfOk result (λ _. IsAreas (record { pages = pages; threads = threads })) }
         ensures refused { IfErr result (λ e. (e ≡ MakeError.BadConfig) ↔ ¬ IsAreas (record { pages = pages; threads = threads })) }
