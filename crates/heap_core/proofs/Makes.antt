@@ -39,7 +39,7 @@ use Rattle.heap_core.proofs.Stores.{recorded-newly}
 use Rattle.region_pages.proofs.Shapes.{Shape}
 use Rattle.heap_core.specs.Steps.{IsPushed, Turned}
 use Rattle.heap_core.specs.Objects.{IsWritten}
-use Rattle.heap_core.proofs.Steps.{beyond, same_room, thread_in, within}
+use Rattle.heap_core.proofs.Steps.{beyond, not-idle, same_room, thread_in, within}
 use Rattle.heap_core.proofs.Newly.{no_object-case, stands-added, with_new}
 use Rattle.heap_core.proofs.Named.{depth-shown, made-shown, named, new_thing, view-named, whole-named}
 use Rattle.heap_core.proofs.Places.{somewhere}
@@ -103,6 +103,7 @@ too_long m c t k ht lt = record {
   turns = λ s h. (s, (s, (thread_in m c s h t ht, rw (too_many s m c h k lt) (refl, refl), refl, tt), refl), h, λ r. r);
   room = same_room c;
   records = λ s h. same_records c;
+  idle = λ i. refl;
 }
 
 pub new_stack_full : (m : Areas) (c : Contents) (t k : ℕ) → HasThread m t → k ≤ MAX_FIELDS → STACK_SLOTS ≤ length (stack_of c t) → Turned m c c t (call.New k) (reply.Refused refusal.StackFull)
@@ -112,6 +113,7 @@ new_stack_full m c t k ht le full = record {
       (s, (s, (thread_in m c s h t ht, rw (few_enough s m c h k le, test) (refl, refl), refl, tt), refl), h, λ r. r);
   room = same_room c;
   records = λ s h. same_records c;
+  idle = λ i. refl;
 }
 
 pub names_spent : (m : Areas) (c : Contents) (t k : ℕ) → HasThread m t → k ≤ MAX_FIELDS → length (stack_of c t) < STACK_SLOTS → MAX_SERIAL ≤ made_of c t → Turned m c c t (call.New k) (reply.Refused refusal.NamesSpent)
@@ -121,6 +123,7 @@ names_spent m c t k ht le room spent = record {
       (s, (s, (thread_in m c s h t ht, rw (few_enough s m c h k le, stack_room m c s h t room, test) (refl, refl), refl, tt), refl), h, λ r. r);
   room = same_room c;
   records = λ s h. same_records c;
+  idle = λ i. refl;
 }
 
 pub out_of_heap : (m : Areas) (c : Contents) (t k : ℕ) → HasThread m t → k ≤ MAX_FIELDS → length (stack_of c t) < STACK_SLOTS → made_of c t < MAX_SERIAL → HasNoRoom m c t (k + OBJECT_WORDS) → Turned m c c t (call.New k) reply.OutOfHeap
@@ -128,6 +131,7 @@ out_of_heap m c t k ht le room left none = record {
   turns = λ s h. (s, (s, (thread_in m c s h t ht, rw (few_enough s m c h k le, stack_room m c s h t room, serial_left m c s h t left) (inr (refl, refl)), refl, tt), refl), h, λ r. r);
   room = (none, same_room c);
   records = λ s h. same_records c;
+  idle = λ i. refl;
 }
 
 -- the words of the contents afterwards
@@ -246,6 +250,7 @@ made_turns m c c1 c2 c3 d t k made a first second w r areas ht few room is_made 
       );
   room = made_room m c c1 c2 c3 d t k made a first second w placed written hm hd;
   records = λ s h. made_records m c c1 c2 c3 d t k made a first second w placed written hm hd;
+  idle = λ i. absurd (not-idle (call.New k) reply.Ok (λ no. no) (λ why q. cc) i);
 }
 
 placed-stacks : (m : Areas) (c c1 : Contents) (t : ℕ) (x : Space) (size a : ℕ) → IsPlaced m c t x size a c1 → c1.stacks ≡ c.stacks

@@ -16,7 +16,7 @@ ghost use Rattle.heap_core.specs.EpochEnds.{ReadsFew};
 ghost use Rattle.heap_core.specs.Lawful.{AreLawful, PackedIfAsked};
 ghost use Rattle.heap_core.specs.Opening.{IsOpened};
 ghost use Rattle.heap_core.specs.Records.{SomeRecorded, StandsRecorded};
-ghost use Rattle.heap_core.specs.Steps.{entries};
+ghost use Rattle.heap_core.specs.Steps.{IsIdle, entries};
 
 use crate::caller::words_in_use;
 use crate::calls::answer;
@@ -88,6 +88,7 @@ impl<W: Words> Core<W> {
         ensures census { TellsPages (contents self.old.map (W.words self.old.words)) call result.reply }
         ensures packed { call ≡ Call.Collect → (s : SpaceState) (h : Stands self.new.map (contents self.new.map (W.words self.new.words)) s) → IsPacked self.new.map (contents self.new.map (W.words self.new.words)) s h Control }
         ensures records { (s : SpaceState) (h : Stands self.old.map (contents self.old.map (W.words self.old.words)) s) → StepRecords self.old.map s h.places.at (contents self.old.map (W.words self.old.words)) (contents self.new.map (W.words self.new.words)) thread call result.reply result.collected }
+        ensures idle { IsIdle call result.reply → contents self.new.map (W.words self.new.words) ≡ contents self.old.map (W.words self.old.words) }
         ensures room { StepRoom self.old.map (contents self.old.map (W.words self.old.words)) (contents self.new.map (W.words self.new.words)) thread call result.reply result.collected }
         ensures reads { (s : SpaceState) (h : Stands self.old.map (contents self.old.map (W.words self.old.words)) s) → ReadsFew self.old.map (contents self.old.map (W.words self.old.words)) s h thread call result (W.reads self.old.words) (W.reads self.new.words) }
         ensures map { self.new.map ≡ self.old.map }
