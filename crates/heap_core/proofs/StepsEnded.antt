@@ -5,6 +5,7 @@ use Rattle.std.proofs.Math.Logic.{⊎_elim, ∥∥₁_elim}
 use Rattle.object_layout.specs.declared.calls.Call.TheVariants as call
 use Rattle.object_layout.specs.declared.replies.Reply.{Reply}
 use Rattle.object_layout.specs.declared.replies.Reply.TheVariants as reply
+use Rattle.object_layout.specs.declared.replies.Refusal.{Refusal}
 use Rattle.object_layout.specs.declared.replies.Refusal.TheVariants as refusal
 use Rattle.object_layout.specs.declared.replies.Shortage.{Shortage}
 use Rattle.heap_words.specs.declared.map.Areas.{Areas}
@@ -27,7 +28,7 @@ use Rattle.heap_core.specs.Steps.{Turned, TurnsTo, plain}
 use Rattle.heap_core.proofs.Bounds.{tight-bound}
 use Rattle.heap_core.proofs.Begins.{depth_words}
 use Rattle.heap_core.proofs.Recorded.{same_records}
-use Rattle.heap_core.proofs.Steps.{beyond, same_room, thread_in}
+use Rattle.heap_core.proofs.Steps.{beyond, not-idle, same_room, thread_in}
 use Rattle.heap_core.proofs.StepsMade.{only-collected}
 
 -- the three ways in which an end goes
@@ -77,6 +78,7 @@ pub record Ending (m : Areas) (was now : Contents) (s : SpaceState) (h : Stands 
   pub tells : TellsShortage m s t said shortage
   pub records : RecordsEnd was now said
   pub no_fault : said ≢ reply.OutOfHeap
+  pub not_refused : (why : Refusal) → said ≢ reply.Refused why
 
 ended-once : (m : Areas) (was now : Contents) (s : SpaceState) (h : Stands m was s) (t moved : ℕ) → HasThread m t → RegionEnded m was now s h t moved → Ending m was now s h t (reply.Ended moved false) false None
 ended-once m was now s h t moved ht e = record {
@@ -86,6 +88,7 @@ ended-once m was now s h t moved ht e = record {
   tells = λ other same. cc;
   records = e.state.filed;
   no_fault = λ same. cc;
+  not_refused = λ why same. cc;
 }
 
 ended-after : (m : Areas) (was first now : Contents) (s : SpaceState) (h : Stands m was s) (t moved : ℕ) → HasThread m t → ends.IsShort m was s h.places t → EndedAfter m first now s t moved → Ending m was now s h t (reply.Ended moved false) true None
@@ -96,6 +99,7 @@ ended-after m was first now s h t moved ht short e = record {
   tells = λ other same. cc;
   records = e.ended.state.filed;
   no_fault = λ same. cc;
+  not_refused = λ why same. cc;
 }
 
 tight-after : (m : Areas) (was first now : Contents) (s : SpaceState) (h : Stands m was s) (t moved : ℕ) (shortage : Shortage) → IsAreas m → HasThread m t → ends.IsShort m was s h.places t → TightAfter m first now s t moved shortage → Ending m was now s h t (reply.Ended moved true) true (Some shortage)
@@ -112,6 +116,7 @@ tight-after m was first now s h t moved shortage areas ht short e = record {
   tells = ((moved, refl), e.short.short.more, record { between = e.between; state = e.state; short = e.short.short });
   records = e.ended.state.filed;
   no_fault = λ same. cc;
+  not_refused = λ why same. cc;
 }
 
 ending-of : (m : Areas) (was now : Contents) (s : SpaceState) (h : Stands m was s) (t : ℕ) (said : Reply) (collected : Bool) (shortage : Option Shortage) → IsAreas m → HasThread m t → EndsAs m was now s h t said collected shortage → Ending m was now s h t said collected shortage
@@ -129,6 +134,7 @@ no_epoch m c t ht shallow = record {
       (s, (s, (thread_in m c s h t ht, rw test (refl, refl), refl, tt), refl), h, λ r. r);
   room = same_room c;
   records = λ s h. same_records c;
+  idle = λ i. refl;
 }
 
 done-none : (m : Areas) (c : Contents) (t : ℕ) → HasThread m t → depth_of c t ≡ 0 → Done m c c t call.End (plain (reply.Refused refusal.NoEpoch))
@@ -146,6 +152,7 @@ done-none m c t ht shallow =
       packed = λ s stands. tt;
       records = λ s stands r. same_records c;
       room = tt;
+      idle = λ i. refl;
     }
 
 done-some : (m : Areas) (was now : Contents) (t : ℕ) (said : Reply) (collected : Bool) (shortage : Option Shortage) → IsAreas m → HasThread m t → SomeRecorded m was → 0 < depth_of was t
@@ -166,6 +173,7 @@ done-some m was now t said collected shortage areas ht some deep ends =
       packed = λ s h. tt;
       records = λ s h r. (each s h r).records;
       room = tt;
+      idle = λ i. absurd (not-idle call.End said (λ no. no) (λ why e. ∥∥₁_elim some (hlevel props) (λ q. (each q.0 q.1 q.2).not_refused why e)) i);
     }
 
 pub done-ended : (m : Areas) (was now : Contents) (t : ℕ) (said : Stepped) → IsAreas m → HasThread m t → SomeRecorded m was → IsEnd m was now t said → Done m was now t call.End said

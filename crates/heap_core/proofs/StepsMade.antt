@@ -27,7 +27,7 @@ use Rattle.heap_core.specs.Steps.{Turned, plain}
 use Rattle.heap_core.proofs.Bounds.{census-bound, full-bound}
 use Rattle.heap_core.proofs.Gathered.{full-after, packed-after}
 use Rattle.heap_core.proofs.Recorded.{same_records}
-use Rattle.heap_core.proofs.Steps.{same_room, thread_in}
+use Rattle.heap_core.proofs.Steps.{not-idle, same_room, thread_in}
 
 -- the state that a collection leaves is the one that the words stand for
 pub only-collected : (m : Areas) (now : Contents) (s mid : SpaceState) (P : SpaceState → Type 0) (x : StateCollected m now s) → Collects s mid → P x.after → P mid
@@ -64,6 +64,7 @@ done-refused m was now t k why h = record {
   packed = λ s stands. tt;
   records = λ s stands r. h.records s stands;
   room = h.room;
+  idle = h.idle;
 }
 
 done-once : (m : Areas) (was now : Contents) (t k : ℕ) → Turned m was now t (call.New k) reply.Ok → Done m was now t (call.New k) (plain reply.Ok)
@@ -79,6 +80,7 @@ done-once m was now t k h = record {
   packed = λ s stands. tt;
   records = λ s stands r. h.records s stands;
   room = h.room;
+  idle = h.idle;
 }
 
 pub done-made_once : (m : Areas) (was now : Contents) (t k : ℕ) (said : Stepped) → MadeAtOnce m was now t k said → Done m was now t (call.New k) said
@@ -110,6 +112,7 @@ done-after m was now t k said ht short h = record {
         readers = same.readers ∙ h.collected.room.readers;
       };
   room = record { short = short; between = h.between; room = h.collected.room; then = h.turned.room };
+  idle = λ i. absurd (not-idle (call.New k) reply.Ok (λ no. no) (λ why q. cc) i);
 }
 
 -- no room after a collection either
@@ -136,6 +139,7 @@ done-full m was now t k said areas ht rows some short h =
       packed = λ s stands. tt;
       records = λ s stands r. record { filed = h.collected.room.filed; readers = h.collected.room.readers };
       room = record { short = short; between = now; room = h.collected.room; then = (h.none, same_room now) };
+      idle = λ i. absurd (not-idle (call.New k) reply.OutOfHeap (λ no. no) (λ why q. cc) i);
     }
 
 pub done-made : (m : Areas) (was now : Contents) (t k : ℕ) (said : Stepped) → IsAreas m → HasThread m t → length now.table ≡ m.pages → SomeRecorded m was → IsMade m was now t k said → Done m was now t (call.New k) said
@@ -161,6 +165,7 @@ done-collected m was now t ht rows some h = record {
   packed = packed-after m was now t some h rows;
   records = λ s stands r. record { filed = h.room.filed; readers = h.room.readers };
   room = h.room;
+  idle = λ i. absurd (not-idle call.Collect reply.Ok (λ no. no) (λ why q. cc) i);
 }
 
 -- a census
@@ -177,4 +182,5 @@ done-counted m c t areas ht rows = record {
   packed = λ s stands. tt;
   records = λ s stands r. same_records c;
   room = same_room c;
+  idle = λ i. refl;
 }

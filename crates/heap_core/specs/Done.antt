@@ -25,7 +25,7 @@ use Rattle.heap_core.specs.EpochEnds.{IsEnd, IsShort}
 use Rattle.heap_core.specs.Lawful.{AreLawful, PackedIfAsked}
 use Rattle.heap_core.specs.Records.{Records, SameRecords}
 use Rattle.heap_core.specs.Room.{HasNoRoom, SameRoom, TakesPlace, TakesRoom}
-use Rattle.heap_core.specs.Steps.{TurnsTo, entries}
+use Rattle.heap_core.specs.Steps.{IsIdle, TurnsTo, entries}
 
 -- ---- when a step collects
 
@@ -141,3 +141,4 @@ pub record Done (m : Areas) (was now : Contents) (t : ℕ) (asked : Call) (said 
   pub packed : (s : SpaceState) (h : Stands m now s) → PacksControl m now s h asked
   pub records : (s : SpaceState) (h : Stands m was s) → Recorded m was s h → StepRecords m s h.places.at was now t asked said.reply said.collected
   pub room : StepRoom m was now t asked said.reply said.collected
+  pub idle : IsIdle asked said.reply → now ≡ was

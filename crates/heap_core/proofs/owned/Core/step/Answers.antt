@@ -60,6 +60,9 @@ returns-clause-records g c =
     let core = c.args.self.now in
     λ s h. c.answer.ensures.done.records s h (recorded-told core.map (contents core.map (g.W.Words.words core.words)) core.stands s h)
 
+pub returns-clause-idle : goal.returns-clause-idle
+returns-clause-idle g c = c.answer.ensures.done.idle
+
 pub returns-clause-room : goal.returns-clause-room
 returns-clause-room g c = c.answer.ensures.done.room
 
