@@ -1,25 +1,23 @@
 -- The table of a part, added to that of the total.
-use Rattle.std.proofs.Common.{zero, suc, ◌≡◌, ℕ, ◌+◌, ◌-◌, ◌<◌, ◌≤◌, ◌||◌, Bool, true, false, cond, List, [], ◌∷◌, ◌++◌, All, Option, Some, None, IsSome, is_some, length, get_or, take, refl, ◌∙◌, ap, sym, subst, true≢false, arith}
+use Rattle.std.proofs.Common.{zero, suc, ◌≡◌, ℕ, ◌+◌, ◌-◌, ◌<◌, ◌≤◌, ◌||◌, Bool, true, false, cond, List, [], ◌∷◌, ◌++◌, All, Option, Some, None, is_some, length, get_or, take, refl, ◌∙◌, ap, sym, subst, arith}
 use Rattle.std.specs.FinMap.{get}
-use Rattle.std.specs.Ordering.{eq_by_cmp}
 use Rattle.std.proofs.lemmas.List.Elements.{All-nil, All-cons, All-head, All-tail, All-append}
 use Rattle.object_layout.specs.declared.names.Name.{Name}
-use Rattle.object_layout.specs.declared.TheConstants.{WORD_LIMIT}
 use Rattle.yak_model.specs.declared.datum.Datum.{Datum}
 use Rattle.yak_model.specs.declared.datum.Datum.TheVariants as datum
 use Rattle.yak_model.specs.declared.TheConstants.{BUCKETS}
 use Rattle.yak_model.specs.Private.{KnownObjects}
 use Rattle.yak_model.specs.Standing.{Standing}
 use Rattle.yak_model.specs.Tables.{AreDifferent, AreInBucket, IsCountTable, LacksWord, Link, bucket_of}
-use Rattle.yak_model.specs.Texts.{WordCounts, places_of, word_cmp, word_counts}
+use Rattle.yak_model.specs.Texts.{WordCounts, places_of, word_counts}
 use Rattle.heap_tables.specs.Adds.{IsNoEntry}
-use Rattle.heap_tables.specs.Counted.{or_zero, raised}
+use Rattle.heap_tables.specs.Counted.{count_of, or_zero, raised}
 use Rattle.heap_tables.specs.Merges.{KeepsUntouched, MayMerge, SharesNone, news, one_if_none, sum_of, walk}
 use Rattle.group_jobs.specs.Counts.{has_word}
-use Rattle.group_jobs.specs.Tallies.{AreShort, KnowsTally, Tallies}
+use Rattle.group_jobs.specs.Tallies.{KnowsTally, Tallies}
 use Rattle.group_jobs.specs.declared.TheConstants.{MOST_WORDS, PART_SLOT, TOTAL_SLOT}
 use Rattle.group_jobs.proofs.Aside.{no_table, nowhere}
-use Rattle.group_jobs.proofs.Counting.{get-word_counts, has_word-append, no_place, places_of-append, same_by_test, same_counts, told_of}
+use Rattle.group_jobs.proofs.Counting.{get-word_counts, has_word-append, no_place, places_of-append, same_counts, told_of}
 use Rattle.group_jobs.proofs.Tallying.{AreOf, are_of, count_is, few_in_bucket, few_links, few_places}
 
 -- ---- no shared entry, seen from the other side
@@ -46,23 +44,6 @@ at_one (y ∷ ys) buckets b bound all =
     let P = λ (k : Link). (c : ℕ) → c < BUCKETS → IsNoEntry k.entry (buckets c) in
     All-cons (λ k. IsNoEntry k.entry (buckets b)) y ys (All-head P y ys all b bound) (at_one ys buckets b bound (All-tail P y ys all))
 
--- ---- words of a list
-
-short_word : (words : List (List ℕ)) (word : List ℕ) → has_word words word ≡ true → AreShort words → length word ≤ WORD_LIMIT
-short_word [] word is short = absurd (true≢false (sym is))
-short_word (first ∷ words) word is short = elim (eq_by_cmp word_cmp word first) as (λ b. eq_by_cmp word_cmp word first ≡ b → (b || has_word words word) ≡ true → length word ≤ WORD_LIMIT) [
-  | true ↦ λ tie _. subst (λ w. length w ≤ WORD_LIMIT) (sym (same_by_test word first tie)) (All-head (λ w. length w ≤ WORD_LIMIT) first words short)
-  | false ↦ λ _ rest. short_word words word rest (All-tail (λ w. length w ≤ WORD_LIMIT) first words short)
-] refl is
-
-pub short_count : (words : List (List ℕ)) → AreShort words → (word : List ℕ) → IsSome (get (word_counts words) word) → length word ≤ WORD_LIMIT
-short_count words short word some = elim (has_word words word) as (λ b. has_word words word ≡ b → length word ≤ WORD_LIMIT) [
-  | true ↦ λ is. short_word words word is short
-  | false ↦ λ none.
-      let e : get (word_counts words) word ≡ None = get-word_counts words word ∙ ap (λ b. cond b (Some (places_of words word)) None) none in
-      absurd (true≢false (sym some ∙ ap is_some e))
-] refl
-
 -- ---- what may be merged
 
 abbrev pub may_merge : (s : Standing) (known : KnownObjects) (done doing : List (List ℕ)) (t : Tallies s known done doing) → length done + length doing ≤ MOST_WORDS
@@ -76,8 +57,7 @@ may_merge s known done doing t few = record {
   apart = λ b c hb hc. shares_none ((t.table).buckets b) (((t.total).table).buckets c) (at_one (((t.total).table).buckets c) (t.table).buckets b hb (t.apart c hc));
   from_few = λ b h. let n = few_in_bucket doing known t.name t.table b h in omega (arith, few, n);
   into_few = λ b h. let n = few_in_bucket done known (t.total).name (t.total).table b h in omega (arith, few, n);
-  short = short_count doing t.short;
-  sums = λ word. omega (arith, few, count_is done word, count_is doing word, few_places done word, few_places doing word);
+  sums = λ word n e. let there : count_of (word_counts doing) word ≡ n = ap or_zero e in omega (arith, few, there, count_is done word, count_is doing word, few_places done word, few_places doing word);
 }
 
 -- ---- the sums

@@ -1,9 +1,8 @@
 -- A new table of a count.
-use Rattle.std.proofs.Common.{◌≡◌, ℕ, ◌≤◌, ◌<◌, List, [], ◌∷◌, None, length, replicate, get_or, refl, ◌∙◌, ap, sym, subst, arith}
+use Rattle.std.proofs.Common.{◌≡◌, ℕ, ◌<◌, List, [], ◌∷◌, None, length, replicate, get_or, refl, ◌∙◌, ap, sym, subst, arith}
 use Rattle.std.specs.FinMap.{get, get-empty, empty}
 use Rattle.std.proofs.lemmas.List.Elements.{All-nil, All-cons}
 use Rattle.object_layout.specs.declared.names.Name.{Name}
-use Rattle.object_layout.specs.declared.TheConstants.{WORD_LIMIT}
 use Rattle.yak_model.specs.declared.datum.Datum.TheVariants as datum
 use Rattle.yak_model.specs.declared.TheConstants.{BUCKETS}
 use Rattle.yak_model.specs.Graph.{Fields, Thread}
@@ -66,7 +65,6 @@ opened_part s now known knows done own size t k part none =
         };
         other = other_name known t.name (next_of s) _ none ((t.table).table).object;
         apart = λ b h. all_apart (table.buckets b) part.buckets (no_entries (with_new s known BUCKETS) (next_of s) part);
-        short = All-nil (λ w. length w ≤ WORD_LIMIT);
       },
       made_aside s now known own (omega (arith, size)) none,
     )

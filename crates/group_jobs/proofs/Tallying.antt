@@ -3,9 +3,8 @@ use Rattle.std.proofs.Common.{◌≡◌, ◌≢◌, inl, inr, ℕ, ◌+◌, ◌<
 use Rattle.std.specs.FinMap as finite
 use Rattle.std.specs.FinMap.{get}
 use Rattle.std.specs.Ordering.{eq_by_cmp}
-use Rattle.std.proofs.lemmas.List.Elements.{All-append, All-nil, All-cons, All-head, All-tail}
+use Rattle.std.proofs.lemmas.List.Elements.{All-nil, All-cons, All-head, All-tail}
 use Rattle.object_layout.specs.declared.names.Name.{Name}
-use Rattle.object_layout.specs.declared.TheConstants.{WORD_LIMIT}
 use Rattle.yak_model.specs.declared.datum.Datum.{Datum}
 use Rattle.yak_model.specs.declared.datum.Datum.TheVariants as datum
 use Rattle.yak_model.specs.declared.TheConstants.{BUCKETS}
@@ -173,9 +172,9 @@ still_apart known (l ∷ links) head buckets after chain keeps apart =
 -- Another word in the table of a part: the total's table is as it was.
 pub tallies_more : (s now : Standing) (known later : KnownObjects) (knows : KnownObjects → Type 0) (done doing : List (List ℕ)) (word : List ℕ) (b : ℕ) → b < BUCKETS
     → ((i : ℕ) → get_or (now.own).stack i datum.Null ≡ get_or (s.own).stack i datum.Null)
-    → length word ≤ WORD_LIMIT → (t : Tallies s known done doing) → knows later → (part : IsCountTable later t.name (raised (word_counts doing) word 1)) → KeepsOthers known t.name ((t.table).buckets b) later → StayNowhere known (t.table).buckets part.buckets
+    → (t : Tallies s known done doing) → knows later → (part : IsCountTable later t.name (raised (word_counts doing) word 1)) → KeepsOthers known t.name ((t.table).buckets b) later → StayNowhere known (t.table).buckets part.buckets
     → KnowsTallies s known now knows done (doing ++ word ∷ [])
-tallies_more s now known later knows done doing word b bound slots short t k part others keeps =
+tallies_more s now known later knows done doing word b bound slots t k part others keeps =
     let total = t.total.table in (
       later,
       k,
@@ -202,7 +201,6 @@ tallies_more s now known later knows done doing word b bound slots short t k par
         };
         other = t.other;
         apart = λ c h. still_apart known (total.buckets c) (get_or total.heads c datum.Null) (t.table).buckets part.buckets ((total.table).chains c h) keeps (t.apart c h);
-        short = All-append (λ w. length w ≤ WORD_LIMIT) doing (word ∷ []) t.short (All-cons (λ w. length w ≤ WORD_LIMIT) word [] short (All-nil (λ w. length w ≤ WORD_LIMIT)));
       },
       record {
         slot = slots 0;

@@ -19,7 +19,7 @@ use Rattle.yak_model.specs.Stands.{Stands}
 use Rattle.yak_model.specs.Tables.{IsCountTable}
 use Rattle.yak_model.specs.Texts.{word_counts, words_of}
 use Rattle.heap_tables.specs.Runs.{slot_in}
-use Rattle.group_jobs.specs.Tallies.{AreShort, IsProgress, busy_tasks}
+use Rattle.group_jobs.specs.Tallies.{IsProgress, busy_tasks}
 use Rattle.group_jobs.specs.Tasks.{AreTasks}
 use Rattle.group_jobs.specs.declared.count.CountError.{CountError}
 use Rattle.group_jobs.specs.declared.count.CountError.TheVariants.{OutOfHeap, Memory}
@@ -73,10 +73,9 @@ opening_standing = record {
   last = None;
 }
 
--- So far the worker has counted, and the words are few enough and not too long.
+-- So far the worker has counted, and the words are few enough.
 pub record IsListed (has : Bool) (s : Standing) (known : KnownObjects) (done : List (List ℕ)) : Type 0 where
   pub progress : IsProgress has s known done
-  pub short : AreShort done
   pub few : length done ≤ MOST_WORDS
 
 abbrev pub HasListed : Bool → Standing → (KnownObjects → Type 0) → Type 0

@@ -2,14 +2,13 @@
 use Rattle.std.specs.Prelude.{ℕ, ◌≤◌, List, length}
 use Rattle.yak_model.specs.Private.{KnownObjects}
 use Rattle.yak_model.specs.Standing.{Standing}
-use Rattle.group_jobs.specs.Tallies.{AreShort, Tally}
+use Rattle.group_jobs.specs.Tallies.{Tally}
 use Rattle.group_jobs.specs.declared.TheConstants.{MOST_WORDS}
 
--- The slot of the total refers to a table of a known map, which counts these words. They are few enough and none is too long.
-pub record IsShortTally (s : Standing) (known : KnownObjects) (done : List (List ℕ)) : Type 0 where
+-- The slot of the total refers to a table of a known map, which counts these words, and they are few enough.
+pub record IsFewTally (s : Standing) (known : KnownObjects) (done : List (List ℕ)) : Type 0 where
   pub tally : Tally s known done
-  pub short : AreShort done
   pub few : length done ≤ MOST_WORDS
 
-abbrev pub HasShortTally : Standing → (KnownObjects → Type 0) → Type 0
-HasShortTally s knows = (known : KnownObjects) × (done : List (List ℕ)) × knows known × IsShortTally s known done
+abbrev pub HasFewTally : Standing → (KnownObjects → Type 0) → Type 0
+HasFewTally s knows = (known : KnownObjects) × (done : List (List ℕ)) × knows known × IsFewTally s known done

@@ -75,7 +75,7 @@ pub record Tally (s : Standing) (known : KnownObjects) (done : List (List ℕ)) 
 abbrev pub AreApart : List Link → (ℕ → List Link) → Type 0
 AreApart links buckets = All (λ link. IsNowhere link.entry buckets) links
 
--- Beside it the slot of a part refers to another table, which counts other words, none of them too long, and they share no entry.
+-- Beside it the slot of a part refers to another table, which counts other words, and they share no entry.
 pub record Tallies (s : Standing) (known : KnownObjects) (done doing : List (List ℕ)) : Type 0 where
   pub total : Tally s known done
   pub name : Name
@@ -83,7 +83,6 @@ pub record Tallies (s : Standing) (known : KnownObjects) (done doing : List (Lis
   pub table : IsCountTable known name (word_counts doing)
   pub other : total.name ≢ name
   pub apart : (b : ℕ) → b < BUCKETS → AreApart (total.table.buckets b) table.buckets
-  pub short : AreShort doing
 
 -- So many words were counted, and so many more may come.
 abbrev pub HasTally : Standing → (KnownObjects → Type 0) → ℕ → Type 0

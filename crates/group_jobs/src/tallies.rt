@@ -1,7 +1,7 @@
 //! Counting the words of texts in tables of a heap, by whatever caller.
 ghost use Rattle.std.specs.Prelude.{◌≡◌, ℕ, ◌+◌, ◌*◌, ◌-◌, ◌≤◌, ◌<◌, ◌∷◌, ◌++◌, [], List, true, false, cond, ◌||◌, length, OnErr, OnOk, IfOk};
 ghost use Rattle.std.specs.List.{All};
-ghost use Rattle.object_layout.specs.declared.TheConstants.{PAGE_WORDS, WORD_LIMIT};
+ghost use Rattle.object_layout.specs.declared.TheConstants.{WORD_LIMIT};
 ghost use Rattle.yak_model.specs.Private.{KnownObjects};
 ghost use Rattle.yak_model.specs.Room.{entry_words, key_words, table_words};
 ghost use Rattle.yak_model.specs.Standing.{Standing};
@@ -25,7 +25,6 @@ use yak_model::Caller;
 fn count_word<C: Caller>(caller: &mut C, word: &[u8]) -> Result<(), OutOfHeap>
     requires tables { HasTallies (C.standing caller.old) (C.knows caller.old) 1 }
     requires word { length word.now ≤ WORD_LIMIT }
-    requires page { PAGE_WORDS ≤ (C.standing caller.old).limits.page }
     requires names { (C.standing caller.old).own.made ≤ MOST_MADE }
     requires slots { length (stack_in (C.standing caller.old)) ≡ PART_SLOT + 1 }
     ensures went { OnOk result (Went C.base C.tells C.tells_known C.standing caller.old caller.new (key_words word.now + entry_words)) }
@@ -40,7 +39,6 @@ fn count_word<C: Caller>(caller: &mut C, word: &[u8]) -> Result<(), OutOfHeap>
 fn count_words<C: Caller>(caller: &mut C, bytes: &[u8]) -> Result<(), OutOfHeap>
     requires tables { HasTallies (C.standing caller.old) (C.knows caller.old) (length (words_of bytes.now)) }
     requires short { AreShort (words_of bytes.now) }
-    requires page { PAGE_WORDS ≤ (C.standing caller.old).limits.page }
     requires names { (C.standing caller.old).own.made + 2 * length (words_of bytes.now) ≤ MOST_MADE }
     requires slots { length (stack_in (C.standing caller.old)) ≡ PART_SLOT + 1 }
     ensures went { OnOk result (Went C.base C.tells C.tells_known C.standing caller.old caller.new (part_room (words_of bytes.now))) }
@@ -58,7 +56,6 @@ fn count_words<C: Caller>(caller: &mut C, bytes: &[u8]) -> Result<(), OutOfHeap>
 /// Pushes a table for a part.
 fn open_part<C: Caller>(caller: &mut C) -> Result<(), OutOfHeap>
     requires table { HasTally (C.standing caller.old) (C.knows caller.old) 0 }
-    requires page { PAGE_WORDS ≤ (C.standing caller.old).limits.page }
     requires names { (C.standing caller.old).own.made ≤ MOST_MADE }
     requires slots { length (stack_in (C.standing caller.old)) ≡ PART_SLOT }
     ensures went { OnOk result (Went C.base C.tells C.tells_known C.standing caller.old caller.new table_words) }
@@ -74,7 +71,6 @@ fn open_part<C: Caller>(caller: &mut C) -> Result<(), OutOfHeap>
 /// Adds the counts of a part to those of the total, and drops the part's table.
 fn close_part<C: Caller>(caller: &mut C) -> Result<(), OutOfHeap>
     requires tables { HasTallies (C.standing caller.old) (C.knows caller.old) 0 }
-    requires page { PAGE_WORDS ≤ (C.standing caller.old).limits.page }
     requires names { (C.standing caller.old).own.made ≤ MOST_MADE }
     requires slots { length (stack_in (C.standing caller.old)) ≡ PART_SLOT + 1 }
     ensures slots { OnOk result (length (stack_in (C.standing caller.new)) ≡ PART_SLOT) }
@@ -91,7 +87,6 @@ fn close_part<C: Caller>(caller: &mut C) -> Result<(), OutOfHeap>
 fn count_part<C: Caller>(caller: &mut C, bytes: &[u8]) -> Result<(), OutOfHeap>
     requires table { HasTally (C.standing caller.old) (C.knows caller.old) (length (words_of bytes.now)) }
     requires short { AreShort (words_of bytes.now) }
-    requires page { PAGE_WORDS ≤ (C.standing caller.old).limits.page }
     requires names { (C.standing caller.old).own.made + (3 * length (words_of bytes.now) + 1) ≤ MOST_MADE }
     requires slots { length (stack_in (C.standing caller.old)) ≡ PART_SLOT }
     ensures went { OnOk result (Went C.base C.tells C.tells_known C.standing caller.old caller.new (table_words + words_room (words_of bytes.now))) }
@@ -110,8 +105,6 @@ fn count_part<C: Caller>(caller: &mut C, bytes: &[u8]) -> Result<(), OutOfHeap>
 fn count_epoch<C: Caller>(caller: &mut C, bytes: &[u8]) -> Result<(), OutOfHeap>
     requires table { HasTally (C.standing caller.old) (C.knows caller.old) (length (words_of bytes.now)) }
     requires short { AreShort (words_of bytes.now) }
-    requires page { PAGE_WORDS ≤ (C.standing caller.old).limits.page }
-    requires deep { 0 < (C.standing caller.old).limits.depth }
     requires outside { (C.standing caller.old).own.depth ≡ 0 }
     requires names { (C.standing caller.old).own.made + (3 * length (words_of bytes.now) + 1) ≤ MOST_MADE }
     requires slots { length (stack_in (C.standing caller.old)) ≡ PART_SLOT }
@@ -131,7 +124,6 @@ fn count_epoch<C: Caller>(caller: &mut C, bytes: &[u8]) -> Result<(), OutOfHeap>
 /// Begins an epoch and ends it, for a task without words.
 fn pass_epoch<C: Caller>(caller: &mut C)
     requires some { KnowsSome (C.knows caller.old) }
-    requires deep { 0 < (C.standing caller.old).limits.depth }
     requires outside { (C.standing caller.old).own.depth ≡ 0 }
     ensures went { Went C.base C.tells C.tells_known C.standing caller.old caller.new 0 }
     ensures keeps { KeepsKnown (C.knows caller.old) (C.knows caller.new) }
@@ -144,7 +136,6 @@ fn pass_epoch<C: Caller>(caller: &mut C)
 /// Pushes the table of the total, where it isn't there yet.
 fn open_total<C: Caller>(caller: &mut C, has_total: bool) -> Result<(), OutOfHeap>
     requires progress { HasProgress has_total (C.standing caller.old) (C.knows caller.old) 0 }
-    requires page { PAGE_WORDS ≤ (C.standing caller.old).limits.page }
     requires names { (C.standing caller.old).own.made ≤ MOST_MADE }
     ensures went { OnOk result (Went C.base C.tells C.tells_known C.standing caller.old caller.new (cond has_total 0 table_words)) }
     ensures slots { OnOk result (length (stack_in (C.standing caller.new)) ≡ PART_SLOT) }
@@ -171,8 +162,6 @@ fn has_words(bytes: &[u8]) -> bool
 fn count_task<C: Caller>(caller: &mut C, has_total: bool, bytes: &[u8]) -> Result<bool, OutOfHeap>
     requires progress { HasProgress has_total (C.standing caller.old) (C.knows caller.old) (length (words_of bytes.now)) }
     requires short { AreShort (words_of bytes.now) }
-    requires page { PAGE_WORDS ≤ (C.standing caller.old).limits.page }
-    requires deep { 0 < (C.standing caller.old).limits.depth }
     requires outside { (C.standing caller.old).own.depth ≡ 0 }
     requires names { (C.standing caller.old).own.made + OBJECTS_FOR_WORD * length (words_of bytes.now) ≤ MOST_MADE }
     ensures went { IfOk result (λ has. Went C.base C.tells C.tells_known C.standing caller.old caller.new (new_total has_total has + task_room (words_of bytes.now))) }
@@ -201,8 +190,6 @@ pub(crate) fn count_tasks<C: Caller>(
     requires opened { HasProgress false (C.standing caller.old) (C.knows caller.old) (length (words_in bytes.now tasks.now)) }
     requires within { AreWithin bytes.now tasks.now }
     requires short { AreShort (words_in bytes.now tasks.now) }
-    requires page { PAGE_WORDS ≤ (C.standing caller.old).limits.page }
-    requires deep { 0 < (C.standing caller.old).limits.depth }
     requires outside { (C.standing caller.old).own.depth ≡ 0 }
     requires names { (C.standing caller.old).own.made + OBJECTS_FOR_WORD * length (words_in bytes.now tasks.now) ≤ MOST_MADE }
     ensures went { OnOk result (Went C.base C.tells C.tells_known C.standing caller.old caller.new (table_words + tasks_room bytes.now tasks.now)) }

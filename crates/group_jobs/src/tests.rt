@@ -1,10 +1,20 @@
+ghost use Rattle.std.specs.Prelude.{◌≡◌, ◌≤◌, ℕ, length, OnOk};
+ghost use Rattle.object_layout.specs.declared.TheConstants.{WORD_LIMIT};
+ghost use Rattle.heap_tables.specs.Cursors.{HasTableWalk};
+ghost use Rattle.heap_tables.specs.Runs.{KnowsSome, stack_in};
+ghost use Rattle.group_jobs.specs.declared.TheConstants.{PART_SLOT, TOTAL_SLOT};
+
+use crate::count::open_heap;
 use crate::{
-    CountError, Counted, INPUT_LIMIT, Words, count_one, cut_tasks, long_word, print_counts,
-    sort_counts,
+    CountError, Counted, INPUT_LIMIT, TOTAL_SLOT, Words, count_one, cut_tasks, long_word,
+    print_counts, sort_counts,
 };
+use heap_tables::{Cursor, Entry, add, make, next_entry};
 use heap_words::MAX_PAGES;
-use object_layout::WORD_LIMIT;
+use object_layout::{NoMemory, OutOfHeap, WORD_LIMIT};
+use std::alloc::Global;
 use std::test::Fail;
+use yak_model::Caller;
 
 #[test]
 fn cuts_a_text_into_tasks(rt: HostRuntime) -> Result<(), Fail> {
@@ -106,5 +116,53 @@ fn counts_texts_alone(rt: HostRuntime) -> Result<(), Fail> {
             Err(CountError::Memory) => panic!(rt; "no memory"),
         }
     }
+    Ok(())
+}
+
+/// Makes a table, and adds 1 to the count of a word twice.
+fn add_twice<C: Caller>(caller: &mut C, word: &[u8]) -> Result<(), OutOfHeap>
+    requires some { KnowsSome (C.knows caller.old) }
+    requires word { length word.now ≤ WORD_LIMIT }
+    requires slots { length (stack_in (C.standing caller.old)) ≡ TOTAL_SLOT }
+    requires names { (C.standing caller.old).own.made ≡ 0 }
+    ensures table { OnOk result (HasTableWalk (C.standing caller.new) (C.knows caller.new) TOTAL_SLOT) }
+    ensures slots { OnOk result (length (stack_in (C.standing caller.new)) ≡ PART_SLOT) }
+{
+    make(caller)?;
+    add(caller, TOTAL_SLOT, word, 1)?;
+    add(caller, TOTAL_SLOT, word, 1)
+}
+
+/// The next entry of the walk through that table.
+fn walk_on<C: Caller>(alloc: Global, caller: &mut C, at: Cursor) -> Result<Option<Entry>, NoMemory>
+    requires table { HasTableWalk (C.standing caller.old) (C.knows caller.old) TOTAL_SLOT }
+    requires slots { length (stack_in (C.standing caller.old)) ≡ PART_SLOT }
+    ensures table { HasTableWalk (C.standing caller.new) (C.knows caller.new) TOTAL_SLOT }
+    ensures slots { length (stack_in (C.standing caller.new)) ≡ PART_SLOT }
+{
+    next_entry(alloc, caller, TOTAL_SLOT, at)
+}
+
+#[test]
+fn walks_through_a_table(rt: HostRuntime) -> Result<(), Fail> {
+    let alloc = rt.alloc();
+    let Ok(mut caller) = open_heap(alloc, 8) else {
+        panic!(rt; "no heap");
+    };
+    let Ok(()) = add_twice(&mut caller, b"a") else {
+        panic!(rt; "no room");
+    };
+    let start = Cursor {
+        bucket: 0,
+        place: 0,
+    };
+    let Ok(Some(entry)) = walk_on(alloc, &mut caller, start) else {
+        panic!(rt; "no entry");
+    };
+    assert_eq!(rt; entry.word.as_slice(), b"a".as_slice());
+    assert_eq!(rt; entry.count, 2);
+    let Ok(None) = walk_on(alloc, &mut caller, entry.next) else {
+        panic!(rt; "no end");
+    };
     Ok(())
 }

@@ -1,4 +1,4 @@
-use Rattle.std.proofs.Common.{◌≡◌, ℕ, ◌*◌, ◌≤◌, List, [], length, get_or, replicate, refl, ◌∙◌, ap, sym, subst, arith, false, Bool}
+use Rattle.std.proofs.Common.{◌≡◌, ℕ, ◌*◌, ◌≤◌, List, [], length, get_or, replicate, refl, ◌∙◌, ap, sym, subst, arith, Bool}
 use Rattle.std.specs.FinMap.{empty}
 use Rattle.yak_model.specs.declared.TheConstants.{ROOT_FIELDS}
 use Rattle.yak_model.specs.declared.datum.Datum.TheVariants as datum
@@ -14,7 +14,6 @@ use Rattle.group_jobs.specs.declared.TheConstants.{INPUT_LIMIT, MOST_WORDS}
 use Rattle.group_jobs.specs.declared.tasks.Task.{Task}
 use Rattle.group_jobs.proofs.Counting.{none_long}
 use Rattle.yak_model.specs.Private.{KnownObjects}
-use Rattle.group_jobs.specs.LongWords.{has_long_word}
 use Rattle.group_jobs.proofs.Progress.{progress_same}
 use Rattle.group_jobs.proofs.Starting.{few_words, tasks_within}
 use Rattle.group_jobs.proofs.Least.{room_held, root_aside}
@@ -42,28 +41,27 @@ count_tasks-requires-clause-names c =
     let made = ap (λ (s : Standing). (s.own).made) c.in-Ok-open_heap.ensures.standing in
     omega (arith, made, few_in c.args.bytes.now c.deref.result.now c.in-Ok.tasks.items c.deref.ensures.value c.in-Ok.ensures.words c.requires.short)
 
-listed : (bytes : List ℕ) (tasks items : List Task) (has : Bool) (t : Standing) (known : KnownObjects) → tasks ≡ items → words_in bytes items ≡ words_of bytes → length bytes ≤ INPUT_LIMIT → has_long_word bytes ≡ false
+listed : (bytes : List ℕ) (tasks items : List Task) (has : Bool) (t : Standing) (known : KnownObjects) → tasks ≡ items → words_in bytes items ≡ words_of bytes → length bytes ≤ INPUT_LIMIT
     → IsProgress has t known (words_in bytes tasks) → IsListed has t known (words_of bytes)
-listed bytes tasks items has t known e w short none progress = record {
+listed bytes tasks items has t known e w short progress = record {
   progress = subst (IsProgress has t known) (ap (words_in bytes) e ∙ w) progress;
-  short = none_long (words_of bytes) none;
   few = omega (arith, few_words bytes, short);
 }
 
 pub list_counts-requires : goal.list_counts-requires
 list_counts-requires c =
     let r = c.in-Ok-count_tasks.ensures.counted empty c.in-Ok-open_heap.ensures.knows in
-    record { progress = (r.0, words_of c.args.bytes.now, r.1, listed c.args.bytes.now c.deref.result.now c.in-Ok.tasks.items c.in-Ok-count_tasks.has_total _ r.0 c.deref.ensures.value c.in-Ok.ensures.words c.requires.short c.requires.words r.2) }
+    record { progress = (r.0, words_of c.args.bytes.now, r.1, listed c.args.bytes.now c.deref.result.now c.in-Ok.tasks.items c.in-Ok-count_tasks.has_total _ r.0 c.deref.ensures.value c.in-Ok.ensures.words c.requires.short r.2) }
 
 pub returns-clause-list : goal.returns-clause-list
 returns-clause-list c =
     let r = c.in-Ok-count_tasks.ensures.counted empty c.in-Ok-open_heap.ensures.knows in
-    c.in-Ok-list_counts.ensures.list r.0 (words_of c.args.bytes.now) r.1 (listed c.args.bytes.now c.deref.result.now c.in-Ok.tasks.items c.in-Ok-count_tasks.has_total _ r.0 c.deref.ensures.value c.in-Ok.ensures.words c.requires.short c.requires.words r.2)
+    c.in-Ok-list_counts.ensures.list r.0 (words_of c.args.bytes.now) r.1 (listed c.args.bytes.now c.deref.result.now c.in-Ok.tasks.items c.in-Ok-count_tasks.has_total _ r.0 c.deref.ensures.value c.in-Ok.ensures.words c.requires.short r.2)
 
 pub returns-clause-heap : goal.returns-clause-heap
 returns-clause-heap c =
     let r = c.in-Ok-count_tasks.ensures.counted opening_known c.in-Ok-open_heap.ensures.root in
-    let l = listed c.args.bytes.now c.deref.result.now c.in-Ok.tasks.items c.in-Ok-count_tasks.has_total _ r.0 c.deref.ensures.value c.in-Ok.ensures.words c.requires.short c.requires.words r.2 in
+    let l = listed c.args.bytes.now c.deref.result.now c.in-Ok.tasks.items c.in-Ok-count_tasks.has_total _ r.0 c.deref.ensures.value c.in-Ok.ensures.words c.requires.short r.2 in
     let own = c.in-Ok-list_counts.ensures.own in
     c.close_heap-core.ensures.holds c.in-Ok-count_tasks.has_total r.0 (words_of c.args.bytes.now) (c.in-Ok-list_counts.ensures.kept r.0 (words_of c.args.bytes.now) r.1 l)
     (progress_same c.in-Ok-count_tasks.has_total _ _ r.0 (words_of c.args.bytes.now) (ap (λ (o : Thread). o.stack) own) l.progress)

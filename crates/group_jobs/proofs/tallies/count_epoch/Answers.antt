@@ -1,5 +1,5 @@
 use Rattle.std.proofs.Common.{◌+◌, ap, arith}
-use Rattle.yak_model.specs.Graph.{Thread}
+use Rattle.yak_model.specs.Graph.{Limits, Thread}
 use Rattle.yak_model.specs.Room.{table_words}
 use Rattle.yak_model.specs.Texts.{words_of}
 use Rattle.group_jobs.specs.Tallies.{words_room}
@@ -8,6 +8,11 @@ use Rattle.group_jobs.proofs.Joined.{went_out}
 use Rattle.group_jobs.proofs.Progress.{tally_same}
 use Rattle.group_jobs.proofs.Rooms.{err_of}
 use Rattle.group_jobs.proofs.tallies.count_epoch.Goals as goal
+
+pub begin-requires-clause-depth : goal.begin-requires-clause-depth
+begin-requires-clause-depth g c =
+    let deep = ap (λ (l : Limits). l.depth) (g.met.C.Caller.standard c.args.caller.now) in
+    omega (arith, deep, c.requires.outside)
 
 pub count_part-requires-clause-table : goal.count_part-requires-clause-table
 count_part-requires-clause-table g c =

@@ -36,5 +36,5 @@ returns-clause-counted g c = ok_map c.add.result _ _
     let may : MayCount s known PART_SLOT word 1 t.name (word_counts doing) = may_count s known done doing word t few in
     let r = counted known t.name (word_counts doing) may k in
     tallies_more s (C.standing c.add.new.caller) known r.1.0 (C.knows c.add.new.caller) done doing word (bucket_of word) (bucket_small word)
-    (λ i. ap (λ (st : List Datum). get_or st i datum.Null) c.add.ensures.stack) c.requires.word t r.1.1 r.1.2 r.1.3 r.1.4)
+    (λ i. ap (λ (st : List Datum). get_or st i datum.Null) c.add.ensures.stack) t r.1.1 r.1.2 r.1.3 r.1.4)
     c.add.ensures.counted

@@ -1,4 +1,11 @@
+use Rattle.std.proofs.Common.{ap, arith}
+use Rattle.yak_model.specs.Graph.{Limits}
 use Rattle.group_jobs.proofs.tallies.pass_epoch.Goals as goal
+
+pub begin-requires-clause-depth : goal.begin-requires-clause-depth
+begin-requires-clause-depth g c =
+    let deep = ap (λ (l : Limits). l.depth) (g.met.C.Caller.standard c.args.caller.now) in
+    omega (arith, deep, c.requires.outside)
 
 pub end-requires-clause-some : goal.end-requires-clause-some
 end-requires-clause-some g c = let h = c.requires.some in (h.0, c.begin.ensures.keeps h.0 h.1)
