@@ -14,8 +14,9 @@ use Rattle.yak_model.specs.Spaces.{SpaceState, innermost}
 use Rattle.yak_model.specs.State.{State, object_of, view}
 use Rattle.yak_model.specs.Placed.{Places, space_word}
 use Rattle.yak_model.specs.Stands.{Stands, StandsAs, claim_counter, current, free_pages, pool_length, set_entries, words_of}
-use Rattle.yak_model.specs.Recorded.{RecordedAs}
+use Rattle.yak_model.specs.Recorded.{IsRecorded, RecordedAs}
 use Rattle.remember_sets.specs.declared.TheConstants.{SET_ENTRIES}
+use Rattle.remember_sets.specs.Filed.{IsFiled}
 use Rattle.forwarding.specs.Crossing.{AreFiled}
 use Rattle.escape_closure.specs.Needs.{InOrder, pages_needed}
 use Rattle.escape_closure.specs.Targets.{TargetsWritten}
@@ -109,18 +110,16 @@ module _ (m : Areas) (c : Contents) (s : SpaceState) (st : Stands m c s) (t esca
     places = b.places;
     recorded = subst (λ (x : Contents). RecordedAs m x (view s) b.later.places.at) (sym cleared) (recorded_scratch m b.filing s b.later.places d.scratch b.recorded);
     filed = subst (λ (x : Contents). AreFiled x.buffers) (sym cleared) b.filed;
+    records = λ a. subst (λ (x : Contents). IsFiled x a ↔ IsRecorded c.heads c.sets c.buffers a) (sym cleared) (b.records a);
     frame =
-        let n : ℕ = set_entries b.filing.heads in
-        let one : d ≡ record c { heads = set c.heads SET_ENTRIES n; sets = b.filing.sets; buffers = b.filing.buffers; scratch = d.scratch } = cleared ∙ ap (λ (x : Contents). record x { scratch = d.scratch }) b.frame in
-        let heads : set c.heads SET_ENTRIES n ≡ d.heads = sym (ap (λ (x : Contents). x.heads) one) in
+        let entries : set_entries b.filing.heads ≡ set_entries d.heads = sym (ap (λ (x : Contents). set_entries x.heads) cleared) in
         let sets : b.filing.sets ≡ d.sets = sym (ap (λ (x : Contents). x.sets) cleared) in
         let buffers : b.filing.buffers ≡ d.buffers = sym (ap (λ (x : Contents). x.buffers) cleared) in
-        let heap : c.heap ≡ d.heap = sym (ap (λ (x : Contents). x.heap) one) in
-        one
-        ∙ ap (λ (hs : List ℕ). record c { heads = hs; sets = b.filing.sets; buffers = b.filing.buffers; scratch = d.scratch }) heads
-        ∙ ap (λ (xs : List ℕ). record c { heads = d.heads; sets = xs; buffers = b.filing.buffers; scratch = d.scratch }) sets
-        ∙ ap (λ (bs : List (List ℕ)). record c { heads = d.heads; sets = d.sets; buffers = bs; scratch = d.scratch }) buffers
-        ∙ ap (λ (hp : List ℕ). record c { heads = d.heads; sets = d.sets; buffers = d.buffers; scratch = d.scratch; heap = hp }) heap;
+        cleared
+        ∙ ap (λ (x : Contents). record x { scratch = d.scratch }) b.frame
+        ∙ ap (λ (n : ℕ). record c { heads = set c.heads SET_ENTRIES n; sets = b.filing.sets; buffers = b.filing.buffers; scratch = d.scratch }) entries
+        ∙ ap (λ (xs : List ℕ). record c { heads = set c.heads SET_ENTRIES (set_entries d.heads); sets = xs; buffers = b.filing.buffers; scratch = d.scratch }) sets
+        ∙ ap (λ (bs : List (List ℕ)). record c { heads = set c.heads SET_ENTRIES (set_entries d.heads); sets = d.sets; buffers = bs; scratch = d.scratch }) buffers;
     room = ap (λ (x : Contents). free_pages x.heads x.pool) cleared ∙ free_filing;
   }
 

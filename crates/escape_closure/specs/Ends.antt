@@ -20,7 +20,9 @@ use Rattle.region_pages.specs.Pages.{TableFits}
 use Rattle.region_pages.specs.declared.TheConstants.{CLAIM_COUNTER}
 use Rattle.relocation.specs.Moves.{Numbered, move_at}
 use Rattle.relocation.specs.Slide.{brought}
+use Rattle.remember_sets.specs.declared.TheConstants.{SET_ENTRIES}
 use Rattle.forwarding.specs.Crossing.{AreFiled}
+use Rattle.escape_closure.specs.Leaves.{FilesRecorded}
 use Rattle.escape_closure.specs.Targets.{IsEscaping}
 use Rattle.escape_closure.specs.Needs.{InOrder, pages_needed}
 
@@ -132,15 +134,16 @@ pub record RegionEnded (m : Areas) (c d : Contents) (s : SpaceState) (stands : S
   pub claims : length claimed ≡ pages_needed m c s stands.places t moved order
   pub free : (p : ℕ) → Contains (free_pages d.heads d.pool) p ↔ (Contains left p ⊎ ((p < m.pages) × (space_word c.table p ≡ region_word s t)))
 
--- An end that found the free pages too few: the buffers are filed, and nothing else has changed but words that have no
--- meaning between calls.
+-- An end that found the free pages too few: the buffers are filed, and nothing else has changed but the scratch area, which
+-- has no meaning between calls.
 pub record RegionShort (m : Areas) (c d : Contents) (s : SpaceState) (stands : Stands m c s) (t : ℕ) (shortage : Shortage) : Type 0 where
   pub short : FallsShort m c s stands.places t shortage
   pub later : Stands m d s
   pub places : later.places ≡ stands.places
   pub recorded : Recorded m d s later
   pub filed : AreFiled d.buffers
-  pub frame : d ≡ record c { heads = d.heads; sets = d.sets; buffers = d.buffers; scratch = d.scratch; heap = d.heap }
+  pub records : FilesRecorded c d
+  pub frame : d ≡ record c { heads = slice_set c.heads SET_ENTRIES (set_entries d.heads); sets = d.sets; buffers = d.buffers; scratch = d.scratch }
   pub room : free_pages d.heads d.pool ≡ free_pages c.heads c.pool
 
 -- A tight end: the former free pages are free, and each page that was the region's is Control's or free.

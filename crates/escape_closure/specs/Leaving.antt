@@ -19,6 +19,7 @@ use Rattle.relocation.specs.Slide.{IsPageOf, Runs, Sliding, brought}
 use Rattle.remember_sets.specs.declared.TheConstants.{SET_ENTRIES}
 use Rattle.remember_sets.specs.Filed.{IsFiled, LiesIn, SetsHold, logged}
 use Rattle.forwarding.specs.Crossing.{AreFiled, IsCrossing}
+use Rattle.escape_closure.specs.Leaves.{FilesRecorded}
 use Rattle.escape_closure.specs.Targets.{IsEscaping, IsTargetAt, TargetsWritten}
 use Rattle.escape_closure.specs.Ends.{DropsRest, EndPlanned, PlanReady, region_word}
 
@@ -110,6 +111,7 @@ pub record Begun (m : Areas) (c d : Contents) (s : SpaceState) (stands : Stands 
   pub filed : AreFiled filing.buffers
   pub written : TargetsWritten m s later.places t filing d escaping
   pub few : set_entries filing.heads ≤ records_of c
+  pub records : FilesRecorded c filing
   pub frame : filing ≡ record c { heads = slice_set c.heads SET_ENTRIES (set_entries filing.heads); sets = filing.sets; buffers = filing.buffers }
 
 -- The words after the targets of an end whose buffers were filed.
