@@ -19,6 +19,7 @@ pub mod Fates
 pub mod Afters
 pub mod LaidPages
 pub mod Regrouped
+pub mod Anew
 pub mod Leaves
 pub mod Sums
 pub mod Corrects

@@ -1,10 +1,12 @@
 -- What an end tells of the words before its buffers were filed.
-use Rattle.std.proofs.Common.{◌≡◌, ◌≢◌, ◌⊎◌, ◌↔◌, ℕ, ◌+◌, ◌*◌, ◌≤◌, ◌<◌, false, List, length, get_or, set, refl, sym, ap, subst, ◌∙◌, arith, get_or-set_other}
-use Rattle.std.specs.List.{Contains}
+use Rattle.std.proofs.Common.{◌≡◌, ◌≢◌, ◌⊎◌, ◌↔◌, ℕ, ◌+◌, ◌-◌, ◌*◌, ◌/◌, ◌≤◌, ◌<◌, false, List, length, get_or, set, refl, sym, ap, subst, ◌∙◌, arith, inl, inr, get_or-set_other}
+use Rattle.std.specs.List.{Contains, flat_map}
+use Rattle.std.proofs.Math.Logic.{⊎_elim}
 use Rattle.object_layout.specs.declared.replies.Shortage.{Shortage}
 use Rattle.heap_words.specs.declared.map.Areas.{Areas}
-use Rattle.heap_words.specs.Map.{HasThread, IsAreas, heap_length}
-use Rattle.heap_words.specs.Contents.{Contents, depth_of, stack_of}
+use Rattle.object_layout.specs.declared.names.Name.{Name}
+use Rattle.heap_words.specs.Map.{HasThread, IsAreas, heap_length, page_words}
+use Rattle.heap_words.specs.Contents.{Contents, depth_of, stack_of, with_depth, with_readers}
 use Rattle.epoch_lattice.specs.declared.Space.{Space}
 use Rattle.epoch_lattice.specs.declared.Space.TheVariants.{Region}
 use Rattle.epoch_lattice.specs.Lattice.{space_index}
@@ -24,9 +26,12 @@ use Rattle.escape_closure.specs.Ends.{EndPlanned, FallsShort, RegionEnded, Regio
 use Rattle.escape_closure.specs.Leaving.{Begun, RegionReady, TightReady, records_of}
 use Rattle.region_pages.specs.Counts.{used_of}
 use Rattle.region_pages.proofs.Counting.{used_is}
+use Rattle.escape_closure.specs.Leaves.{RestKept}
+use Rattle.escape_closure.proofs.Anew.{pool_before}
 use Rattle.escape_closure.proofs.Costs.{few_words}
 use Rattle.escape_closure.proofs.Readies.{entries_same, plan_frame, region_ready}
-use Rattle.escape_closure.proofs.Written.{region_is}
+use Rattle.escape_closure.proofs.RegionLeaves.{not_listed}
+use Rattle.escape_closure.proofs.Written.{none_filed, region_is}
 
 -- words of which only the scratch area has changed
 stands_scratch : (m : Areas) (c : Contents) (v : State) (l : Places) (x : List ℕ) → StandsAs m c v l → (let d : Contents = record c { scratch = x } in StandsAs m d v l)
@@ -71,6 +76,29 @@ module _ (m : Areas) (c : Contents) (s : SpaceState) (st : Stands m c s) (t esca
   needed_filing : (l : Places) (count : ℕ) (o : InOrder s l t count) → pages_needed m b.filing s l t count o ≡ pages_needed m c s l t count o
   needed_filing l count o = ap (λ (x : Contents). pages_needed m x s l t count o) b.frame
 
+  -- what was recorded before the buffers were filed
+  recorded_as : (a : ℕ) → IsRecorded b.filing.heads b.filing.sets b.filing.buffers a ↔ IsRecorded c.heads c.sets c.buffers a
+  recorded_as a = (
+    λ h. ⊎_elim
+        (λ (f : IsFiled b.filing a). (b.records a).0 f)
+        (λ (f : Contains (flat_map (λ (es : List ℕ). es) b.filing.buffers) a). absurd (not_listed (flat_map (λ (es : List ℕ). es) b.filing.buffers) a (none_filed b.filing.buffers b.filed) f))
+        h,
+    λ h. inl ((b.records a).1 h),
+  )
+
+  rest_from : (d : Contents) (after : SpaceState) (at : Name → ℕ) → RestKept m b.filing d s b.later.places t after at → RestKept m c d s st.places t after at
+  rest_from d after at k =
+      let page : (a : ℕ) → space_word b.filing.table (a / page_words m) ≡ space_word c.table (a / page_words m) = λ a. ap (λ (x : Contents). space_word x.table (a / page_words m)) b.frame in
+      record {
+        stays = λ n present far. subst (λ (l : Places). at n ≡ l.at n) b.places (k.stays n present far);
+        filed = λ a. (
+          λ h. ⊎_elim (λ w. inl ((recorded_as a).0 w.0, λ z. w.1 (page a ∙ z))) (λ w. inr w) ((k.filed a).0 h),
+          λ h. (k.filed a).1 (⊎_elim (λ w. inl ((recorded_as a).1 w.0, λ z. w.1 (sym (page a) ∙ z))) (λ w. inr w) h),
+        );
+        pool = pool_before m c b.filing d (set_entries b.filing.heads) (ap (λ (x : Contents). x.heads) b.frame) (ap (λ (x : Contents). x.pool) b.frame) k.pool;
+        frame = k.frame ∙ ap (λ (x : Contents). record (with_depth (with_readers x t (depth_of x t) 0) t (depth_of x t - 1)) { heads = d.heads; stacks = d.stacks; buffers = d.buffers; currents = d.currents; table = d.table; pool = d.pool; sets = d.sets; scratch = d.scratch; heap = d.heap }) b.frame;
+      }
+
   pub region_from : (d : Contents) (count : ℕ) → RegionEnded m b.filing d s b.later t count → RegionEnded m c d s st t count
   region_from d count r =
       let told : (o : InOrder s st.places t count) × (pages_needed m b.filing s st.places t count o ≤ length (free_pages b.filing.heads b.filing.pool)) × (length r.claimed ≡ pages_needed m b.filing s st.places t count o) =
@@ -81,6 +109,7 @@ module _ (m : Areas) (c : Contents) (s : SpaceState) (st : Stands m c s) (t esca
         enough = let size : length (free_pages b.filing.heads b.filing.pool) ≡ length (free_pages c.heads c.pool) = ap (λ (xs : List ℕ). length xs) free_filing in omega (arith, told.1, size, needed_filing st.places count told.0);
         claimed = r.claimed;
         left = r.left;
+        rest = rest_from d r.state.after r.state.stands.places.at r.rest;
         former = sym free_filing ∙ r.former;
         claims = told.2 ∙ needed_filing st.places count told.0;
         free = λ p. subst (λ (x : Contents). Contains (free_pages d.heads d.pool) p ↔ (Contains r.left p ⊎ ((p < m.pages) × (space_word x.table p ≡ region_word s t)))) b.frame (r.free p);

@@ -20,7 +20,7 @@ use Rattle.yak_model.specs.Placed.{HeapStands, Holds, Places, names_of, size_by,
 use Rattle.yak_model.specs.Plans.{Move, cleared, forwarded, without}
 use Rattle.yak_model.specs.Stands.{CurrentsStand, PoolStands, RegionsDense, SetsStand, Stands, claim_counter, current, pages_of, pool_length, set_entries}
 use Rattle.yak_model.specs.Recorded.{IsRecorded}
-use Rattle.region_pages.specs.Freeing.{with_pool_rebuilt}
+use Rattle.region_pages.specs.Freeing.{free_below, pool_with, with_pool_rebuilt}
 use Rattle.region_pages.proofs.Entries.{current-cases}
 use Rattle.region_pages.proofs.Placing.{length-slots_set}
 use Rattle.region_pages.proofs.Released.{inner_region, inner_valid}
@@ -36,7 +36,9 @@ use Rattle.remember_sets.specs.declared.TheConstants.{SET_ENTRIES}
 use Rattle.remember_sets.specs.Filed.{IsFiled, LiesIn, SetsHold, with_sets}
 use Rattle.forwarding.specs.Crossing.{AreData, AreFiled, AreMoved, AreValid, IsCrossing}
 use Rattle.escape_closure.specs.Ends.{TightEnded, region_word}
+use Rattle.escape_closure.specs.Leaves.{PoolAnew}
 use Rattle.escape_closure.specs.Leaving.{Carried, EndMoves, Leaves, TightReady, left_behind, objects_left}
+use Rattle.escape_closure.proofs.Anew.{pool_anew}
 use Rattle.escape_closure.proofs.Fates.{left_so, moves_so}
 use Rattle.escape_closure.proofs.Leaves.{state_ended}
 use Rattle.escape_closure.proofs.Readies.{sets_same}
@@ -421,6 +423,22 @@ module _ (m : Areas) (before mid c : Contents) (s : SpaceState) (st : Stands m b
       λ h. ⊎_elim (λ a. inl (f.1 (g.1 a))) (λ x. inr x) h,
     )
 
+    -- the pool afterwards
+    d_free : free_below settled.table (length settled.table) ≡ free_below d.table m.pages
+    d_free = ap (free_below settled.table) long ∙ ap (λ (ts : List (List ℕ)). free_below ts m.pages) (sym d_table)
+
+    anew : PoolAnew m before d
+    anew = pool_anew m before d before.heads moved.heads moved.pool (set_entries moved.heads)
+        refl
+        shape.heads
+        (ap (λ (x : Contents). x.pool) carried.frame ∙ ap (λ (x : Contents). x.pool) base_frame)
+        (ap (λ (x : Contents). x.heads) carried.frame ∙ ap (λ (x : Contents). set x.heads SET_ENTRIES (set_entries moved.heads)) base_frame)
+        (ap (λ (x : Contents). x.heads) ends ∙ ap (λ (x : Contents). x.heads) others
+        ∙ ap (λ (x : Contents). set x.heads SET_ENTRIES (set_entries filed.heads)) frame
+        ∙ ap (λ (ps : List ℕ). set (set (set moved.heads 1 0) 2 (length ps)) SET_ENTRIES (set_entries filed.heads)) d_free
+        ∙ ap (λ n. set (set (set moved.heads 1 0) 2 (length (free_below d.table m.pages))) SET_ENTRIES n) (sym (ap (λ (x : Contents). set_entries x.heads) ends)))
+        (d_pool ∙ ap (λ (x : Contents). x.pool) frame ∙ ap (λ (ps : List ℕ). pool_with ps moved.pool) d_free)
+
     pub tight_leaves : Leaves m before d s st.places t count (move_at c.scratch) later
     tight_leaves = record {
       at = refl;
@@ -436,6 +454,7 @@ module _ (m : Areas) (before mid c : Contents) (s : SpaceState) (st : Stands m b
       buffers = subst AreFiled (sym (ap (λ (x : Contents). x.buffers) ends ∙ ap (λ (x : Contents). x.buffers) others ∙ ap (λ (x : Contents). x.buffers) frame ∙ ap (λ (x : Contents). x.buffers) carried.frame ∙ ap (λ (x : Contents). x.buffers) base_frame)) r.filed.filed;
       limits = limits;
       pool = subst (λ (ts : List (List ℕ)). PoolStands m d.heads d.pool ts) (sym d_table) (subst (λ (ps : List ℕ). PoolStands m d.heads ps settled.table) (sym d_pool) (pool_same m settled.heads d.heads settled.pool settled.table d_claims d_pooled pool));
+      anew = anew;
       currents = subst (λ (ts : List (List ℕ)). CurrentsStand m d.currents ts) (sym d_table) (currents_stand settled.table after freed long shape.table d.currents shape.currents shape.slots currents_is);
       sets = subst (SetsHold m) (sym ends) sets;
       dense = subst (λ (ts : List (List ℕ)). RegionsDense m ts d.currents later.pages left) (sym d_table) (tight_dense settled.table after freed long shape.table d.currents shape.currents shape.slots currents_is);

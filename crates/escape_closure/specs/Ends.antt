@@ -22,7 +22,7 @@ use Rattle.relocation.specs.Moves.{Numbered, move_at}
 use Rattle.relocation.specs.Slide.{brought}
 use Rattle.remember_sets.specs.declared.TheConstants.{SET_ENTRIES}
 use Rattle.forwarding.specs.Crossing.{AreFiled}
-use Rattle.escape_closure.specs.Leaves.{FilesRecorded}
+use Rattle.escape_closure.specs.Leaves.{FilesRecorded, RestKept}
 use Rattle.escape_closure.specs.Targets.{IsEscaping}
 use Rattle.escape_closure.specs.Needs.{InOrder, pages_needed}
 
@@ -126,6 +126,7 @@ pub record StateEnded (m : Areas) (now : Contents) (s : SpaceState) (t : ℕ) (t
 -- are free.
 pub record RegionEnded (m : Areas) (c d : Contents) (s : SpaceState) (stands : Stands m c s) (t moved : ℕ) : Type 0 where
   pub state : StateEnded m d s t false moved
+  pub rest : RestKept m c d s stands.places t state.after state.stands.places.at
   pub order : InOrder s stands.places t moved
   pub enough : pages_needed m c s stands.places t moved order ≤ length (free_pages c.heads c.pool)
   pub claimed : List ℕ
