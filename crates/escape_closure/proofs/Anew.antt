@@ -1,5 +1,5 @@
 -- The pool made anew, and what an end leaves over the words before the buffers were filed.
-use Rattle.std.proofs.Common.{◌≡◌, ℕ, List, [], ◌∷◌, length, set, refl, sym, ap, ◌∙◌, subst, arith, get_or-set_other, length-set}
+use Rattle.std.proofs.Common.{◌≡◌, ℕ, List, [], ◌∷◌, length, set, refl, ap, ◌∙◌, arith, get_or-set_other, length-set}
 use Rattle.std.proofs.lemmas.List.{set-set}
 use Rattle.heap_words.specs.declared.map.Areas.{Areas}
 use Rattle.heap_words.specs.declared.TheConstants.{HEAD_WORDS}

@@ -43,6 +43,7 @@ pub mod RegionLeaves
 pub mod Outcomes
 pub mod RunsTold
 pub mod TightReadies
+pub mod SlidPages
 pub mod TightLeaves
 pub mod MovedWords
 pub mod Costs

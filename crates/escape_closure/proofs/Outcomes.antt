@@ -6,7 +6,8 @@ use Rattle.object_layout.specs.declared.replies.Shortage.{Shortage}
 use Rattle.heap_words.specs.declared.map.Areas.{Areas}
 use Rattle.object_layout.specs.declared.names.Name.{Name}
 use Rattle.heap_words.specs.Map.{HasThread, IsAreas, heap_length, page_words}
-use Rattle.heap_words.specs.Contents.{Contents, depth_of, stack_of, with_depth, with_readers}
+use Rattle.heap_words.specs.Cells.{row}
+use Rattle.heap_words.specs.Contents.{Contents, depth_of, stack_of, with_current, with_depth, with_readers}
 use Rattle.epoch_lattice.specs.declared.Space.{Space}
 use Rattle.epoch_lattice.specs.declared.Space.TheVariants.{Region}
 use Rattle.epoch_lattice.specs.Lattice.{space_index}
@@ -14,8 +15,8 @@ use Rattle.relocation.specs.Moves.{move_at}
 use Rattle.relocation.specs.Slide.{Runs, Sliding}
 use Rattle.yak_model.specs.Spaces.{SpaceState, innermost}
 use Rattle.yak_model.specs.State.{State, object_of, view}
-use Rattle.yak_model.specs.Placed.{Places, space_word}
-use Rattle.yak_model.specs.Stands.{Stands, StandsAs, claim_counter, current, free_pages, pool_length, set_entries, words_of}
+use Rattle.yak_model.specs.Placed.{Places, size_by, space_word}
+use Rattle.yak_model.specs.Stands.{Stands, StandsAs, claim_counter, free_pages, pool_length, set_entries, words_of}
 use Rattle.yak_model.specs.Recorded.{IsRecorded, RecordedAs}
 use Rattle.remember_sets.specs.declared.TheConstants.{SET_ENTRIES}
 use Rattle.remember_sets.specs.Filed.{IsFiled}
@@ -26,7 +27,7 @@ use Rattle.escape_closure.specs.Ends.{EndPlanned, FallsShort, RegionEnded, Regio
 use Rattle.escape_closure.specs.Leaving.{Begun, RegionReady, TightReady, records_of}
 use Rattle.region_pages.specs.Counts.{used_of}
 use Rattle.region_pages.proofs.Counting.{used_is}
-use Rattle.escape_closure.specs.Leaves.{RestKept}
+use Rattle.escape_closure.specs.Leaves.{IsLeftAs, RestKept, SlidInto}
 use Rattle.escape_closure.proofs.Anew.{pool_before}
 use Rattle.escape_closure.proofs.Costs.{few_words}
 use Rattle.escape_closure.proofs.Readies.{entries_same, plan_frame, region_ready}
@@ -160,13 +161,21 @@ module _ (m : Areas) (c : Contents) (s : SpaceState) (st : Stands m c s) (t esca
     planned = e;
   }
 
-  pub tight_from : (d : Contents) (count : ℕ) → TightEnded m b.filing d s t count → TightEnded m c d s t count
-  tight_from d count r = record {
-    state = r.state;
-    pages = subst (λ (x : Contents). (p : ℕ) → p < m.pages → space_word x.table p ≢ region_word s t → space_word d.table p ≡ space_word x.table p) b.frame r.pages;
-    region = subst (λ (x : Contents). (p : ℕ) → p < m.pages → space_word x.table p ≡ region_word s t → (space_word d.table p ≡ 0) ⊎ (space_word d.table p ≡ 1)) b.frame r.region;
-    control = subst (λ (x : Contents). (u : ℕ) → current d.currents u 0 ≡ current x.currents u 0) b.frame r.control;
-  }
+  pub tight_from : (d : Contents) (count : ℕ) → TightEnded m b.filing d s b.later t count → TightEnded m c d s st t count
+  tight_from d count r =
+      let at : Name → ℕ = r.state.stands.places.at in
+      let word : ℕ = region_word s t in
+      let told : (o : InOrder s st.places t count) × SlidInto m word b.filing.table count (λ k. size_by (object_of s) (o.name k)) (λ k. at (o.name k)) × ((p : ℕ) → p < m.pages → space_word b.filing.table p ≡ word → IsLeftAs m d.table count (λ k. at (o.name k)) p) =
+      subst (λ (l : Places). (o : InOrder s l t count) × SlidInto m word b.filing.table count (λ k. size_by (object_of s) (o.name k)) (λ k. at (o.name k)) × ((p : ℕ) → p < m.pages → space_word b.filing.table p ≡ word → IsLeftAs m d.table count (λ k. at (o.name k)) p)) b.places (r.order, r.slid, r.region) in
+      record {
+        state = r.state;
+        rest = rest_from d r.state.after at r.rest;
+        order = told.0;
+        slid = subst (λ (x : Contents). SlidInto m word x.table count (λ k. size_by (object_of s) (told.0.name k)) (λ k. at (told.0.name k))) b.frame told.1;
+        region = subst (λ (x : Contents). (p : ℕ) → p < m.pages → space_word x.table p ≡ word → IsLeftAs m d.table count (λ k. at (told.0.name k)) p) b.frame told.2;
+        pages = subst (λ (x : Contents). (p : ℕ) → p < m.pages → space_word x.table p ≢ word → row d.table p ≡ row x.table p) b.frame r.pages;
+        currents = subst (λ (x : Contents). d.currents ≡ (with_current x t (depth_of x t) 0).currents) b.frame r.currents;
+      }
 
   -- a plan of a tight end after its start
   pub tight_readied : HasThread m t → 1 ≤ depth_of c t → (planned : Contents) (count next room : ℕ) → ((slid : ℕ) → slid ≡ space_index (Region t (depth_of mid t)) + 1 → (runs : Runs m slid mid) → Sliding m slid mid runs planned count (move_at planned.scratch) next room (heap_length m)) → TightReady m b.filing mid planned s b.later t count next

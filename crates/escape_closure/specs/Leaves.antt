@@ -2,13 +2,15 @@
 use Rattle.std.specs.Prelude.{◌≡◌, ◌≢◌, ◌⊎◌, ◌↔◌, ℕ, ◌+◌, ◌-◌, ◌*◌, ◌/◌, ◌<◌, List, length, slice_index_or, slice_set, Option, Some}
 use Rattle.object_layout.specs.declared.names.Name.{Name}
 use Rattle.object_layout.specs.declared.TheConstants.{OBJECT_WORDS}
+use Rattle.epoch_lattice.specs.declared.Space.TheVariants.{Control}
+use Rattle.epoch_lattice.specs.Lattice.{space_index}
 use Rattle.heap_words.specs.declared.map.Areas.{Areas}
 use Rattle.heap_words.specs.Map.{page_words}
 use Rattle.heap_words.specs.Contents.{Contents, depth_of, with_depth, with_readers}
 use Rattle.yak_model.specs.declared.datum.Datum.TheVariants.{Null, Object}
 use Rattle.yak_model.specs.Spaces.{IsPresent, SpaceState, home_of, innermost}
 use Rattle.yak_model.specs.State.{Thing, object_of}
-use Rattle.yak_model.specs.Placed.{Places}
+use Rattle.yak_model.specs.Placed.{Places, space_word}
 use Rattle.yak_model.specs.Stands.{free_pages, set_entries}
 use Rattle.yak_model.specs.Recorded.{Enters, IsRecorded}
 use Rattle.region_pages.specs.declared.TheConstants.{CLAIM_COUNTER, POOL_LENGTH}
@@ -71,3 +73,8 @@ HoldsOne m count at p = (k : ℕ) × (k < count) × (at k / page_words m ≡ p)
 pub record SlidInto (m : Areas) (slid : ℕ) (table : List (List ℕ)) (count : ℕ) (size at : ℕ → ℕ) : Type 0 where
   pub begins : 0 < count → (q : ℕ) × IsFirstPage slid table 0 q × (at 0 ≡ page_words m * q)
   pub follows : (k : ℕ) → k + 1 < count → GoesBehind m (at k) (size k) (at (k + 1)) (size (k + 1)) ⊎ GoesOn m slid table (at k) (size k) (at (k + 1)) (size (k + 1))
+
+-- A page of the region is Control's afterwards where one of so many objects stands in it, and else free.
+abbrev pub IsLeftAs : Areas → List (List ℕ) → ℕ → (ℕ → ℕ) → ℕ → Type 0
+IsLeftAs m table count at p =
+    ((space_word table p ≡ space_index Control + 1) × HoldsOne m count at p) ⊎ ((space_word table p ≡ 0) × (HoldsOne m count at p → ⊥))
