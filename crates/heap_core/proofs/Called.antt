@@ -14,13 +14,13 @@ use Rattle.yak_model.specs.Standing.{Counted, MovesKnown, counted_on, words_made
 use Rattle.yak_model.specs.Stands.{Stands}
 use Rattle.region_pages.proofs.Shapes.{shape}
 use Rattle.heap_core.specs.declared.owned.Stepped.{Stepped}
-use Rattle.heap_core.specs.Callers.{FillsPages, KnowsAlone, TellsKnown, TellsThread, standing_told, thread_told, words_asked, words_used}
+use Rattle.heap_core.specs.Callers.{FillsPages, KnowsAlone, MakesStep, TellsKnown, TellsThread, standing_told, thread_told, words_asked, words_used}
 use Rattle.heap_core.specs.Collecting.{CountsFull}
-use Rattle.heap_core.specs.Done.{FillsHeap, TellsFull}
+use Rattle.heap_core.specs.Done.{CollectsWhere, FillsHeap, TellsFull}
 use Rattle.heap_core.specs.Records.{SomeRecorded}
 use Rattle.heap_core.specs.Steps.{entries}
 use Rattle.heap_core.proofs.Calling.{moves-known}
-use Rattle.heap_core.proofs.Filling.{Steps, counted-full, fills-pages, holds-after, tells-after, tells_known-after, used-after, used-within}
+use Rattle.heap_core.proofs.Filling.{Steps, counted-full, fills-pages, holds-after, tells-after, tells_known-after, used-after, used-within, words-kept}
 use Rattle.heap_core.proofs.Sound.{sound-from}
 
 long-table : (m : Areas) (ws : List ℕ) → IsAreas m → length ws ≡ total_of m → SomeRecorded m (contents m ws) → length (contents m ws).table ≡ m.pages
@@ -68,7 +68,7 @@ module _ (m : Areas) (before later : List ℕ) (t : ℕ) (asked : Call) (stepped
   pub call-knows : (made refusals : ℕ) (last : Option (Census × ℕ × ℕ)) (known : _) → KnowsAlone m (contents m before) t known → MovesKnown (standing_told (contents m before) t made refusals last) known asked stepped.reply (thread_told (contents m later) t) (KnowsAlone m (contents m later) t)
   call-knows made refusals last known knows =
       let turn = k.steps knows.state knows.stands in
-      moves-known m (contents m before) knows.state knows.stands (contents m later) t known knows.made knows.private asked stepped turn.0 turn.1 turn.2 made refusals last
+      moves-known m (contents m before) knows.state knows.stands (contents m later) t known knows.made knows.private knows.fits asked stepped turn.0 turn.1 turn.2 made refusals last
 
   pub call-holds : (present made made' more : ℕ) → words_used (contents m before).table ≤ present + made → more ≡ words_made asked stepped.reply → made' ≡ counted_on made more → words_used (contents m later).table ≤ present + made'
   call-holds present made made' more holds same count =
@@ -80,6 +80,12 @@ module _ (m : Areas) (before later : List ℕ) (t : ℕ) (asked : Call) (stepped
   -- where the counts of the pages are told, the heap was full
   is-full : (census : Census) → stepped.full ≡ Some census → (stepped.reply ≡ reply.OutOfHeap) × CountsFull (contents m later) census
   is-full census e = subst (λ o. MatchOption o (stepped.reply ≢ reply.OutOfHeap) (λ counts. (stepped.reply ≡ reply.OutOfHeap) × CountsFull (contents m later) counts)) e k.tells
+
+  pub call-none-free : (census : Census) → stepped.full ≡ Some census → census.free ≡ 0
+  call-none-free census e = (is-full census e).1.none_free
+
+  pub call-words : (census : Census) → stepped.full ≡ Some census → (words : ℕ) → words ≡ min (words_asked asked) (2 ^ 16 - 1) → words ≡ words_asked asked
+  call-words census e = words-kept m (contents m before) (contents m later) t asked stepped k.steps k.thread k.some k.some_now k.fills (is-full census e).0
 
   pub call-fills : (census : Census) → stepped.full ≡ Some census → (words : ℕ) → words_used (contents m later).table ≤ words → FillsPages m words (depth_of (contents m later) t)
   call-fills census e = fills-pages m (contents m before) (contents m later) t asked stepped k.steps k.thread k.some k.some_now k.fills (is-full census e).0 k.areas k.longer
@@ -95,3 +101,18 @@ module _ (m : Areas) (before later : List ℕ) (t : ℕ) (asked : Call) (stepped
       subst (λ (x : Areas). MovesKnown (standing_told (contents m before) t made refusals last) known asked stepped.reply (thread_told (contents x now) t) (KnowsAlone x (contents x now) t)) (sym same)
       (subst (λ (ws : List ℕ). MovesKnown (standing_told (contents m before) t made refusals last) known asked stepped.reply (thread_told (contents m ws) t) (KnowsAlone m (contents m ws) t)) (sym words)
       (call-knows made refusals last known knows))
+
+  -- the call as a step
+  pub call-step-as : (m' : Areas) (now : List ℕ) → m' ≡ m → now ≡ later → ((s : SpaceState) (h : Stands m (contents m before) s) → CollectsWhere m (contents m before) s h t asked stepped.reply stepped.collected)
+      → (kept kept_now : Option (Census × ℕ × ℕ)) → MatchOption stepped.full (kept_now ≡ kept) (λ census. kept_now ≡ Some (census, depth_of (contents m later) t, words_asked asked)) → MakesStep m (contents m before) (contents m' now) t asked stepped.reply kept kept_now
+  call-step-as m' now same words collects kept kept_now keeps =
+      subst (λ (x : Areas). MakesStep m (contents m before) (contents x now) t asked stepped.reply kept kept_now) (sym same)
+      (subst (λ (ws : List ℕ). MakesStep m (contents m before) (contents m ws) t asked stepped.reply kept kept_now) (sym words)
+      (record {
+        stepped = stepped;
+        reply = refl;
+        turns = k.steps;
+        collected = collects;
+        full = k.tells;
+        keeps = keeps;
+      }))

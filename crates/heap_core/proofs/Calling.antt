@@ -1,6 +1,6 @@
 -- What a step does to what its thread and the others know.
-use Rattle.std.proofs.Common.{◌≡◌, ◌≢◌, ℕ, [], ◌∷◌, true, false, true≢false, cond, refl, ◌∙◌, ap, sym, subst, inl, inr, Option, Some, None, IsSome, is_some, ◌+◌, arith}
-use Rattle.std.proofs.Math.Logic.{⊎_elim}
+use Rattle.std.proofs.Common.{lit≤, ◌≡◌, ◌≢◌, ℕ, [], ◌∷◌, true, false, true≢false, cond, refl, ◌∙◌, ap, sym, subst, inl, inr, Option, Some, None, IsSome, is_some, ◌+◌, ◌≤◌, arith}
+use Rattle.std.proofs.Math.Logic.{⊎_elim, ∥∥₁_map}
 use Rattle.std.specs.List.{Contains}
 use Rattle.std.specs.FinMap.{FinMap, empty, entries, get, get-empty}
 use Rattle.object_layout.specs.declared.names.Name.{Name}
@@ -11,20 +11,23 @@ use Rattle.heap_words.specs.declared.map.Areas.{Areas}
 use Rattle.heap_words.specs.Contents.{Contents}
 use Rattle.yak_model.specs.declared.datum.Datum.TheVariants as datum
 use Rattle.yak_model.specs.Names.{name_cmp}
-use Rattle.yak_model.specs.Graph.{Content, Graph, fields_of, fields_or_none}
+use Rattle.object_layout.specs.declared.TheConstants.{OBJECT_WORDS}
+use Rattle.yak_model.specs.Graph.{Content, Graph, Limits, fields_of, fields_or_none, standard_limits}
 use Rattle.yak_model.specs.History.{Collected, Entry, Moves, Said}
-use Rattle.yak_model.specs.Private.{AreMade, IsKnown, IsMade, IsPrivate, KnownAfter, KnownObjects}
+use Rattle.yak_model.specs.Private.{AreMade, FitPages, IsKnown, IsMade, IsPrivate, KnownAfter, KnownObjects}
 use Rattle.yak_model.specs.Spaces.{Collects, IsOnStack, Refers, SpaceState, TurnsAll, content_at, here, home_of}
 use Rattle.yak_model.specs.Standing.{MovesKnown}
 use Rattle.yak_model.specs.State.{IsDatum, object_of}
 use Rattle.yak_model.specs.Stands.{IsWhole, Stands}
 use Rattle.yak_model.proofs.Data.{some-of}
+use Rattle.yak_model.proofs.Fitting.{fitting_is_kept}
 use Rattle.yak_model.proofs.Made.{names_stay_made}
 use Rattle.yak_model.proofs.Private.{privacy_is_kept}
 use Rattle.yak_model.proofs.Stacks.{stack-fits}
 use Rattle.heap_walks.proofs.Seen.{seen}
 use Rattle.heap_core.specs.declared.owned.Stepped.{Stepped}
 use Rattle.heap_core.specs.Callers.{KnowsAlone, graph_with, standing_told, thread_told, with_absent}
+use Rattle.heap_core.specs.Records.{SomeRecorded}
 use Rattle.heap_core.specs.Steps.{entries as entries_of}
 use Rattle.heap_core.proofs.Alone.{IsWithin, are_made-within, nothing, private-within, there_or_not, with-added, with-kept}
 use Rattle.heap_core.proofs.Answering.{FollowsCall, HoldsStacks, Includes, follows, kept, of_objects}
@@ -115,9 +118,16 @@ module _ (m : Areas) (c : Contents) (s : SpaceState) (h : Stands m c s) where
     abbrev pub later_graph : Graph
     later_graph = of_objects after.graph follows-known.next
 
+    -- what is known fits pages afterwards too
+    fits-after : FitPages standard_limits known → (then : KnownObjects) → KnownAfter (graph_with s.graph known) u known (Said t asked stepped.reply) then → FitPages standard_limits then
+    fits-after fits then becomes =
+        let wide : OBJECT_WORDS ≤ s.graph.limits.page = subst (λ (l : Limits). OBJECT_WORDS ≤ l.page) (sym h.whole.limits) (lit≤ tt) in
+        subst (λ (l : Limits). FitPages l then) h.whole.limits
+        (fitting_is_kept (graph_with s.graph known) (Said t asked stepped.reply) later_graph u known then wide follows-known.moves (subst (λ (l : Limits). FitPages l known) (sym h.whole.limits) fits) becomes)
+
     -- what the thread alone knows afterwards
-    pub knows-after : (c' : Contents) → Stands m c' after → (then : KnownObjects) → KnownAfter (graph_with s.graph known) u known (Said t asked stepped.reply) then → KnowsAlone m c' u then
-    knows-after c' stands then becomes =
+    pub knows-after : FitPages standard_limits known → (c' : Contents) → Stands m c' after → (then : KnownObjects) → KnownAfter (graph_with s.graph known) u known (Said t asked stepped.reply) then → KnowsAlone m c' u then
+    knows-after fits c' stands then becomes =
         let entry : Entry = Said t asked stepped.reply in
         let alone : IsPrivate later_graph u then = privacy_is_kept (graph_with s.graph known) entry later_graph u known then made follows-known.moves private becomes in
         let has : (n : Name) → IsKnown then n → content_at (graph_with after.graph then) n ≡ get then n = λ n k. elim (there_or_not after.graph n) [
@@ -136,12 +146,13 @@ module _ (m : Areas) (c : Contents) (s : SpaceState) (h : Stands m c s) where
           stands = stands;
           made = are_made-within (graph_with after.graph then) later_graph within (names_stay_made (graph_with s.graph known) entry later_graph made follows-known.moves);
           private = private-within (graph_with after.graph then) later_graph within u then alone has;
+          fits = fits-after fits then becomes;
         }
 
   -- the step as a move of a graph in which the known objects are the thread's own
-  pub moves-known : (c' : Contents) (t : ℕ) (known : KnownObjects) → AreMade (graph_with s.graph known) → IsPrivate (graph_with s.graph known) t known → (asked : Call) (stepped : Stepped) (after : SpaceState) → TurnsAll s (entries_of t asked stepped) after → Stands m c' after
+  pub moves-known : (c' : Contents) (t : ℕ) (known : KnownObjects) → AreMade (graph_with s.graph known) → IsPrivate (graph_with s.graph known) t known → FitPages standard_limits known → (asked : Call) (stepped : Stepped) (after : SpaceState) → TurnsAll s (entries_of t asked stepped) after → Stands m c' after
       → (made refusals : ℕ) (last : Option (Census × ℕ × ℕ)) → MovesKnown (standing_told c t made refusals last) known asked stepped.reply (thread_told c' t) (KnowsAlone m c' t)
-  moves-known c' t known made private asked stepped after turns stands words refusals last =
+  moves-known c' t known made private fits asked stepped after turns stands words refusals last =
       let f = follows-known t t known made private asked stepped after turns in
       record {
         before = graph_with s.graph known;
@@ -152,7 +163,7 @@ module _ (m : Areas) (c : Contents) (s : SpaceState) (h : Stands m c s) where
         private = private;
         moves = f.moves;
         own_later = sym (thread-told m c' after stands t);
-        known_later = knows-after t t known made private asked stepped after turns c' stands;
+        known_later = knows-after t t known made private asked stepped after turns fits c' stands;
       }
 
 -- a thread that knows nothing knows the empty map
@@ -175,4 +186,8 @@ knows-nothing m c s h t =
         stacks = λ n k. absurd (none n k);
         fields = λ n k. absurd (none n k);
       };
+      fits = λ n content e. absurd (none n (ap is_some e));
     }
+
+pub some-knows-nothing : (m : Areas) (c : Contents) (t : ℕ) → SomeRecorded m c → ∥ KnowsAlone m c t empty ∥₁
+some-knows-nothing m c t some = ∥∥₁_map some (λ q. knows-nothing m c q.0 q.1 t)

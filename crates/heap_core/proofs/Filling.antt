@@ -67,7 +67,7 @@ module _ (m : Areas) (was now : Contents) (t : ℕ) (asked : Call) (stepped : St
       record {
         thread = tells.thread;
         other = tells.other;
-        alone = knows-after m was k.state k.stands t u known k.made k.private asked stepped turn.0 turn.1 now turn.2 known ((λ e. absurd (tells.other (sym e))), (λ ne. refl));
+        alone = knows-after m was k.state k.stands t u known k.made k.private asked stepped turn.0 turn.1 k.fits now turn.2 known ((λ e. absurd (tells.other (sym e))), (λ ne. refl));
       }
 
   -- ---- the words in use
@@ -184,6 +184,11 @@ module _ (m : Areas) (was now : Contents) (t : ℕ) (asked : Call) (stepped : St
 
   few : is-new.0 + OBJECT_WORDS ≤ 2 ^ 16 - 1
   few = ∥∥₁_elim some (hlevel props) (λ q. let page = ap (λ (l : Limits). l.page) q.1.whole.limits in omega (arith, page, (nothing-made q.0 q.1).0))
+
+  pub words-kept : (words : ℕ) → words ≡ min (words_asked asked) (2 ^ 16 - 1) → words ≡ words_asked asked
+  words-kept words wide =
+      let asks : words_asked asked ≡ is-new.0 + OBJECT_WORDS = ap words_asked is-new.1 in
+      omega (arith, wide, asks, few)
 
   pub counted-full : (made made' refusals refusals' depth words : ℕ) (last : Option (Census × ℕ × ℕ)) (census : Census) → CountsFull now census → made' ≡ counted_on made (words_made asked stepped.reply) → refusals' ≡ counted_on refusals 1 → depth ≡ depth_of now t → words ≡ min (words_asked asked) (2 ^ 16 - 1)
       → Counted (standing_told was t made refusals last) asked stepped.reply (standing_told now t made' refusals' (Some (census, depth, words)))

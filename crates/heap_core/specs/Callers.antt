@@ -1,10 +1,11 @@
 -- What one thread's way to an owned heap tells, by the heap's words.
-use Rattle.std.specs.Prelude.{◌≡◌, ◌≢◌, ◌==◌, ◌/◌, ◌%◌, ◌+◌, ◌*◌, ◌≤◌, ℕ, List, [], ◌∷◌, cond, is_some, map, slice_index, sum_by, Option, None}
+use Rattle.std.specs.Prelude.{◌≡◌, ◌≢◌, ◌==◌, ◌/◌, ◌%◌, ◌+◌, ◌*◌, ◌≤◌, ℕ, List, [], ◌∷◌, cond, is_some, map, slice_index, sum_by, Option, None, Some, MatchOption}
 use Rattle.std.specs.FinMap as finite
 use Rattle.object_layout.specs.declared.calls.Call.{Call}
 use Rattle.object_layout.specs.declared.calls.Call.TheVariants.{New}
 use Rattle.object_layout.specs.declared.names.Name.{Name}
 use Rattle.object_layout.specs.declared.replies.Census.{Census}
+use Rattle.object_layout.specs.declared.replies.Reply.{Reply}
 use Rattle.object_layout.specs.declared.TheConstants.{NAME_UNIT, OBJECT_WORDS}
 use Rattle.heap_words.specs.declared.map.Areas.{Areas}
 use Rattle.heap_words.specs.Map.{HasThread, page_words}
@@ -13,10 +14,13 @@ use Rattle.yak_model.specs.declared.datum.Datum.{Datum}
 use Rattle.yak_model.specs.declared.datum.Datum.TheVariants as datum
 use Rattle.yak_model.specs.Names.{name_cmp}
 use Rattle.yak_model.specs.Graph.{Content, Graph, Thread, standard_limits}
-use Rattle.yak_model.specs.Private.{AreMade, IsPrivate, KnownObjects}
+use Rattle.yak_model.specs.Private.{AreMade, FitPages, IsPrivate, KnownObjects}
 use Rattle.yak_model.specs.Spaces.{SpaceState}
 use Rattle.yak_model.specs.Standing.{Standing}
 use Rattle.yak_model.specs.Stands.{Stands}
+use Rattle.heap_core.specs.declared.owned.Stepped.{Stepped}
+use Rattle.heap_core.specs.Done.{CollectsWhere, TellsFull}
+use Rattle.heap_core.specs.Steps.{TurnsTo, entries}
 
 -- ---- threads, as the words show them
 
@@ -63,12 +67,13 @@ abbrev pub graph_with : Graph → KnownObjects → Graph
 graph_with g known = record g { objects = with_absent g.objects (finite.entries known) }
 
 -- The thread alone knows the map, in the state for which the words stand with those objects of the map added that were made
--- and aren't present any more.
+-- and aren't present any more. Each object of the map fits a page.
 pub record KnowsAlone (m : Areas) (c : Contents) (t : ℕ) (known : KnownObjects) : Type 0 where
   pub state : SpaceState
   pub stands : Stands m c state
   pub made : AreMade (graph_with state.graph known)
   pub private : IsPrivate (graph_with state.graph known) t known
+  pub fits : FitPages standard_limits known
 
 -- Another thread of the heap, other than the caller's own, alone knows the map.
 pub record TellsKnown (m : Areas) (c : Contents) (own t : ℕ) (known : KnownObjects) : Type 0 where
@@ -91,3 +96,16 @@ words_asked asked = 0
 -- with the thread at this depth.
 abbrev pub FillsPages : Areas → ℕ → ℕ → Type 0
 FillsPages m words depth = m.threads ≡ 1 → page_words m * m.pages ≤ 2 * words + page_words m * (depth + 1)
+
+-- ---- a call as a step
+
+-- The reply is that of a step of the thread: each state that the words stood for turns by the call, after a collection exactly
+-- where one is needed, to a state that they stand for now. Where the step tells the counts of the pages, they are kept with
+-- the depth and the words asked for, and else what was kept stays.
+pub record MakesStep (m : Areas) (was now : Contents) (t : ℕ) (asked : Call) (said : Reply) (kept kept_now : Option (Census × ℕ × ℕ)) : Type 0 where
+  pub stepped : Stepped
+  pub reply : said ≡ stepped.reply
+  pub turns : (s : SpaceState) (h : Stands m was s) → TurnsTo m was now s h (entries t asked stepped)
+  pub collected : (s : SpaceState) (h : Stands m was s) → CollectsWhere m was s h t asked stepped.reply stepped.collected
+  pub full : TellsFull now stepped.reply stepped.full
+  pub keeps : MatchOption stepped.full (kept_now ≡ kept) (λ census. kept_now ≡ Some (census, depth_of now t, words_asked asked))

@@ -5,8 +5,8 @@ pub mod Room
 pub mod Opening
 pub mod Records
 pub mod Lawful
-pub mod Callers
 pub mod Collecting
 pub mod Makings
 pub mod EpochEnds
 pub mod Done
+pub mod Callers

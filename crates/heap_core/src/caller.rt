@@ -1,6 +1,6 @@
 //! One thread's way to a heap that is owned.
 
-ghost use Rattle.std.specs.Prelude.{◌≡◌, ◌≤◌, ◌<◌, ◌+◌, ◌-◌, ◌^◌, ℕ, min, None};
+ghost use Rattle.std.specs.Prelude.{◌≡◌, ◌↔◌, ◌≤◌, ◌<◌, ◌+◌, ◌-◌, ◌^◌, ℕ, min, None, refl};
 ghost use Rattle.std.specs.Option.{ForSome};
 ghost use Rattle.std.specs.FinMap.{empty};
 ghost use Rattle.object_layout.specs.Calls.{IsCall};
@@ -11,9 +11,10 @@ ghost use Rattle.yak_model.specs.Graph.{thread_of};
 ghost use Rattle.yak_model.specs.Lawful.{present_words};
 ghost use Rattle.yak_model.specs.Placed.{used_mark};
 ghost use Rattle.yak_model.specs.Spaces.{SpaceState};
-ghost use Rattle.yak_model.specs.Standing.{counted_on, words_made};
+ghost use Rattle.yak_model.specs.Private.{KnownObjects};
+ghost use Rattle.yak_model.specs.Standing.{Counted, MovesKnown, Stays, counted_on, words_made};
 ghost use Rattle.yak_model.specs.Stands.{Stands};
-ghost use Rattle.heap_core.specs.Callers.{FillsPages, KnowsAlone, TellsKnown, TellsThread, standing_told, thread_told, words_asked, words_used};
+ghost use Rattle.heap_core.specs.Callers.{FillsPages, KnowsAlone, MakesStep, TellsKnown, TellsThread, standing_told, thread_told, words_asked, words_used};
 
 use crate::owned::Core;
 use heap_words::{Areas, Words, get_page};
@@ -38,6 +39,11 @@ pub struct CoreCaller<W: Words> {
     pub ghost has_thread: { HasThread core.map thread },
     // the present objects have at most the words of those that were present and those that were made
     pub ghost holds: { words_used (contents core.map (W.words core.words)).table ≤ present + made },
+    // the thread knows the map without objects
+    pub ghost knows_none: { ∥ KnowsAlone core.map (contents core.map (W.words core.words)) thread empty ∥₁ },
+    // there is a last call that was answered by `OutOfHeap` exactly where there were some, and no page was free then
+    pub ghost some: { last ≡ None ↔ refusals ≡ 0 },
+    pub ghost none_free: { ForSome last (λ l. l.0.free ≡ 0) },
     // where there was no room and the heap has one thread, those words fill its pages
     pub ghost filled: { ForSome last (λ l. FillsPages core.map (present + made) l.1) },
 }
@@ -55,7 +61,21 @@ impl<W: Words> Caller for CoreCaller<W> {
 
     ghost tells_known = { λ s t known. TellsKnown s.core.map (contents s.core.map (W.words s.core.words)) s.thread t known };
 
-    fn make_call(&mut self, call: Call) -> Reply {
+    ghost standard = { λ s. refl };
+
+    ghost knows_none = { λ s. s.knows_none };
+
+    ghost fit = { λ s known k. k.fits };
+
+    ghost told = { λ s. record { some = s.some; none_free = s.none_free } };
+
+    fn make_call(&mut self, call: Call) -> Reply
+        requires { IsCall call }
+        ensures stays { Stays ⟦<CoreCaller<W> as Caller>⟧.base ⟦<CoreCaller<W> as Caller>⟧.tells ⟦<CoreCaller<W> as Caller>⟧.tells_known self.old self.new }
+        ensures counted { Counted (⟦<CoreCaller<W> as Caller>⟧.standing self.old) call result (⟦<CoreCaller<W> as Caller>⟧.standing self.new) }
+        ensures known { (known : KnownObjects) → ⟦<CoreCaller<W> as Caller>⟧.knows self.old known → MovesKnown (⟦<CoreCaller<W> as Caller>⟧.standing self.old) known call result (⟦<CoreCaller<W> as Caller>⟧.standing self.new).own (⟦<CoreCaller<W> as Caller>⟧.knows self.new) }
+        ensures step { MakesStep self.old.core.map (contents self.old.core.map (W.words self.old.core.words)) (contents self.new.core.map (W.words self.new.core.words)) self.old.thread call result self.old.last self.new.last }
+    {
         let stepped = self.core.step(self.thread, call);
         self.made = count_up(self.made, words_made(call, stepped.reply));
         if let Some(census) = stepped.full {
