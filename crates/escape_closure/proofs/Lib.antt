@@ -20,6 +20,7 @@ pub mod Fates
 pub mod Afters
 pub mod LaidPages
 pub mod Regrouped
+pub mod Anew
 pub mod Leaves
 pub mod Sums
 pub mod Corrects
@@ -43,6 +44,7 @@ pub mod RegionLeaves
 pub mod Outcomes
 pub mod RunsTold
 pub mod TightReadies
+pub mod SlidPages
 pub mod TightLeaves
 pub mod MovedWords
 pub mod Costs

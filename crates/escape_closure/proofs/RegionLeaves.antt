@@ -2,7 +2,7 @@
 use Rattle.std.proofs.Common.{◌≡◌, ◌≢◌, ◌⊎◌, ◌↔◌, ℕ, ◌+◌, ◌-◌, ◌/◌, ◌≤◌, ◌<◌, false, Option, List, [], length, get_or, set, drop, refl, sym, ap, subst, ◌∙◌, arith, inl, inr, get_or-set_other}
 use Rattle.std.specs.List.{Contains, flat_map}
 use Rattle.std.proofs.lemmas.Bool.{cases_eq}
-use Rattle.std.proofs.lemmas.List.{drop-set-lt}
+use Rattle.std.proofs.lemmas.List.{drop-set-lt, length-map}
 use Rattle.std.proofs.Math.Logic.{⊎_elim}
 use Rattle.object_layout.specs.declared.names.Name.{Name}
 use Rattle.heap_words.specs.declared.map.Areas.{Areas}
@@ -21,7 +21,8 @@ use Rattle.yak_model.specs.Plans.{Move, cleared, forwarded, without}
 use Rattle.yak_model.specs.Stands.{CurrentsStand, PoolStands, RegionsDense, SetsStand, Stands, claim_counter, free_pages, pool_length, set_entries}
 use Rattle.yak_model.specs.Recorded.{IsRecorded}
 use Rattle.yak_model.proofs.Data.{in_heap}
-use Rattle.region_pages.specs.Freeing.{freed_table, free_below, with_released}
+use Rattle.region_pages.specs.Freeing.{freed as freed_row, freed_table, free_below, pool_with, with_released}
+use Rattle.region_pages.specs.declared.TheConstants.{CLAIM_COUNTER}
 use Rattle.region_pages.proofs.Shapes.{Shape}
 use Rattle.relocation.specs.Moves.{move_at}
 use Rattle.relocation.proofs.Lawful.{by_move-at}
@@ -30,11 +31,13 @@ use Rattle.remember_sets.specs.Filed.{IsFiled, LiesIn, SetsHold, with_sets}
 use Rattle.forwarding.specs.Crossing.{AreData, AreFiled, AreMoved, AreValid, IsCrossing}
 use Rattle.escape_closure.specs.Ends.{RegionEnded, StateEnded, region_word}
 use Rattle.escape_closure.specs.InTurn.{StandInTurn}
+use Rattle.escape_closure.specs.Leaves.{PoolAnew}
 use Rattle.escape_closure.specs.Leaving.{Carried, EndMoves, Leaves, RegionReady, left_behind, objects_left}
 use Rattle.escape_closure.proofs.Carries.{innermost_valid, rest}
 use Rattle.escape_closure.proofs.Fates.{OneEach, one_each}
 use Rattle.escape_closure.proofs.InTurn.{in_turn_beside, in_turn_between, in_turn_same, released_free, released_table}
-use Rattle.escape_closure.proofs.Leaves.{ended_places, state_ended}
+use Rattle.escape_closure.proofs.Anew.{claims_again, pool_anew}
+use Rattle.escape_closure.proofs.Leaves.{ended_places, rest_kept, state_ended}
 use Rattle.escape_closure.proofs.Readies.{end_moves, entries_same, plan_frame, region_ready, sets_same}
 use Rattle.escape_closure.proofs.Records.{data_left, filed_as, iff_then, moved_left, valid_left}
 use Rattle.escape_closure.proofs.Releases.{later, other_word, region_dense, region_stands, space_of_valid, spaces_left}
@@ -268,6 +271,31 @@ module _ (m : Areas) (before mid c : Contents) (s : SpaceState) (st : Stands m b
               h,
         )
 
+    -- the pool afterwards
+    abbrev freed_words : List (List ℕ)
+    freed_words = freed_table (space_index (Region t depth) + 1) moved.table
+
+    d_words : d.table ≡ freed_words
+    d_words = d_table ∙ ap (λ (x : Contents). x.table) released
+
+    d_long : length d.table ≡ m.pages
+    d_long = ap (λ (ts : List (List ℕ)). length ts) d_words ∙ length-map moved.table (freed_row (space_index (Region t depth) + 1)) ∙ ap (λ (x : Contents). length x.table) carried.frame ∙ shape.table
+
+    d_free : free_below freed_words (length freed_words) ≡ free_below d.table m.pages
+    d_free = ap (λ (ts : List (List ℕ)). free_below ts (length ts)) (sym d_words) ∙ ap (free_below d.table) d_long
+
+    anew : PoolAnew m before d
+    anew = pool_anew m before d c.heads moved.heads moved.pool (set_entries moved.heads)
+        (ap (λ (hs : List ℕ). set hs CLAIM_COUNTER 0) (ap (λ (x : Contents). x.heads) r.planned.frame ∙ ap (λ (x : Contents). set x.heads CLAIM_COUNTER (claim_counter c.heads)) r.written.frame) ∙ claims_again before.heads (claim_counter c.heads))
+        shape.heads
+        (ap (λ (x : Contents). x.pool) carried.frame ∙ ap (λ (x : Contents). x.pool) base_frame)
+        (ap (λ (x : Contents). x.heads) carried.frame)
+        (ap (λ (x : Contents). x.heads) ends ∙ ap (λ (x : Contents). x.heads) others
+        ∙ ap (λ (hs : List ℕ). set hs SET_ENTRIES (set_entries filed.heads)) freed_heads
+        ∙ ap (λ (ps : List ℕ). set (set (set moved.heads 1 0) 2 (length ps)) SET_ENTRIES (set_entries filed.heads)) d_free
+        ∙ ap (λ n. set (set (set moved.heads 1 0) 2 (length (free_below d.table m.pages))) SET_ENTRIES n) (sym (ap (λ (x : Contents). set_entries x.heads) ends)))
+        (d_pool ∙ ap (λ (x : Contents). x.pool) released ∙ ap (λ (ps : List ℕ). pool_with ps moved.pool) d_free)
+
     pub leaves : Leaves m before d s l t count moves (later m before mid c s st t count areas has low r shape.table)
     leaves = record {
       at = refl;
@@ -283,6 +311,7 @@ module _ (m : Areas) (before mid c : Contents) (s : SpaceState) (st : Stands m b
       buffers = subst AreFiled (sym (ap (λ (x : Contents). x.buffers) ends ∙ ap (λ (x : Contents). x.buffers) others ∙ ap (λ (x : Contents). x.buffers) released ∙ ap (λ (x : Contents). x.buffers) carried.frame ∙ ap (λ (x : Contents). x.buffers) base_frame)) r.filed.filed;
       limits = limits;
       pool = subst (λ (ts : List (List ℕ)). PoolStands m d.heads d.pool ts) (sym d_table) (subst (λ (ps : List ℕ). PoolStands m d.heads ps freed.table) (sym d_pool) (pool_same m freed.heads d.heads freed.pool freed.table d_claims d_pooled pool));
+      anew = anew;
       currents = subst (λ (x : Contents). CurrentsStand m x.currents x.table) (sym ends) (subst (λ (x : Contents). CurrentsStand m x.currents x.table) (sym others) (currents (subst (λ (x : Contents). CurrentsStand m x.currents x.table) (sym carried.frame) r.planned.currents)));
       sets = subst (SetsHold m) (sym ends) sets;
       dense = subst (λ (ts : List (List ℕ)). RegionsDense m ts d.currents (later m before mid c s st t count areas has low r shape.table).pages left) (sym table_is) (region_dense m before mid c s st t count areas has low r shape.table d.currents depth is shape.currents shape.slots currents_is);
@@ -330,6 +359,7 @@ module _ (m : Areas) (before mid c : Contents) (s : SpaceState) (st : Stands m b
         let was : free_pages mid.heads mid.pool ≡ free_pages before.heads before.pool = ap (λ (x : Contents). free_pages x.heads x.pool) r.written.frame in
         record {
           state = state;
+          rest = rest_kept m before s st r.filed.recorded areas t count has low moves false e d (later m before mid c s st t count areas has low r shape.table) leaves r.written.counted targets_valid;
           order = r.planned.order;
           enough = subst (λ (x : Contents). pages_needed m x s l t count r.planned.order ≤ length (free_pages x.heads x.pool)) r.written.frame r.planned.enough;
           claimed = r.planned.claimed;
