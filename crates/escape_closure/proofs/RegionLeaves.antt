@@ -354,6 +354,7 @@ module _ (m : Areas) (before mid c : Contents) (s : SpaceState) (st : Stands m b
         }
 
     pub region_ended : RegionEnded m before d s st t count
+    unfolding state
     region_ended =
         let free_same : free_pages d.heads d.pool ≡ free_pages freed.heads freed.pool = rw (d_claims, d_pooled, d_pool) refl in
         let was : free_pages mid.heads mid.pool ≡ free_pages before.heads before.pool = ap (λ (x : Contents). free_pages x.heads x.pool) r.written.frame in
