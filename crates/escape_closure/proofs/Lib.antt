@@ -14,6 +14,7 @@ pub mod Rolls
 pub mod Placing
 pub mod Weighed
 pub mod Follows
+pub mod InTurn
 pub mod Underway
 pub mod Fates
 pub mod Afters

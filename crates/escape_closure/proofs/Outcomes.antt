@@ -24,12 +24,14 @@ use Rattle.forwarding.specs.Crossing.{AreFiled}
 use Rattle.escape_closure.specs.Needs.{InOrder, pages_needed}
 use Rattle.escape_closure.specs.Targets.{TargetsWritten}
 use Rattle.escape_closure.specs.Ends.{EndPlanned, FallsShort, RegionEnded, RegionShort, TightEnded, region_word}
+use Rattle.escape_closure.specs.InTurn.{StandInTurn}
 use Rattle.escape_closure.specs.Leaving.{Begun, RegionReady, TightReady, records_of}
 use Rattle.region_pages.specs.Counts.{used_of}
 use Rattle.region_pages.proofs.Counting.{used_is}
 use Rattle.escape_closure.specs.Leaves.{IsLeftAs, RestKept, SlidInto}
 use Rattle.escape_closure.proofs.Anew.{pool_before}
 use Rattle.escape_closure.proofs.Costs.{few_words}
+use Rattle.escape_closure.proofs.InTurn.{stand_before}
 use Rattle.escape_closure.proofs.Readies.{entries_same, plan_frame, region_ready}
 use Rattle.escape_closure.proofs.RegionLeaves.{not_listed}
 use Rattle.escape_closure.proofs.Written.{none_filed, region_is}
@@ -102,8 +104,9 @@ module _ (m : Areas) (c : Contents) (s : SpaceState) (st : Stands m c s) (t esca
 
   pub region_from : (d : Contents) (count : ℕ) → RegionEnded m b.filing d s b.later t count → RegionEnded m c d s st t count
   region_from d count r =
-      let told : (o : InOrder s st.places t count) × (pages_needed m b.filing s st.places t count o ≤ length (free_pages b.filing.heads b.filing.pool)) × (length r.claimed ≡ pages_needed m b.filing s st.places t count o) =
-      subst (λ (l : Places). (o : InOrder s l t count) × (pages_needed m b.filing s l t count o ≤ length (free_pages b.filing.heads b.filing.pool)) × (length r.claimed ≡ pages_needed m b.filing s l t count o)) b.places (r.order, r.enough, r.claims) in
+      let at : Name → ℕ = r.state.stands.places.at in
+      let told : (o : InOrder s st.places t count) × (pages_needed m b.filing s st.places t count o ≤ length (free_pages b.filing.heads b.filing.pool)) × (length r.claimed ≡ pages_needed m b.filing s st.places t count o) × StandInTurn m b.filing d s st.places t count o at =
+      subst (λ (l : Places). (o : InOrder s l t count) × (pages_needed m b.filing s l t count o ≤ length (free_pages b.filing.heads b.filing.pool)) × (length r.claimed ≡ pages_needed m b.filing s l t count o) × StandInTurn m b.filing d s l t count o at) b.places (r.order, r.enough, r.claims, r.in_turn) in
       record {
         state = r.state;
         order = told.0;
@@ -114,6 +117,7 @@ module _ (m : Areas) (c : Contents) (s : SpaceState) (st : Stands m c s) (t esca
         former = sym free_filing ∙ r.former;
         claims = told.2 ∙ needed_filing st.places count told.0;
         free = λ p. subst (λ (x : Contents). Contains (free_pages d.heads d.pool) p ↔ (Contains r.left p ⊎ ((p < m.pages) × (space_word x.table p ≡ region_word s t)))) b.frame (r.free p);
+        in_turn = stand_before m c b.filing d s st.places t count told.0 at (set_entries b.filing.heads) b.filing.sets b.filing.buffers b.frame told.3;
       }
 
   pub short_from : (shortage : Shortage) → FallsShort m mid s b.later.places t shortage → FallsShort m c s st.places t shortage

@@ -15,8 +15,8 @@ use Rattle.epoch_lattice.specs.declared.TheConstants.{MAX_DEPTH}
 use Rattle.epoch_lattice.specs.Lattice.{IsValid, space_index}
 use Rattle.yak_model.specs.Spaces.{SpaceState, innermost}
 use Rattle.escape_closure.specs.Needs.{pages_needed}
-use Rattle.yak_model.specs.State.{IsClosed, IsOpen, Thing, view}
-use Rattle.yak_model.specs.Placed.{HeapStands, Holds, Places, space_word}
+use Rattle.yak_model.specs.State.{IsClosed, IsOpen, Thing, object_of, view}
+use Rattle.yak_model.specs.Placed.{HeapStands, Holds, Places, size_by, space_word}
 use Rattle.yak_model.specs.Plans.{Move, cleared, forwarded, without}
 use Rattle.yak_model.specs.Stands.{CurrentsStand, PoolStands, RegionsDense, SetsStand, Stands, claim_counter, free_pages, pool_length, set_entries}
 use Rattle.yak_model.specs.Recorded.{IsRecorded}
@@ -25,16 +25,19 @@ use Rattle.region_pages.specs.Freeing.{freed as freed_row, freed_table, free_bel
 use Rattle.region_pages.specs.declared.TheConstants.{CLAIM_COUNTER}
 use Rattle.region_pages.proofs.Shapes.{Shape}
 use Rattle.relocation.specs.Moves.{move_at}
+use Rattle.relocation.proofs.Lawful.{by_move-at}
 use Rattle.remember_sets.specs.declared.TheConstants.{SET_ENTRIES}
 use Rattle.remember_sets.specs.Filed.{IsFiled, LiesIn, SetsHold, with_sets}
 use Rattle.forwarding.specs.Crossing.{AreData, AreFiled, AreMoved, AreValid, IsCrossing}
-use Rattle.escape_closure.specs.Ends.{RegionEnded, region_word}
-use Rattle.escape_closure.specs.Leaves.{PoolAnew}
+use Rattle.escape_closure.specs.Ends.{RegionEnded, StateEnded, region_word}
+use Rattle.escape_closure.specs.InTurn.{StandInTurn}
+use Rattle.escape_closure.specs.Leaves.{PoolAnew, RestKept}
 use Rattle.escape_closure.specs.Leaving.{Carried, EndMoves, Leaves, RegionReady, left_behind, objects_left}
+use Rattle.escape_closure.proofs.Anew.{claims_again, pool_anew}
 use Rattle.escape_closure.proofs.Carries.{innermost_valid, rest}
 use Rattle.escape_closure.proofs.Fates.{OneEach, one_each}
-use Rattle.escape_closure.proofs.Anew.{claims_again, pool_anew}
-use Rattle.escape_closure.proofs.Leaves.{rest_kept, state_ended}
+use Rattle.escape_closure.proofs.InTurn.{in_turn_beside, in_turn_between, in_turn_same, released_free, released_table}
+use Rattle.escape_closure.proofs.Leaves.{ended_places, rest_kept, state_ended}
 use Rattle.escape_closure.proofs.Readies.{end_moves, entries_same, plan_frame, region_ready, sets_same}
 use Rattle.escape_closure.proofs.Records.{data_left, filed_as, iff_then, moved_left, valid_left}
 use Rattle.escape_closure.proofs.Releases.{later, other_word, region_dense, region_stands, space_of_valid, spaces_left}
@@ -315,13 +318,52 @@ module _ (m : Areas) (before mid c : Contents) (s : SpaceState) (st : Stands m b
       filed = λ a. iff_then (d_filed a) (iff_then (filed_now a) (either (moved_filed a) (outside_filed a)));
     }
 
+    -- where the objects that escaped stand
+    state : StateEnded m d s t false count
+    state = state_ended m before s st r.filed.recorded areas t count has low moves false e d (later m before mid c s st t count areas has low r shape.table) leaves r.written.counted targets_valid
+
+    rest_left : RestKept m before d s l t state.after state.stands.places.at
+    unfolding state
+    rest_left = rest_kept m before s st r.filed.recorded areas t count has low moves false e d (later m before mid c s st t count areas has low r shape.table) leaves r.written.counted targets_valid
+
+    stands_at : (k : ℕ) → k < count → (moves k).new ≡ state.stands.places.at (r.planned.order.name k)
+    unfolding state
+    stands_at k lt =
+        let n : Name = r.planned.order.name k in
+        let leads = by_move-at count moves (λ v. v.new) (l.at n) (l.at n) k e.ascending lt (sym (r.planned.moves k lt).0) in
+        let places = ended_places m before s st r.filed.recorded areas t count has low moves false e d (later m before mid c s st t count areas has low r shape.table) leaves r.written.counted targets_valid in
+        sym leads ∙ ap (λ (p : Places). p.at n) (sym places)
+
+    stand_in_turn : StandInTurn m before d s l t count r.planned.order state.stands.places.at
+    stand_in_turn =
+        let last : Contents = record c { scratch = before.scratch; heap = before.heap } in
+        let to = r.planned.order.target in
+        let sizes : ℕ → ℕ = λ k. size_by (object_of s) (r.planned.order.name k) in
+        let first = in_turn_beside m t count to sizes (λ k. (moves k).new) mid (record c { scratch = mid.scratch; heap = mid.heap }) before.scratch before.heap r.planned.in_turn in
+        let turn = in_turn_between m t count to sizes (λ k. (moves k).new) (record mid { scratch = before.scratch; heap = before.heap }) before last last (ap (λ (x : Contents). record x { scratch = before.scratch; heap = before.heap }) r.written.frame) refl first in
+        record {
+          last = last;
+          placed = in_turn_same m t count to to sizes sizes (λ k. (moves k).new) (λ k. state.stands.places.at (r.planned.order.name k)) before last (λ k lt. refl) (λ k lt. refl) stands_at turn;
+          table = table_is ∙ sym (released_table last (innermost s.graph t));
+          currents = currents_is ∙ ap (λ (y : Space). (with_released last y).currents) (sym region);
+          pool =
+              let heads : moved.heads ≡ set c.heads SET_ENTRIES (set_entries moved.heads) = ap (λ (x : Contents). x.heads) carried.frame in
+              let pool_is : moved.pool ≡ c.pool = ap (λ (x : Contents). x.pool) carried.frame in
+              let table : moved.table ≡ c.table = ap (λ (x : Contents). x.table) carried.frame in
+              let free_same : free_pages d.heads d.pool ≡ free_pages freed.heads freed.pool = rw (d_claims, d_pooled, d_pool) refl in
+              free_same
+              ∙ ap (λ (x : Contents). free_pages x.heads x.pool) released
+              ∙ released_free moved last (set_entries moved.heads) (Region t depth) heads pool_is table
+              ∙ ap (λ (y : Space). free_pages (with_released last y).heads (with_released last y).pool) (sym region);
+        }
+
     pub region_ended : RegionEnded m before d s st t count
     region_ended =
         let free_same : free_pages d.heads d.pool ≡ free_pages freed.heads freed.pool = rw (d_claims, d_pooled, d_pool) refl in
         let was : free_pages mid.heads mid.pool ≡ free_pages before.heads before.pool = ap (λ (x : Contents). free_pages x.heads x.pool) r.written.frame in
         record {
-          state = state_ended m before s st r.filed.recorded areas t count has low moves false e d (later m before mid c s st t count areas has low r shape.table) leaves r.written.counted targets_valid;
-          rest = rest_kept m before s st r.filed.recorded areas t count has low moves false e d (later m before mid c s st t count areas has low r shape.table) leaves r.written.counted targets_valid;
+          state = state;
+          rest = rest_left;
           order = r.planned.order;
           enough = subst (λ (x : Contents). pages_needed m x s l t count r.planned.order ≤ length (free_pages x.heads x.pool)) r.written.frame r.planned.enough;
           claimed = r.planned.claimed;
@@ -329,4 +371,5 @@ module _ (m : Areas) (before mid c : Contents) (s : SpaceState) (st : Stands m b
           former = sym was ∙ r.planned.free;
           claims = r.planned.claims ∙ ap (λ (x : Contents). pages_needed m x s l t count r.planned.order) r.written.frame;
           free = λ p. subst (λ (xs : List ℕ). Contains xs p ↔ (Contains (free_pages c.heads c.pool) p ⊎ ((p < m.pages) × (space_word before.table p ≡ region_word s t)))) (sym free_same) (free_after p);
+          in_turn = stand_in_turn;
         }

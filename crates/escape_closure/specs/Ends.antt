@@ -26,6 +26,7 @@ use Rattle.forwarding.specs.Crossing.{AreFiled}
 use Rattle.escape_closure.specs.Leaves.{FilesRecorded, IsLeftAs, RestKept, SlidInto}
 use Rattle.escape_closure.specs.Targets.{IsEscaping}
 use Rattle.escape_closure.specs.Needs.{InOrder, pages_needed}
+use Rattle.escape_closure.specs.InTurn.{EscapingInTurn, StandInTurn}
 
 -- The word in the page table of the pages of a thread's innermost region.
 abbrev pub region_word : SpaceState → ℕ → ℕ
@@ -74,6 +75,7 @@ pub record EndPlanned (m : Areas) (c d : Contents) (s : SpaceState) (l : Places)
   pub fits : TableFits m d.table
   pub own : (u e : ℕ) → Region u e ≡ innermost s.graph t → current d.currents u e ≡ current c.currents u e
   pub dense : (u e : ℕ) → 1 ≤ u → u ≤ m.threads → 1 ≤ e → e ≤ max_depth m → Region u e ≢ innermost s.graph t → 0 < pages_of d.table (Region u e) → (current d.currents u e ≢ 0) × (page_words m * (pages_of d.table (Region u e) - 1) + used_mark d.table (current d.currents u e - 1) ≤ 2 * (words_of l.pages (object_of s) (Region u e) + words_into order.target (λ k. size_by (object_of s) (order.name k)) (Region u e) count))
+  pub in_turn : EscapingInTurn m s l t count order (λ k. (move_at d.scratch k).new) c (record d { scratch = c.scratch; heap = c.heap })
 
 -- The pages that the escaping objects need are more than the free ones, and these are both numbers.
 pub record FallsShort (m : Areas) (c : Contents) (s : SpaceState) (l : Places) (t : ℕ) (shortage : Shortage) : Type 0 where
@@ -135,6 +137,7 @@ pub record RegionEnded (m : Areas) (c d : Contents) (s : SpaceState) (stands : S
   pub former : free_pages c.heads c.pool ≡ claimed ++ left
   pub claims : length claimed ≡ pages_needed m c s stands.places t moved order
   pub free : (p : ℕ) → Contains (free_pages d.heads d.pool) p ↔ (Contains left p ⊎ ((p < m.pages) × (space_word c.table p ≡ region_word s t)))
+  pub in_turn : StandInTurn m c d s stands.places t moved order state.stands.places.at
 
 -- An end that found the free pages too few: the buffers are filed, and nothing else has changed but the scratch area, which
 -- has no meaning between calls.

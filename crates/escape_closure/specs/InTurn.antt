@@ -1,0 +1,35 @@
+-- Objects that are placed one after another by the rule of placement.
+use Rattle.std.specs.Prelude.{◌≡◌, ℕ, ◌+◌, ◌<◌}
+use Rattle.object_layout.specs.declared.names.Name.{Name}
+use Rattle.epoch_lattice.specs.declared.Space.{Space}
+use Rattle.heap_words.specs.declared.map.Areas.{Areas}
+use Rattle.heap_words.specs.Contents.{Contents}
+use Rattle.yak_model.specs.Spaces.{SpaceState, innermost}
+use Rattle.yak_model.specs.State.{object_of}
+use Rattle.yak_model.specs.Placed.{Places, size_by}
+use Rattle.yak_model.specs.Stands.{free_pages}
+use Rattle.region_pages.specs.Freeing.{with_released}
+use Rattle.region_pages.specs.Placement.{IsPlaced}
+use Rattle.escape_closure.specs.Placing.{owner}
+use Rattle.escape_closure.specs.Needs.{InOrder}
+
+-- Objects of some words are placed one after another, each in a space at an address: from words to words, one step of the
+-- rule of placement for each object. In Control the current page is that of a thread, in a region it is the region's own.
+pub record PlacedInTurn (m : Areas) (t count : ℕ) (space : ℕ → Space) (size address : ℕ → ℕ) (c d : Contents) : Type 0 where
+  pub words : ℕ → Contents
+  pub begins : words 0 ≡ c
+  pub placed : (k : ℕ) → k < count → IsPlaced m (words k) (owner t (space k)) (space k) (size k) (address k) (words (k + 1))
+  pub ends : words count ≡ d
+
+-- The escaping objects are placed so, by ascending address, each in its target.
+abbrev pub EscapingInTurn : (m : Areas) (s : SpaceState) (l : Places) (t count : ℕ) → InOrder s l t count → (ℕ → ℕ) → Contents → Contents → Type 0
+EscapingInTurn m s l t count o address c d = PlacedInTurn m t count o.target (λ k. size_by (object_of s) (o.name k)) address c d
+
+-- After an end the objects that escaped stand where the rule of placement puts them, from the words before it. The page
+-- table, the current pages and the pool are those which this leaves once the region has given its pages back.
+pub record StandInTurn (m : Areas) (c d : Contents) (s : SpaceState) (l : Places) (t count : ℕ) (o : InOrder s l t count) (at : Name → ℕ) : Type 0 where
+  pub last : Contents
+  pub placed : EscapingInTurn m s l t count o (λ k. at (o.name k)) c last
+  pub table : d.table ≡ (with_released last (innermost s.graph t)).table
+  pub currents : d.currents ≡ (with_released last (innermost s.graph t)).currents
+  pub pool : free_pages d.heads d.pool ≡ free_pages (with_released last (innermost s.graph t)).heads (with_released last (innermost s.graph t)).pool
