@@ -14,10 +14,9 @@ use Rattle.heap_words.specs.Contents.{Contents, depth_of, with_readers}
 use Rattle.yak_model.specs.Graph.{Thread, thread_of}
 use Rattle.yak_model.specs.History.{Entry, Said, Collected}
 use Rattle.yak_model.specs.Lawful.{HasWords, open_regions, present_words}
-use Rattle.yak_model.specs.Spaces.{Escapes, SpaceState, innermost}
+use Rattle.yak_model.specs.Spaces.{Collects, Escapes, SpaceState, innermost}
 use Rattle.yak_model.specs.Stands.{Stands}
 use Rattle.yak_model.specs.Recorded.{Recorded}
-use Rattle.mark_compact.specs.Collected.{StateCollected}
 use Rattle.escape_closure.specs.Ends.{RegionEnded, RegionShort}
 use Rattle.heap_core.specs.declared.owned.Stepped.{Stepped}
 use Rattle.heap_core.specs.Done.{CollectsForEnd, Done, RecordsEnd, TellsShortage}
@@ -82,9 +81,9 @@ pub record Ending (m : Areas) (was now : Contents) (s : SpaceState) (h : Stands 
   pub no_fault : said ≢ reply.OutOfHeap
 
 -- the readers after an end that stands behind a collection
-closed-readers : (m : Areas) (was between tried now : Contents) (s : SpaceState) (h : Stands m was s) (t : ℕ) (x : StateCollected m between s) → between.readers ≡ was.readers → tried.readers ≡ between.readers → depth_of tried t ≡ depth_of between t → now.readers ≡ (with_readers tried t (depth_of tried t) 0).readers → now.readers ≡ (with_readers was t (depth_of was t) 0).readers
-closed-readers m was between tried now s h t x first then deep last =
-    let depth : depth_of between t ≡ depth_of was t = ap (λ (is : List ℕ). get_or is (t - 1) 0) (x.stands.stands.depths ∙ ap (λ (ts : List Thread). map (λ (th : Thread). th.depth) ts) (kept-threads s x.after x.collects) ∙ sym h.stands.depths) in
+closed-readers : (m : Areas) (was between tried now : Contents) (s : SpaceState) (h : Stands m was s) (t : ℕ) (after : SpaceState) → Collects s after → Stands m between after → between.readers ≡ was.readers → tried.readers ≡ between.readers → depth_of tried t ≡ depth_of between t → now.readers ≡ (with_readers tried t (depth_of tried t) 0).readers → now.readers ≡ (with_readers was t (depth_of was t) 0).readers
+closed-readers m was between tried now s h t after collects later first then deep last =
+    let depth : depth_of between t ≡ depth_of was t = ap (λ (is : List ℕ). get_or is (t - 1) 0) (later.stands.depths ∙ ap (λ (ts : List Thread). map (λ (th : Thread). th.depth) ts) (kept-threads s after collects) ∙ sym h.stands.depths) in
     last
     ∙ ap (λ i. row_set tried.readers (t - 1) (i - 1) 0) (deep ∙ depth)
     ∙ ap (λ (rs : List (List ℕ)). row_set rs (t - 1) (depth_of was t - 1) 0) (then ∙ first)
@@ -108,7 +107,7 @@ ended-after m was first now s h t moved found ht short e = record {
   lawful = λ before. (inr (moved, false, [], refl), λ mid turned. (tt, λ last more. tt));
   makes = (found, short.short);
   tells = λ other same. cc;
-  records = record { filed = e.ended.state.filed; readers = closed-readers m was e.between e.between now s h t e.state (e.room.readers ∙ ap (λ (x : Contents). x.readers) short.frame) refl refl (ap (λ (x : Contents). x.readers) e.ended.rest.frame) };
+  records = record { filed = e.ended.state.filed; readers = closed-readers m was e.between e.between now s h t e.state.after e.state.collects e.state.stands (e.room.readers ∙ ap (λ (x : Contents). x.readers) short.frame) refl refl (ap (λ (x : Contents). x.readers) e.ended.rest.frame) };
   no_fault = λ same. cc;
 }
 
@@ -124,7 +123,7 @@ tight-after m was first now s h t moved shortage found areas ht short e = record
   );
   makes = (found, short.short);
   tells = ((moved, refl), e.short.short.more, record { between = e.between; state = e.state; short = e.short.short });
-  records = record { filed = e.ended.state.filed; readers = closed-readers m was e.between e.tried now s h t e.state (e.room.readers ∙ ap (λ (x : Contents). x.readers) short.frame) (ap (λ (x : Contents). x.readers) e.short.frame) (ap (λ (x : Contents). depth_of x t) e.short.frame) (ap (λ (x : Contents). x.readers) e.ended.rest.frame) };
+  records = record { filed = e.ended.state.filed; readers = closed-readers m was e.between e.tried now s h t e.state.after e.state.collects e.state.stands (e.room.readers ∙ ap (λ (x : Contents). x.readers) short.frame) (ap (λ (x : Contents). x.readers) e.short.frame) (ap (λ (x : Contents). depth_of x t) e.short.frame) (ap (λ (x : Contents). x.readers) e.ended.rest.frame) };
   no_fault = λ same. cc;
 }
 
