@@ -31,12 +31,12 @@ use Rattle.remember_sets.specs.Filed.{IsFiled, LiesIn, SetsHold, with_sets}
 use Rattle.forwarding.specs.Crossing.{AreData, AreFiled, AreMoved, AreValid, IsCrossing}
 use Rattle.escape_closure.specs.Ends.{RegionEnded, StateEnded, region_word}
 use Rattle.escape_closure.specs.InTurn.{StandInTurn}
-use Rattle.escape_closure.specs.Leaves.{PoolAnew}
+use Rattle.escape_closure.specs.Leaves.{PoolAnew, RestKept}
 use Rattle.escape_closure.specs.Leaving.{Carried, EndMoves, Leaves, RegionReady, left_behind, objects_left}
+use Rattle.escape_closure.proofs.Anew.{claims_again, pool_anew}
 use Rattle.escape_closure.proofs.Carries.{innermost_valid, rest}
 use Rattle.escape_closure.proofs.Fates.{OneEach, one_each}
 use Rattle.escape_closure.proofs.InTurn.{in_turn_beside, in_turn_between, in_turn_same, released_free, released_table}
-use Rattle.escape_closure.proofs.Anew.{claims_again, pool_anew}
 use Rattle.escape_closure.proofs.Leaves.{ended_places, rest_kept, state_ended}
 use Rattle.escape_closure.proofs.Readies.{end_moves, entries_same, plan_frame, region_ready, sets_same}
 use Rattle.escape_closure.proofs.Records.{data_left, filed_as, iff_then, moved_left, valid_left}
@@ -322,6 +322,10 @@ module _ (m : Areas) (before mid c : Contents) (s : SpaceState) (st : Stands m b
     state : StateEnded m d s t false count
     state = state_ended m before s st r.filed.recorded areas t count has low moves false e d (later m before mid c s st t count areas has low r shape.table) leaves r.written.counted targets_valid
 
+    rest_left : RestKept m before d s l t state.after state.stands.places.at
+    unfolding state
+    rest_left = rest_kept m before s st r.filed.recorded areas t count has low moves false e d (later m before mid c s st t count areas has low r shape.table) leaves r.written.counted targets_valid
+
     stands_at : (k : ℕ) → k < count → (moves k).new ≡ state.stands.places.at (r.planned.order.name k)
     unfolding state
     stands_at k lt =
@@ -354,13 +358,12 @@ module _ (m : Areas) (before mid c : Contents) (s : SpaceState) (st : Stands m b
         }
 
     pub region_ended : RegionEnded m before d s st t count
-    unfolding state
     region_ended =
         let free_same : free_pages d.heads d.pool ≡ free_pages freed.heads freed.pool = rw (d_claims, d_pooled, d_pool) refl in
         let was : free_pages mid.heads mid.pool ≡ free_pages before.heads before.pool = ap (λ (x : Contents). free_pages x.heads x.pool) r.written.frame in
         record {
           state = state;
-          rest = rest_kept m before s st r.filed.recorded areas t count has low moves false e d (later m before mid c s st t count areas has low r shape.table) leaves r.written.counted targets_valid;
+          rest = rest_left;
           order = r.planned.order;
           enough = subst (λ (x : Contents). pages_needed m x s l t count r.planned.order ≤ length (free_pages x.heads x.pool)) r.written.frame r.planned.enough;
           claimed = r.planned.claimed;

@@ -53,9 +53,9 @@ pub record PoolAnew (m : Areas) (c d : Contents) : Type 0 where
   pub heads : d.heads ≡ slice_set (slice_set (slice_set c.heads CLAIM_COUNTER 0) POOL_LENGTH (length (free_below d.table m.pages))) SET_ENTRIES (set_entries d.heads)
   pub pool : d.pool ≡ pool_with (free_below d.table m.pages) c.pool
 
--- The objects outside the region stay where they are, the slots above are filed, and the pool is made anew. The region has no
--- readers, and all other readers are as they were; the thread is one epoch less deep, and no other depth and no number made has
--- changed.
+-- The objects outside the region stand where they stood, exactly the slots told above are filed, and the pool is made anew. The
+-- region has no readers, and the readers of all others are as they were; the thread is one epoch less deep, and no other depth
+-- and no number made has changed.
 pub record RestKept (m : Areas) (c d : Contents) (s : SpaceState) (l : Places) (t : ℕ) (after : SpaceState) (at : Name → ℕ) : Type 0 where
   pub stays : (n : Name) → IsPresent s n → home_of s n ≢ Some (innermost s.graph t) → at n ≡ l.at n
   pub filed : FilesEnded m c d s t (object_of after) at
