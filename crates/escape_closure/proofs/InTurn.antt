@@ -165,7 +165,9 @@ stand_before m c filing d s l t count o at n sets buffers frame h =
     record {
       last = last;
       placed = in_turn_between m t count _ _ _ (recording k c.sets c.buffers filing) c last last before refl (in_turn_recording m t count _ _ _ filing h.last k c.sets c.buffers h.placed);
-      table = h.table ∙ released_table h.last (innermost s.graph t) ∙ sym (released_table last (innermost s.graph t));
-      currents = h.currents ∙ released_currents h.last last (innermost s.graph t) refl;
-      pool = h.pool ∙ sym (released_free last h.last k (innermost s.graph t) refl refl refl);
+      left = with_released last (innermost s.graph t);
+      released = refl;
+      table = h.table ∙ ap (λ (x : Contents). x.table) h.released ∙ released_table h.last (innermost s.graph t) ∙ sym (released_table last (innermost s.graph t));
+      currents = h.currents ∙ ap (λ (x : Contents). x.currents) h.released ∙ released_currents h.last last (innermost s.graph t) refl;
+      free = h.free ∙ ap (λ (x : Contents). free_pages x.heads x.pool) h.released ∙ sym (released_free last h.last k (innermost s.graph t) refl refl refl);
     }

@@ -26,10 +26,12 @@ abbrev pub EscapingInTurn : (m : Areas) (s : SpaceState) (l : Places) (t count :
 EscapingInTurn m s l t count o address c d = PlacedInTurn m t count o.target (λ k. size_by (object_of s) (o.name k)) address c d
 
 -- After an end the objects that escaped stand where the rule of placement puts them, from the words before it. The page
--- table, the current pages and the pool are those which this leaves once the region has given its pages back.
+-- table, the current pages and the free pages are those that this leaves once the region has given its pages back.
 pub record StandInTurn (m : Areas) (c d : Contents) (s : SpaceState) (l : Places) (t count : ℕ) (o : InOrder s l t count) (at : Name → ℕ) : Type 0 where
   pub last : Contents
   pub placed : EscapingInTurn m s l t count o (λ k. at (o.name k)) c last
-  pub table : d.table ≡ (with_released last (innermost s.graph t)).table
-  pub currents : d.currents ≡ (with_released last (innermost s.graph t)).currents
-  pub pool : free_pages d.heads d.pool ≡ free_pages (with_released last (innermost s.graph t)).heads (with_released last (innermost s.graph t)).pool
+  pub left : Contents
+  pub released : left ≡ with_released last (innermost s.graph t)
+  pub table : d.table ≡ left.table
+  pub currents : d.currents ≡ left.currents
+  pub free : free_pages d.heads d.pool ≡ free_pages left.heads left.pool
