@@ -1,5 +1,5 @@
 -- How a run of the program ends: its status, what the status says of the words and of the input, and what is written.
-use Rattle.std.specs.Prelude.{◌≡◌, ◌<◌, ◌≤◌, ◌⊎◌, ℕ, true, false, List, [], ◌++◌, length, codes, decimal, Option, Some, None, IfSome}
+use Rattle.std.specs.Prelude.{◌≡◌, ◌*◌, ◌<◌, ◌≤◌, ◌⊎◌, ℕ, true, false, List, [], ◌++◌, length, codes, decimal, Option, Some, None, IfSome}
 use Rattle.std.specs.List.{flat_map}
 use Rattle.std.specs.Io.KnownBytes.{Appends}
 use Rattle.yak_io.specs.Causes.{Rose}
@@ -16,6 +16,8 @@ use Rattle.script_text.specs.Scripts.{IsScript, IsBadLine}
 use Rattle.script_runner.specs.Runs.{Held, IsRun}
 use Rattle.object_layout.specs.declared.replies.Census.{Census}
 use Rattle.heap_words.specs.Contents.{contents}
+use Rattle.heap_words.specs.Map.{page_words}
+use Rattle.yak_model.specs.Room.{least_room}
 use Rattle.yak_model.specs.Texts.{counts_of, words_of}
 use Rattle.group_jobs.specs.LongWords.{has_long_word, long_word_line}
 use Rattle.group_jobs.specs.Printing.{count_line}
@@ -76,13 +78,15 @@ pub record Generates (rounds : ℕ) (text : List ℕ) (held : Held) : Type 0 whe
   pub run : IsRun (generated rounds).heap (generated rounds).lines replies held
   pub written : text ≡ summary (generated rounds).lines replies
 
--- The words of the bytes, none of them too long, were counted by one worker in a heap of the command's pages, which it left with
--- a table of the counts, and the text has one line for each word, in ascending order.
+-- The words of the bytes, none of them too long, were counted by one worker in a heap of the command's pages, which have room for
+-- the root and the tables of the counts. It left the heap with a table of the counts, and the text has one line for each word, in
+-- ascending order.
 pub record Counts (options : Options) (bytes text : List ℕ) (held : Held) : Type 0 where
   pub short : has_long_word bytes ≡ false
   pub map : held.map ≡ record { pages = options.pages; threads = 1 }
   pub heap : HoldsCounts held.map (contents held.map held.words) (words_of bytes)
   pub written : text ≡ flat_map count_line (counts_of (words_of bytes))
+  pub room : least_room (words_of bytes) ≤ page_words (record { pages = options.pages; threads = 1 }) * options.pages
 
 -- The words of the bytes, none of them too long, found no room in a heap of the command's pages, which tells why.
 pub record RunsOut (options : Options) (bytes : List ℕ) : Type 0 where
