@@ -9,8 +9,9 @@ use Rattle.object_layout.specs.declared.replies.Shortage.{Shortage}
 use Rattle.object_layout.specs.declared.replies.Census as layout
 use Rattle.object_layout.specs.declared.TheConstants.{OBJECT_WORDS}
 use Rattle.heap_words.specs.declared.map.Areas.{Areas}
+use Rattle.heap_words.specs.Map.{HasRegion}
 use Rattle.heap_words.specs.Contents.{Contents}
-use Rattle.epoch_lattice.specs.declared.Space.TheVariants.{Control}
+use Rattle.epoch_lattice.specs.declared.Space.TheVariants.{Control, Region}
 use Rattle.yak_model.specs.History.{Entry}
 use Rattle.yak_model.specs.Spaces.{SpaceState}
 use Rattle.yak_model.specs.Stands.{Stands}
@@ -127,6 +128,10 @@ EndsSo m was now t asked said = Unit {0}
 abbrev pub PacksControl : (m : Areas) (now : Contents) (s : SpaceState) → Stands m now s → Call → Type 0
 PacksControl m now s stands Collect = IsPacked m now s stands Control
 PacksControl m now s stands asked = Unit {0}
+
+-- Each region of the heap's threads wastes at most half of its pages, but for one page.
+abbrev pub RegionsPacked : Areas → Contents → Type 0
+RegionsPacked m c = (s : SpaceState) (h : Stands m c s) (t d : ℕ) → HasRegion m t d → IsPacked m c s h (Region t d)
 
 -- All that a step does and says.
 pub record Done (m : Areas) (was now : Contents) (t : ℕ) (asked : Call) (said : Stepped) : Type 0 where
