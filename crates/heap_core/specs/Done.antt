@@ -19,7 +19,7 @@ use Rattle.yak_model.specs.Recorded.{Recorded}
 use Rattle.yak_model.specs.Packed.{IsFull, IsPacked}
 use Rattle.mark_compact.specs.Collected.{RoomCollected, StateCollected}
 use Rattle.forwarding.specs.Crossing.{AreFiled}
-use Rattle.escape_closure.specs.Ends.{FallsShort, HasEnough}
+use Rattle.escape_closure.specs.Ends.{FallsShort, HasEnough, RegionShort}
 use Rattle.heap_core.specs.declared.owned.Stepped.{Stepped}
 use Rattle.heap_core.specs.Collecting.{CountsFull, counted}
 use Rattle.heap_core.specs.EpochEnds.{IsEnd, IsShort}
@@ -57,17 +57,22 @@ abbrev pub FillsHeap : (m : Areas) (now : Contents) (s : SpaceState) → Stands 
 FillsHeap m now s stands t (New k) said = said ≡ OutOfHeap → IsFull m now s stands t k
 FillsHeap m now s stands t asked said = said ≢ OutOfHeap
 
--- After a collection of the state the objects that escape still need more pages than are free, and these are both numbers.
-pub record ShortAfter (m : Areas) (s : SpaceState) (t : ℕ) (shortage : Shortage) : Type 0 where
+-- The free pages were too few at the call, and after the collection that then was made the objects that escape still need more
+-- pages than are free. These are both numbers.
+pub record ShortAfter (m : Areas) (was : Contents) (s : SpaceState) (stands : Stands m was s) (t : ℕ) (shortage : Shortage) : Type 0 where
+  pub first : Contents
+  pub found : Shortage
+  pub tried : RegionShort m was first s stands t found
   pub between : Contents
-  pub state : StateCollected m between s
+  pub room : RoomCollected m first between t
+  pub state : StateCollected m first between s tried.later
   pub short : FallsShort m between state.after state.stands.places t shortage
 
 -- The shortage is told exactly where an end was tight.
-abbrev pub TellsShortage : Areas → SpaceState → ℕ → Reply → Option Shortage → Type 0
-TellsShortage m s t said shortage =
+abbrev pub TellsShortage : (m : Areas) (was : Contents) (s : SpaceState) → Stands m was s → ℕ → Reply → Option Shortage → Type 0
+TellsShortage m was s stands t said shortage =
     MatchOption shortage ((moved : ℕ) → said ≢ Ended moved true)
-    (λ numbers. ((moved : ℕ) × (said ≡ Ended moved true)) × (numbers.free < numbers.needed) × ShortAfter m s t numbers)
+    (λ numbers. ((moved : ℕ) × (said ≡ Ended moved true)) × (numbers.free < numbers.needed) × ShortAfter m was s stands t numbers)
 
 -- A census tells the exact counts.
 abbrev pub TellsPages : Contents → Call → Reply → Type 0
@@ -140,7 +145,7 @@ pub record Done (m : Areas) (was now : Contents) (t : ℕ) (asked : Call) (said 
   pub collected : (s : SpaceState) (h : Stands m was s) → Recorded m was s h → CollectsWhere m was s h t asked said.reply said.collected
   pub full : TellsFull now said.reply said.full
   pub filled : (s : SpaceState) (h : Stands m now s) → FillsHeap m now s h t asked said.reply
-  pub shortage : (s : SpaceState) (h : Stands m was s) → Recorded m was s h → TellsShortage m s t said.reply said.shortage
+  pub shortage : (s : SpaceState) (h : Stands m was s) → Recorded m was s h → TellsShortage m was s h t said.reply said.shortage
   pub ended : EndsSo m was now t asked said
   pub counts : TellsPages was asked said.reply
   pub packed : (s : SpaceState) (h : Stands m now s) → PacksControl m now s h asked

@@ -85,7 +85,7 @@ impl<W: Words> Core<W> {
         ensures collected { (s : SpaceState) (h : Stands self.old.map (contents self.old.map (W.words self.old.words)) s) → CollectsWhere self.old.map (contents self.old.map (W.words self.old.words)) s h thread call result.reply result.collected }
         ensures full { TellsFull (contents self.new.map (W.words self.new.words)) result.reply result.full }
         ensures filled { (s : SpaceState) (h : Stands self.new.map (contents self.new.map (W.words self.new.words)) s) → FillsHeap self.new.map (contents self.new.map (W.words self.new.words)) s h thread call result.reply }
-        ensures shortage { (s : SpaceState) → Stands self.old.map (contents self.old.map (W.words self.old.words)) s → TellsShortage self.old.map s thread result.reply result.shortage }
+        ensures shortage { (s : SpaceState) (h : Stands self.old.map (contents self.old.map (W.words self.old.words)) s) → TellsShortage self.old.map (contents self.old.map (W.words self.old.words)) s h thread result.reply result.shortage }
         ensures ended { EndsSo self.old.map (contents self.old.map (W.words self.old.words)) (contents self.new.map (W.words self.new.words)) thread call result }
         ensures census { TellsPages (contents self.old.map (W.words self.old.words)) call result.reply }
         ensures packed { call ≡ Call.Collect → (s : SpaceState) (h : Stands self.new.map (contents self.new.map (W.words self.new.words)) s) → IsPacked self.new.map (contents self.new.map (W.words self.new.words)) s h Control }
