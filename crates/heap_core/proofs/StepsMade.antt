@@ -111,7 +111,7 @@ done-after m was now t k said ht short h = record {
         filed = rw same.buffers h.collected.room.filed;
         readers = same.readers ∙ h.collected.room.readers;
       };
-  room = record { short = short; between = h.between; room = h.collected.room; then = h.turned.room };
+  room = record { short = short; between = h.between; collected = h.collected; then = h.turned.room };
   idle = λ i. absurd (not-idle (call.New k) reply.Ok (λ no. no) (λ why q. cc) i);
 }
 
@@ -138,7 +138,7 @@ done-full m was now t k said areas ht rows some short h =
       counts = tt;
       packed = λ s stands. tt;
       records = λ s stands r. record { filed = h.collected.room.filed; readers = h.collected.room.readers };
-      room = record { short = short; between = now; room = h.collected.room; then = (h.none, same_room now) };
+      room = record { short = short; between = now; collected = h.collected; then = (h.none, same_room now) };
       idle = λ i. absurd (not-idle (call.New k) reply.OutOfHeap (λ no. no) (λ why q. cc) i);
     }
 
@@ -164,7 +164,7 @@ done-collected m was now t ht rows some h = record {
   counts = tt;
   packed = packed-after m was now t some h rows;
   records = λ s stands r. record { filed = h.room.filed; readers = h.room.readers };
-  room = h.room;
+  room = h;
   idle = λ i. absurd (not-idle call.Collect reply.Ok (λ no. no) (λ why q. cc) i);
 }
 

@@ -21,7 +21,7 @@ use Rattle.mark_compact.specs.Collected.{RoomCollected, StateCollected}
 use Rattle.forwarding.specs.Crossing.{AreFiled}
 use Rattle.escape_closure.specs.Ends.{FallsShort, HasEnough, RegionShort}
 use Rattle.heap_core.specs.declared.owned.Stepped.{Stepped}
-use Rattle.heap_core.specs.Collecting.{CountsFull, counted}
+use Rattle.heap_core.specs.Collecting.{CountsFull, IsCollected, counted}
 use Rattle.heap_core.specs.EpochEnds.{IsEnd, IsShort}
 use Rattle.heap_core.specs.Lawful.{AreLawful, PackedIfAsked}
 use Rattle.heap_core.specs.Records.{Records, SameRecords}
@@ -107,7 +107,7 @@ StepRecords m s at was now t asked said collected = Records m s at was now t ask
 pub record MakesRoom (m : Areas) (was : Contents) (t size : ℕ) (more : Contents → Type 0) : Type 0 where
   pub short : HasNoRoom m was t size
   pub between : Contents
-  pub room : RoomCollected m was between t
+  pub collected : IsCollected m was between t
   pub then : more between
 
 -- An object takes its place, at once or after a collection, or has no room after a collection either.
@@ -121,7 +121,7 @@ RoomForNew m was now t size said collected = SameRoom was now
 abbrev pub StepRoom : Areas → Contents → Contents → ℕ → Call → Reply → Bool → Type 0
 StepRoom m was now t (New k) said collected = RoomForNew m was now t (k + OBJECT_WORDS) said collected
 StepRoom m was now t End said collected = Unit {0}
-StepRoom m was now t Collect said collected = RoomCollected m was now t
+StepRoom m was now t Collect said collected = IsCollected m was now t
 StepRoom m was now t asked said collected = TakesRoom m was now t asked said
 
 -- An end ends the epoch as the rules have it.
