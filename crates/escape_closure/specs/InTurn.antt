@@ -1,5 +1,5 @@
 -- Objects that are placed one after another by the rule of placement.
-use Rattle.std.specs.Prelude.{◌≡◌, ℕ, ◌+◌, ◌<◌}
+use Rattle.std.specs.Prelude.{◌≡◌, ℕ, ◌+◌, ◌<◌, []}
 use Rattle.object_layout.specs.declared.names.Name.{Name}
 use Rattle.epoch_lattice.specs.declared.Space.{Space}
 use Rattle.heap_words.specs.declared.map.Areas.{Areas}
@@ -9,7 +9,7 @@ use Rattle.yak_model.specs.State.{object_of}
 use Rattle.yak_model.specs.Placed.{Places, size_by}
 use Rattle.yak_model.specs.Stands.{free_pages}
 use Rattle.region_pages.specs.Freeing.{with_released}
-use Rattle.region_pages.specs.Placement.{IsPlaced}
+use Rattle.region_pages.specs.Placement.{IsPlaced, depth_in, words_left_at}
 use Rattle.escape_closure.specs.Placing.{owner}
 use Rattle.escape_closure.specs.Needs.{InOrder}
 
@@ -20,6 +20,17 @@ pub record PlacedInTurn (m : Areas) (t count : ℕ) (space : ℕ → Space) (siz
   pub begins : words 0 ≡ c
   pub placed : (k : ℕ) → k < count → IsPlaced m (words k) (owner t (space k)) (space k) (size k) (address k) (words (k + 1))
   pub ends : words count ≡ d
+
+-- The rule of placement comes to an object for which there is no place: in the words after the objects before it, the current
+-- page of its space has too few words left, and no page is free.
+pub record RunsOut (m : Areas) (t count : ℕ) (space : ℕ → Space) (size : ℕ → ℕ) (c : Contents) : Type 0 where
+  pub reached : ℕ
+  pub fewer : reached < count
+  pub address : ℕ → ℕ
+  pub last : Contents
+  pub placed : PlacedInTurn m t reached space size address c last
+  pub little : words_left_at m last (owner t (space reached)) (depth_in (space reached)) < size reached
+  pub none : free_pages last.heads last.pool ≡ []
 
 -- The escaping objects are placed so, by ascending address, each in its target.
 abbrev pub EscapingInTurn : (m : Areas) (s : SpaceState) (l : Places) (t count : ℕ) → InOrder s l t count → (ℕ → ℕ) → Contents → Contents → Type 0
