@@ -2,7 +2,7 @@
 use Rattle.std.proofs.Common.{◌≡◌, ◌≢◌, ◌⊎◌, ℕ, ◌+◌, ◌*◌, ◌/◌, ◌≤◌, ◌<◌, Option, Some, None, List, [], ◌∷◌, length, map, get_or, zero, suc, refl, sym, ap, subst, ◌∙◌, arith, inl, inr}
 use Rattle.std.proofs.Math.Path.{fun_ext}
 use Rattle.std.proofs.lemmas.Bool.{cases_eq, cases_lt}
-use Rattle.std.proofs.Math.Logic.{⊎_elim}
+use Rattle.std.proofs.Math.Logic.{⊎_elim, ∥∥₁_map}
 use Rattle.object_layout.specs.declared.names.Name.{Name}
 use Rattle.object_layout.specs.declared.headers.Header.{Header}
 use Rattle.object_layout.specs.declared.TheConstants.{MAX_DEPTH, MAX_SPACE, OBJECT_WORDS}
@@ -20,7 +20,7 @@ use Rattle.yak_model.specs.Placed.{HeapStands, Holds, Places, datum_word, names_
 use Rattle.yak_model.specs.Plans.{Move, after_moves, by_move, cleared, forward, forwarded, rehomed, without}
 use Rattle.yak_model.specs.Packed.{PackedAs}
 use Rattle.yak_model.specs.Stands.{Stands, pages_of}
-use Rattle.relocation.specs.Moves.{AllMovable, HasHeader, Moved, corrected_word, fields_at, size_at}
+use Rattle.relocation.specs.Moves.{AllMovable, HasHeader, IsReadyPlan, Moved, corrected_word, fields_at, size_at}
 use Rattle.relocation.specs.Slide.{GoesBehind, GoesOn, IsFirstPage, IsPageOf, brought, pages_before}
 use Rattle.relocation.specs.Slidden.{names_after}
 use Rattle.relocation.proofs.Corrected.{corrected-datum}
@@ -67,6 +67,17 @@ map-map f g k (x ∷ xs) same = let here : g (f x) ≡ k x = same x in let rest 
 
 goes-there : (m : Areas) (slid : ℕ) {table table' : List (List ℕ)} {a a' x x' b b' y y' : ℕ} → table ≡ table' → a ≡ a' → x ≡ x' → b ≡ b' → y ≡ y' → GoesBehind m a x b y ⊎ GoesOn m slid table a x b y → GoesBehind m a' x' b' y' ⊎ GoesOn m slid table' a' x' b' y'
 goes-there m slid et ea ex eb ey h = rw (← et, ← ea, ← ex, ← eb, ← ey) h
+
+-- a plan whose references were corrected is ready
+pub ready-led : (m : Areas) (c : Contents) (count : ℕ) (moves : ℕ → Move) → ∥ ((was : Contents) × (planned : Contents) × (s : SpaceState) × (h : Stands m was s) × (p : Planned m was s h.places planned count moves) × Led m (view s) h.places p.dropped planned c count moves) ∥₁ → ∥ IsReadyPlan m c.heap count moves ∥₁
+ready-led m c count moves some = ∥∥₁_map some (λ q. record {
+  state = view q.2;
+  places = q.3.places.at;
+  work = λ n. get_or q.1.heap (q.3.places.at n + 2) 0;
+  dropped = q.4.dropped;
+  lawful = q.4.lawful;
+  holds = q.5.holds;
+})
 
 -- ---- the page table
 
