@@ -16,7 +16,7 @@ use Rattle.relocation.specs.Slide.{Runs, Sliding}
 use Rattle.yak_model.specs.Spaces.{SpaceState, innermost}
 use Rattle.yak_model.specs.State.{State, object_of, view}
 use Rattle.yak_model.specs.Placed.{Places, size_by, space_word}
-use Rattle.yak_model.specs.Stands.{Stands, StandsAs, claim_counter, current, free_pages, pool_length, set_entries, words_of}
+use Rattle.yak_model.specs.Stands.{Stands, StandsAs, claim_counter, free_pages, pool_length, set_entries, words_of}
 use Rattle.yak_model.specs.Recorded.{IsRecorded, RecordedAs}
 use Rattle.remember_sets.specs.declared.TheConstants.{SET_ENTRIES}
 use Rattle.remember_sets.specs.Filed.{IsFiled}

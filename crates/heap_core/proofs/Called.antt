@@ -1,5 +1,5 @@
 -- A step as a call of a caller, over the words before it and after it.
-use Rattle.std.proofs.Common.{◌≡◌, ◌≢◌, ℕ, ◌+◌, ◌≤◌, List, length, min, ◌-◌, ◌^◌, refl, ◌∙◌, ap, sym, subst, Option, Some, None, MatchOption, arith}
+use Rattle.std.proofs.Common.{◌≡◌, ◌≢◌, ℕ, ◌+◌, ◌≤◌, List, length, min, ◌-◌, ◌^◌, refl, sym, subst, Option, Some, MatchOption, arith}
 use Rattle.std.proofs.Math.Logic.{∥∥₁_elim, ∥∥₁_map}
 use Rattle.std.proofs.Props.{props}
 use Rattle.object_layout.specs.declared.calls.Call.{Call}

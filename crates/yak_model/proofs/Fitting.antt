@@ -1,5 +1,5 @@
 -- What one thread alone knows fits pages, whatever entry comes.
-use Rattle.std.proofs.Common.{◌≡◌, ◌≢◌, ◌⊎◌, ℕ, ◌+◌, ◌-◌, ◌≤◌, ◌<◌, true, false, true≢false, cond, ltb, length, replicate, set, refl, ◌∙◌, arith, ap, sym, subst, inl, inr, Option, Some, None, IsSome, is_some, MatchOption, length-set}
+use Rattle.std.proofs.Common.{◌≡◌, ◌⊎◌, ℕ, ◌+◌, ◌-◌, ◌≤◌, true, false, true≢false, cond, ltb, length, replicate, set, refl, ◌∙◌, arith, ap, sym, subst, inl, inr, Option, Some, None, IsSome, MatchOption, length-set}
 use Rattle.std.proofs.lemmas.Bool.{cases_lt, ltb-false}
 use Rattle.std.proofs.lemmas.List.{length-replicate}
 use Rattle.std.specs.FinMap.{get, insert}

@@ -1,10 +1,9 @@
-use Rattle.std.proofs.Common.{◌≡◌, ◌≢◌, ◌+◌, ◌-◌, ◌^◌, ◌≤◌, ℕ, Option, Some, None, MatchOption, refl, sym, ap, subst, ◌∙◌, arith}
+use Rattle.std.proofs.Common.{◌≡◌, ◌+◌, ℕ, Option, Some, None, MatchOption, refl, sym, ap, subst, ◌∙◌, arith}
 use Rattle.object_layout.specs.declared.replies.Census.{Census}
-use Rattle.object_layout.specs.declared.replies.Reply.TheVariants as reply
 use Rattle.heap_words.specs.Map.{IsAreas}
 use Rattle.heap_words.specs.Contents.{contents, depth_of}
 use Rattle.yak_model.specs.Standing.{counted_on}
-use Rattle.heap_core.specs.Callers.{FillsPages, words_asked, words_used}
+use Rattle.heap_core.specs.Callers.{words_asked}
 use Rattle.heap_core.proofs.Called.{Called, call-counted, call-fills, call-holds, call-knows-as, call-none-free, call-step-as, call-tells, call-tells_known, call-words, called}
 use Rattle.heap_core.proofs.Calling.{some-knows-nothing}
 use Rattle.heap_core.proofs.Filling.{fills-more}
