@@ -1,5 +1,5 @@
 -- Maps of objects that a thread alone knows, over the objects of a state and those that aren't present any more.
-use Rattle.std.proofs.Common.{◌≡◌, ◌≢◌, ◌⊎◌, ℕ, ◌-◌, ◌≤◌, List, [], ◌∷◌, true, false, true≢false, cond, length, get_or, refl, ◌∙◌, arith, ap, sym, subst, inl, inr, Option, Some, None, IsSome, is_some}
+use Rattle.std.proofs.Common.{◌≡◌, ◌⊎◌, ℕ, ◌-◌, ◌≤◌, List, [], ◌∷◌, true, false, true≢false, cond, length, get_or, refl, ◌∙◌, arith, ap, sym, subst, inl, inr, Option, Some, None, IsSome, is_some}
 use Rattle.std.specs.List.{Contains}
 use Rattle.std.specs.FinMap.{FinMap, entries, find, get, insert, get-entries}
 use Rattle.object_layout.specs.declared.names.Name.{Name}

@@ -1,5 +1,5 @@
 -- What a graph answers, the graph with further objects answers too.
-use Rattle.std.proofs.Common.{◌≡◌, ℕ, ◌<◌, List, [], ◌∷◌, true, false, not, cond, leb, length, get_or, set, replicate, refl, ◌∙◌, arith, ap, sym, subst, inl, inr, Some, None, IsSome, MatchOption, is_some, true≢false}
+use Rattle.std.proofs.Common.{◌≡◌, ℕ, ◌<◌, [], ◌∷◌, true, false, not, cond, leb, length, get_or, set, replicate, refl, ◌∙◌, arith, ap, sym, subst, inl, inr, Some, None, IsSome, MatchOption, is_some, true≢false}
 use borrow.Author.Tests.{leb-true}
 use Rattle.std.specs.FinMap.{FinMap, get, insert}
 use Rattle.object_layout.specs.declared.names.Name.{Name}
@@ -12,7 +12,7 @@ use Rattle.object_layout.specs.declared.replies.Reply.TheVariants as reply
 use Rattle.yak_model.specs.declared.datum.Datum.{Datum}
 use Rattle.yak_model.specs.declared.datum.Datum.TheVariants as datum
 use Rattle.yak_model.specs.Names.{name_cmp}
-use Rattle.yak_model.specs.Graph.{Content, Does, Fields, Graph, IsThread, answers, fields_at, fields_or_none, first_refusal, is_bad_slot, is_reference, is_stack_full, make, next_name, push, put_field, refusal_of, shown, slot_of, thread_of, with_depth, with_object}
+use Rattle.yak_model.specs.Graph.{Content, Does, Fields, Graph, IsThread, answers, fields_at, fields_or_none, first_refusal, is_bad_slot, is_reference, is_stack_full, next_name, push, put_field, refusal_of, shown, slot_of, with_object}
 use Rattle.yak_model.specs.History.{Said, Moves}
 use Rattle.yak_model.specs.Spaces.{EndsEpoch, IsOnStack, SpaceState, Turns, content_at}
 use Rattle.yak_model.proofs.Names.{get-same, get-other, same_or_other}

@@ -1,5 +1,5 @@
 -- What a step does to what its thread and the others know.
-use Rattle.std.proofs.Common.{lit≤, ◌≡◌, ◌≢◌, ℕ, [], ◌∷◌, true, false, true≢false, cond, refl, ◌∙◌, ap, sym, subst, inl, inr, Option, Some, None, IsSome, is_some, ◌+◌, ◌≤◌, arith}
+use Rattle.std.proofs.Common.{lit≤, ◌≡◌, ℕ, [], ◌∷◌, true, false, true≢false, cond, refl, ◌∙◌, ap, sym, subst, inl, inr, Option, Some, None, IsSome, is_some, ◌≤◌, arith}
 use Rattle.std.proofs.Math.Logic.{⊎_elim, ∥∥₁_map}
 use Rattle.std.specs.List.{Contains}
 use Rattle.std.specs.FinMap.{FinMap, empty, entries, get, get-empty}

@@ -9,7 +9,6 @@ use Rattle.object_layout.specs.declared.calls.Call.{Call}
 use Rattle.object_layout.specs.declared.calls.Call.TheVariants as call
 use Rattle.object_layout.specs.declared.replies.Census.{Census}
 use Rattle.object_layout.specs.declared.replies.Refusal.TheVariants as refusal
-use Rattle.object_layout.specs.declared.replies.Reply.{Reply}
 use Rattle.object_layout.specs.declared.replies.Reply.TheVariants as reply
 use Rattle.object_layout.specs.declared.TheConstants.{OBJECT_WORDS}
 use Rattle.heap_words.specs.declared.map.Areas.{Areas}
@@ -19,7 +18,7 @@ use Rattle.yak_model.specs.Graph.{Does, Graph, Limits, Thread, answers, idle, re
 use Rattle.yak_model.specs.Lawful.{open_regions, present_words}
 use Rattle.yak_model.specs.Placed.{used_mark}
 use Rattle.yak_model.specs.Spaces.{SpaceState}
-use Rattle.yak_model.specs.Standing.{Counted, IsLast, counted_on, words_made}
+use Rattle.yak_model.specs.Standing.{Counted, counted_on, words_made}
 use Rattle.yak_model.specs.Stands.{Stands}
 use Rattle.yak_model.proofs.Stacks.{is_thread}
 use Rattle.heap_core.specs.declared.owned.Stepped.{Stepped}
@@ -31,7 +30,6 @@ use Rattle.heap_core.specs.Steps.{TurnsTo, entries}
 use Rattle.heap_core.proofs.Answering.{FollowsCall, of_objects}
 use Rattle.heap_core.proofs.Bounds.{full-bound}
 use Rattle.heap_core.proofs.Calling.{follows-step, knows-after}
-use Rattle.heap_core.proofs.Named.{depth-shown}
 use Rattle.heap_core.proofs.Others.{answers-beside, same_or_other_thread}
 use Rattle.heap_core.proofs.Threads.{thread-told}
 use Rattle.heap_core.proofs.Weights.{step-weighs, words-used}

@@ -1,19 +1,16 @@
 -- What a collection keeps, and how full the heap is after it.
-use Rattle.std.proofs.Common.{◌≡◌, ◌≢◌, ◌⊎◌, ℕ, ◌+◌, ◌-◌, ◌*◌, ◌≤◌, ◌<◌, List, [], length, get_or, map, zero, suc, refl, sym, ap, subst, ◌∙◌, arith}
+use Rattle.std.proofs.Common.{◌≡◌, ◌≢◌, ℕ, ◌+◌, ◌-◌, List, [], length, get_or, map, sym, ap, ◌∙◌, arith}
 use Rattle.std.proofs.Props.{props}
-use Rattle.std.proofs.lemmas.Bool.{cases_eq}
-use Rattle.std.proofs.Math.Logic.{⊎_elim, ∥∥₁_elim, ∥∥₁_map}
+use Rattle.std.proofs.Math.Logic.{∥∥₁_elim, ∥∥₁_map}
 use Rattle.object_layout.specs.declared.TheConstants.{OBJECT_WORDS}
 use Rattle.heap_words.specs.declared.map.Areas.{Areas}
-use Rattle.heap_words.specs.Map.{page_words}
 use Rattle.heap_words.specs.Contents.{Contents, depth_of, made_of, stack_of}
 use Rattle.epoch_lattice.specs.declared.Space.{Space}
 use Rattle.epoch_lattice.specs.declared.Space.TheVariants.{Control, Region}
 use Rattle.yak_model.specs.Graph.{Graph, Thread, idle}
-use Rattle.yak_model.specs.Graph as graph
 use Rattle.yak_model.specs.Spaces.{Collects, SpaceState}
-use Rattle.yak_model.specs.State.{object_of, view}
-use Rattle.yak_model.specs.Stands.{Stands, free_pages, pages_of, words_of}
+use Rattle.yak_model.specs.State.{object_of}
+use Rattle.yak_model.specs.Stands.{Stands, free_pages, pages_of}
 use Rattle.yak_model.specs.Packed.{IsFull, IsPacked, IsSpaceOf}
 use Rattle.yak_model.proofs.Stacks.{stack_length}
 use Rattle.region_pages.specs.Counts.{free_in, regions_in}

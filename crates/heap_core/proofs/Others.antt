@@ -1,8 +1,5 @@
 -- A step leaves what the other threads have.
-use Rattle.std.proofs.Common.{◌≡◌, ◌≢◌, ◌⊎◌, ℕ, ◌-◌, List, [], ◌∷◌, true, false, refl, ◌∙◌, ap, sym, subst, inl, inr, Some, None, MatchOption, length, zero, suc, arith, get_or-set_other}
-use Rattle.std.proofs.Math.Logic.{⊎_elim, ∥∥₁_elim}
-use Rattle.std.proofs.Props.{props}
-use Rattle.object_layout.specs.declared.names.Name.{Name}
+use Rattle.std.proofs.Common.{◌≡◌, ◌≢◌, ◌⊎◌, ℕ, ◌-◌, List, [], ◌∷◌, refl, ◌∙◌, ap, inl, inr, Some, None, MatchOption, get_or-set_other}
 use Rattle.object_layout.specs.declared.calls.Call.{Call}
 use Rattle.object_layout.specs.declared.calls.Call.TheVariants as call
 use Rattle.object_layout.specs.declared.replies.Reply.{Reply}

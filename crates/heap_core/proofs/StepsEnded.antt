@@ -1,5 +1,5 @@
 -- What steps do that end an epoch.
-use Rattle.std.proofs.Common.{◌≡◌, ◌≢◌, ◌⊎◌, ℕ, ◌+◌, ◌*◌, ◌≤◌, ◌<◌, Bool, true, false, cond, Option, None, Some, List, [], ◌∷◌, ◌++◌, leb, length, refl, sym, ap, subst, ◌∙◌, arith, inl, inr}
+use Rattle.std.proofs.Common.{◌≡◌, ◌≢◌, ℕ, ◌+◌, ◌*◌, ◌<◌, Bool, true, false, cond, Option, None, Some, List, [], ◌∷◌, leb, refl, sym, subst, arith, inl, inr}
 use Rattle.std.proofs.Props.{props}
 use Rattle.std.proofs.Math.Logic.{⊎_elim, ∥∥₁_elim}
 use Rattle.object_layout.specs.declared.calls.Call.TheVariants as call
@@ -22,7 +22,7 @@ use Rattle.heap_core.specs.declared.owned.Stepped.{Stepped}
 use Rattle.heap_core.specs.Done.{CollectsForEnd, Done, RecordsEnd, TellsShortage}
 use Rattle.heap_core.specs.EpochEnds.{CollectedAs, EndedAfter, EndsAs, IsEnd, TightAfter}
 use Rattle.heap_core.specs.EpochEnds as ends
-use Rattle.heap_core.specs.Lawful.{AreLawful, PackedIfAsked}
+use Rattle.heap_core.specs.Lawful.{AreLawful}
 use Rattle.heap_core.specs.Records.{SomeRecorded}
 use Rattle.heap_core.specs.Steps.{Turned, TurnsTo, plain}
 use Rattle.heap_core.proofs.Bounds.{tight-bound}

@@ -1,6 +1,6 @@
 -- What steps do that make an object, collect, or count the pages.
-use Rattle.std.proofs.Common.{◌≡◌, ◌≢◌, ◌⊎◌, ℕ, zero, suc, ◌+◌, ◌*◌, ◌≤◌, ◌<◌, true, false, None, Some, List, [], ◌∷◌, ◌++◌, length, refl, sym, ap, subst, ◌∙◌, arith, inl, inr}
-use Rattle.std.proofs.Math.Logic.{⊎_elim, ∥∥₁_elim}
+use Rattle.std.proofs.Common.{◌≡◌, ◌⊎◌, ℕ, zero, suc, ◌+◌, ◌*◌, ◌≤◌, ◌<◌, true, None, Some, [], ◌∷◌, length, refl, sym, subst, ◌∙◌, arith, inl, inr}
+use Rattle.std.proofs.Math.Logic.{⊎_elim}
 use Rattle.object_layout.specs.declared.TheConstants.{OBJECT_WORDS}
 use Rattle.object_layout.specs.declared.calls.Call.TheVariants as call
 use Rattle.object_layout.specs.declared.replies.Reply.{Reply}
@@ -10,8 +10,7 @@ use Rattle.heap_words.specs.declared.map.Areas.{Areas}
 use Rattle.heap_words.specs.Map.{HasThread, IsAreas}
 use Rattle.heap_words.specs.Contents.{Contents, depth_of}
 use Rattle.epoch_lattice.specs.Lattice.{inner_of}
-use Rattle.yak_model.specs.History.{Entry, Said, Collected}
-use Rattle.yak_model.specs.Lawful.{EndsCollected, IsReplyLawful, open_regions, present_words}
+use Rattle.yak_model.specs.Lawful.{open_regions, present_words}
 use Rattle.yak_model.specs.Spaces.{Collects, SpaceState}
 use Rattle.yak_model.specs.Stands.{Stands, free_pages}
 use Rattle.yak_model.proofs.Unique.{states_unique}

@@ -1,7 +1,6 @@
 -- The words of the objects that are present: those in use in the pages, and what a step adds to them.
-use Rattle.std.proofs.Common.{◌≡◌, ◌≢◌, ◌⊎◌, ℕ, ◌+◌, ◌-◌, ◌≤◌, ◌<◌, List, [], ◌∷◌, true, false, true≢false, cond, map, get_or, set, replicate, length, refl, ◌∙◌, ap, sym, subst, inl, inr, Option, Some, None, MatchOption, IsSome, is_some, arith, length-set}
+use Rattle.std.proofs.Common.{◌≡◌, ◌⊎◌, ℕ, ◌+◌, ◌≤◌, ◌<◌, List, [], ◌∷◌, true≢false, get_or, set, replicate, length, refl, ◌∙◌, ap, sym, subst, inl, inr, Option, Some, None, MatchOption, IsSome, is_some, arith, length-set}
 use Rattle.std.proofs.lemmas.List.{length-replicate}
-use Rattle.std.proofs.Math.Logic.{⊎_elim}
 use Rattle.std.specs.List.{Contains, sum_by}
 use Rattle.std.specs.FinMap as finite
 use Rattle.std.specs.FinMap.{FinMap, get}
@@ -18,10 +17,9 @@ use Rattle.yak_model.specs.declared.datum.Datum.{Datum}
 use Rattle.yak_model.specs.declared.datum.Datum.TheVariants as datum
 use Rattle.yak_model.specs.Names.{name_cmp}
 use Rattle.yak_model.specs.Graph.{Content, Does, Fields, Graph, IsThread, answers, fields_at, fields_or_none, next_name, put_field, refusal_of, size_of, slot_of}
-use Rattle.yak_model.specs.History.{Moves, Said}
 use Rattle.yak_model.specs.Lawful.{present_words}
-use Rattle.yak_model.specs.Placed.{names_of, size_by, used_mark}
-use Rattle.yak_model.specs.Private.{AreMade, IsMade}
+use Rattle.yak_model.specs.Placed.{size_by}
+use Rattle.yak_model.specs.Private.{IsMade}
 use Rattle.yak_model.specs.Spaces.{SpaceState, TurnsAll, content_at}
 use Rattle.yak_model.specs.Standing.{words_made}
 use Rattle.yak_model.specs.State.{object_of}

@@ -1,6 +1,5 @@
-use Rattle.std.proofs.Common.{◌≡◌, ◌≤◌, ◌<◌, true, false, ◌∙◌, refl, sym, arith, inr, subst}
+use Rattle.std.proofs.Common.{◌≡◌, true, false, ◌∙◌, refl, sym, arith, inr}
 use Rattle.heap_words.specs.Contents.{contents, depth_of}
-use Rattle.heap_core.specs.Records.{SomeRecorded}
 use Rattle.heap_core.proofs.Gathered.{short-depth, some-short}
 use Rattle.heap_core.proofs.endings.end.Goals as goal
 

@@ -1,7 +1,6 @@
-use Rattle.std.proofs.Common.{◌≡◌, ◌≤◌, refl, sym, arith}
+use Rattle.std.proofs.Common.{◌≡◌, refl, arith}
 use Rattle.heap_words.specs.Contents.{contents, depth_of}
 use Rattle.heap_core.specs.Collecting.{IsCollected}
-use Rattle.heap_core.specs.Records.{SomeRecorded}
 use Rattle.heap_core.proofs.Gathered.{kept-depth, short-depth, some-collected, some-short}
 use Rattle.heap_core.proofs.endings.end_collected.Goals as goal
 

@@ -1,9 +1,6 @@
-use Rattle.std.proofs.Common.{◌≡◌, ◌<◌, ◌+◌, true, None, refl, sym, ap, ◌∙◌, arith, inl, inr, subst, length}
-use Rattle.object_layout.specs.declared.TheConstants.{MAX_SERIAL}
+use Rattle.std.proofs.Common.{◌≡◌, true, None, refl, sym, ap, ◌∙◌, arith, inl, inr, length}
 use Rattle.heap_words.specs.Contents.{contents, made_of, stack_of}
-use Rattle.region_pages.proofs.Shapes.{shape}
 use Rattle.heap_core.specs.Collecting.{IsCollected}
-use Rattle.heap_core.specs.Records.{SomeRecorded}
 use Rattle.heap_core.proofs.Makes.{out_of_heap}
 use Rattle.heap_core.proofs.Told.{pool-told}
 use Rattle.heap_core.proofs.Gathered.{full_counts, kept-made, kept-slots, some-collected, some-stands}

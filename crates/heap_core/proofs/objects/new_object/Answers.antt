@@ -1,5 +1,5 @@
-use Rattle.std.proofs.Common.{◌≡◌, ◌≤◌, ◌<◌, arith, length, refl, sym, ◌∙◌, inl, inr, ap}
-use Rattle.std.proofs.Math.Logic.{⊎_elim, ∥∥₁_map}
+use Rattle.std.proofs.Common.{◌≤◌, ◌<◌, arith, length, refl, ◌∙◌, inl, inr, ap}
+use Rattle.std.proofs.Math.Logic.{∥∥₁_map}
 use Rattle.object_layout.specs.declared.TheConstants.{MAX_SERIAL}
 use Rattle.object_layout.specs.declared.replies.Reply.TheVariants.{Ok, Refused}
 use Rattle.object_layout.specs.declared.replies.Refusal.TheVariants.{NamesSpent, StackFull, TooLong}

@@ -1,4 +1,4 @@
-use Rattle.std.proofs.Common.{◌≡◌, ◌≤◌, ◌+◌, refl, ap, subst, sym, arith}
+use Rattle.std.proofs.Common.{refl, arith}
 use Rattle.heap_words.specs.Contents.{contents}
 use Rattle.heap_core.proofs.Calling.{knows-nothing, some-knows-nothing}
 use Rattle.heap_core.proofs.Threads.{thread-told}
