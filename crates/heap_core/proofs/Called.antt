@@ -3,11 +3,15 @@ use Rattle.std.proofs.Common.{◌≡◌, ◌≢◌, ℕ, ◌+◌, ◌≤◌, Lis
 use Rattle.std.proofs.Math.Logic.{∥∥₁_elim, ∥∥₁_map}
 use Rattle.std.proofs.Props.{props}
 use Rattle.object_layout.specs.declared.calls.Call.{Call}
+use Rattle.object_layout.specs.declared.calls.Call.TheVariants as call
 use Rattle.object_layout.specs.declared.replies.Census.{Census}
 use Rattle.object_layout.specs.declared.replies.Reply.TheVariants as reply
 use Rattle.heap_words.specs.declared.map.Areas.{Areas}
 use Rattle.heap_words.specs.Map.{HasThread, IsAreas, total_of}
-use Rattle.heap_words.specs.Contents.{contents, depth_of}
+use Rattle.heap_words.specs.Contents.{Contents, contents, depth_of}
+use Rattle.epoch_lattice.specs.declared.Space.TheVariants.{Control}
+use Rattle.yak_model.specs.History.{Entry}
+use Rattle.yak_model.specs.Packed.{IsPacked}
 use Rattle.yak_model.specs.Recorded.{Recorded}
 use Rattle.yak_model.specs.Spaces.{SpaceState, TurnsAll}
 use Rattle.yak_model.specs.Standing.{Counted, MovesKnown, counted_on, words_made}
@@ -16,9 +20,10 @@ use Rattle.region_pages.proofs.Shapes.{shape}
 use Rattle.heap_core.specs.declared.owned.Stepped.{Stepped}
 use Rattle.heap_core.specs.Callers.{FillsPages, KnowsAlone, MakesStep, TellsKnown, TellsThread, standing_told, thread_told, words_asked, words_used}
 use Rattle.heap_core.specs.Collecting.{CountsFull}
-use Rattle.heap_core.specs.Done.{CollectsWhere, FillsHeap, TellsFull}
+use Rattle.heap_core.specs.Done.{CollectsWhere, Done, EndsSo, FillsHeap, PacksControl, StepRecords, StepRoom, TellsFull, TellsPages, TellsShortage}
+use Rattle.heap_core.specs.Lawful.{AreLawful, PackedIfAsked}
 use Rattle.heap_core.specs.Records.{SomeRecorded}
-use Rattle.heap_core.specs.Steps.{entries}
+use Rattle.heap_core.specs.Steps.{IsIdle, entries}
 use Rattle.heap_core.proofs.Calling.{moves-known}
 use Rattle.heap_core.proofs.Filling.{Steps, counted-full, fills-pages, holds-after, tells-after, tells_known-after, used-after, used-within, words-kept}
 use Rattle.heap_core.proofs.Sound.{sound-from}
@@ -103,16 +108,60 @@ module _ (m : Areas) (before later : List ℕ) (t : ℕ) (asked : Call) (stepped
       (call-knows made refusals last known knows))
 
   -- the call as a step
-  pub call-step-as : (m' : Areas) (now : List ℕ) → m' ≡ m → now ≡ later → ((s : SpaceState) (h : Stands m (contents m before) s) → CollectsWhere m (contents m before) s h t asked stepped.reply stepped.collected)
+  pub call-step-as : (m' : Areas) (now : List ℕ) → m' ≡ m → now ≡ later → Done m (contents m before) (contents m later) t asked stepped
       → (kept kept_now : Option (Census × ℕ × ℕ)) → MatchOption stepped.full (kept_now ≡ kept) (λ census. kept_now ≡ Some (census, depth_of (contents m later) t, words_asked asked)) → MakesStep m (contents m before) (contents m' now) t asked stepped.reply kept kept_now
-  call-step-as m' now same words collects kept kept_now keeps =
+  call-step-as m' now same words done kept kept_now keeps =
       subst (λ (x : Areas). MakesStep m (contents m before) (contents x now) t asked stepped.reply kept kept_now) (sym same)
       (subst (λ (ws : List ℕ). MakesStep m (contents m before) (contents m ws) t asked stepped.reply kept kept_now) (sym words)
-      (record {
-        stepped = stepped;
-        reply = refl;
-        turns = k.steps;
-        collected = collects;
-        full = k.tells;
-        keeps = keeps;
-      }))
+      (record { stepped = stepped; reply = refl; turns = k.steps; done = done; keeps = keeps }))
+
+-- ---- all that a step does
+
+packs : (m : Areas) (now : Contents) (s : SpaceState) (h : Stands m now s) (asked : Call) → (asked ≡ call.Collect → IsPacked m now s h Control) → PacksControl m now s h asked
+packs m now s h (call.Int i) packed = tt
+packs m now s h call.Null packed = tt
+packs m now s h (call.Dup i) packed = tt
+packs m now s h call.Pop packed = tt
+packs m now s h (call.New k) packed = tt
+packs m now s h (call.Load i f) packed = tt
+packs m now s h (call.Store i f x) packed = tt
+packs m now s h (call.Get i) packed = tt
+packs m now s h (call.Same i x) packed = tt
+packs m now s h call.Begin packed = tt
+packs m now s h call.End packed = tt
+packs m now s h call.Collect packed = packed refl
+packs m now s h call.Census packed = tt
+
+-- what a step tells over the map before it and the map after it
+pub record StepTold (m m' : Areas) (before later : List ℕ) (t : ℕ) (asked : Call) (stepped : Stepped) : Type 0 where
+  pub turns : (s : SpaceState) (h : Stands m (contents m before) s) → (after : SpaceState) × TurnsAll s (entries t asked stepped) after × (stands : Stands m' (contents m' later) after) × (Recorded m (contents m before) s h → Recorded m' (contents m' later) after stands)
+  pub lawful : (s : SpaceState) (h : Stands m (contents m before) s) → Recorded m (contents m before) s h → (earlier : List Entry) → PackedIfAsked m (contents m before) s h earlier → AreLawful m.pages earlier s (entries t asked stepped)
+  pub collected : (s : SpaceState) (h : Stands m (contents m before) s) → CollectsWhere m (contents m before) s h t asked stepped.reply stepped.collected
+  pub full : TellsFull (contents m' later) stepped.reply stepped.full
+  pub filled : (s : SpaceState) (h : Stands m' (contents m' later) s) → FillsHeap m' (contents m' later) s h t asked stepped.reply
+  pub shortage : (s : SpaceState) (h : Stands m (contents m before) s) → TellsShortage m (contents m before) s h t stepped.reply stepped.shortage
+  pub ended : EndsSo m (contents m before) (contents m' later) t asked stepped
+  pub census : TellsPages (contents m before) asked stepped.reply
+  pub packed : asked ≡ call.Collect → (s : SpaceState) (h : Stands m' (contents m' later) s) → IsPacked m' (contents m' later) s h Control
+  pub records : (s : SpaceState) (h : Stands m (contents m before) s) → StepRecords m s h.places.at (contents m before) (contents m' later) t asked stepped.reply stepped.collected
+  pub room : StepRoom m (contents m before) (contents m' later) t asked stepped.reply stepped.collected
+  pub idle : IsIdle asked stepped.reply → contents m' later ≡ contents m before
+
+done-told : (m : Areas) (before later : List ℕ) (t : ℕ) (asked : Call) (stepped : Stepped) → StepTold m m before later t asked stepped → Done m (contents m before) (contents m later) t asked stepped
+done-told m before later t asked stepped k = record {
+  turns = λ s h r. k.turns s h;
+  lawful = k.lawful;
+  collected = λ s h r. k.collected s h;
+  full = k.full;
+  filled = k.filled;
+  shortage = λ s h r. k.shortage s h;
+  ended = k.ended;
+  counts = k.census;
+  packed = λ s h. packs m (contents m later) s h asked (λ e. k.packed e s h);
+  records = λ s h r. k.records s h;
+  room = k.room;
+  idle = k.idle;
+}
+
+pub step-done : (m m' : Areas) → m' ≡ m → (before later : List ℕ) (t : ℕ) (asked : Call) (stepped : Stepped) → StepTold m m' before later t asked stepped → Done m (contents m before) (contents m later) t asked stepped
+step-done m m' e before later t asked stepped k = done-told m before later t asked stepped (subst (λ (x : Areas). StepTold m x before later t asked stepped) e k)

@@ -19,7 +19,7 @@ use Rattle.yak_model.specs.Spaces.{SpaceState}
 use Rattle.yak_model.specs.Standing.{Standing}
 use Rattle.yak_model.specs.Stands.{Stands}
 use Rattle.heap_core.specs.declared.owned.Stepped.{Stepped}
-use Rattle.heap_core.specs.Done.{CollectsWhere, TellsFull}
+use Rattle.heap_core.specs.Done.{Done}
 use Rattle.heap_core.specs.Steps.{TurnsTo, entries}
 
 -- ---- threads, as the words show them
@@ -99,13 +99,12 @@ FillsPages m words depth = m.threads ≡ 1 → page_words m * m.pages ≤ 2 * wo
 
 -- ---- a call as a step
 
--- The reply is that of a step of the thread: each state that the words stood for turns by the call, after a collection exactly
--- where one is needed, to a state that they stand for now. Where the step tells the counts of the pages, they are kept with
--- the depth and the words asked for, and else what was kept stays.
+-- The call is a step of the thread with this reply: each state that the words stood for turns by its entries to one that they
+-- stand for now, and all else is done that a step does. Where the step tells the counts of the pages, they are kept with the
+-- depth and the words asked for, and else what was kept stays.
 pub record MakesStep (m : Areas) (was now : Contents) (t : ℕ) (asked : Call) (said : Reply) (kept kept_now : Option (Census × ℕ × ℕ)) : Type 0 where
   pub stepped : Stepped
   pub reply : said ≡ stepped.reply
   pub turns : (s : SpaceState) (h : Stands m was s) → TurnsTo m was now s h (entries t asked stepped)
-  pub collected : (s : SpaceState) (h : Stands m was s) → CollectsWhere m was s h t asked stepped.reply stepped.collected
-  pub full : TellsFull now stepped.reply stepped.full
+  pub done : Done m was now t asked stepped
   pub keeps : MatchOption stepped.full (kept_now ≡ kept) (λ census. kept_now ≡ Some (census, depth_of now t, words_asked asked))

@@ -3,6 +3,7 @@ pub mod Runs
 pub mod Moving
 pub mod Lawful
 pub mod Told
+pub mod Fitting
 pub mod Corrected
 pub mod Planned
 pub mod SlidObjects

@@ -93,7 +93,6 @@ fn move_object<W: Words>(words: &mut W, map: Areas, v: Move)
 /// Moves the objects of a plan, after all references were corrected. Each is moved by one pass over its words.
 pub fn move_all<W: Words>(words: &mut W, map: Areas, plan: Plan)
     requires sound { Sound map (W.words words.old) }
-    requires within { MOVE_WORDS * plan.count ≤ heap_length map }
     requires lawful { ∥ IsReadyPlan map (heap_of map (W.words words.old)) plan.count (move_at (scratch_of map (W.words words.old))) ∥₁ }
     ensures moved { Moved (heap_of map (W.words words.old)) (heap_of map (W.words words.new)) plan.count (move_at (scratch_of map (W.words words.old))) }
     ensures objects { (s : State) (at work : Name → ℕ) (dropped : Name → Bool) → (let moves = move_at (scratch_of map (W.words words.old)) in IsLawfulPlan map plan.count moves s at dropped → Holds map (heap_of map (W.words words.old)) at (forwarded plan.count moves at) work (without s dropped).objects → Holds map (heap_of map (W.words words.new)) (forwarded plan.count moves at) (forwarded plan.count moves at) (cleared plan.count moves at work) (after_moves plan.count moves at (without s dropped)).objects) }

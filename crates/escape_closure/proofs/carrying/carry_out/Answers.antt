@@ -31,9 +31,6 @@ drop_slots_in-requires-clause-sets g c =
     let told = refer m old start mid t count same c.correct_references.ensures.references in
     ∥∥₁_elim c.requires.ready (hlevel props) (λ q. subst (SetsHold m) (sym (told q.0 q.1 q.2 q.4.ready).frame) q.4.sets)
 
-pub move_all-requires-clause-within : goal.move_all-requires-clause-within
-move_all-requires-clause-within g c = ∥∥₁_elim c.requires.ready (hlevel props) (λ q. q.4.ready.numbered.room)
-
 pub move_all-requires-clause-lawful : goal.move_all-requires-clause-lawful
 move_all-requires-clause-lawful g c =
     let m = c.args.map in

@@ -21,12 +21,6 @@ move_all-requires-clause-lawful g c =
     let first = contents c.args.map (g.W.Words.words c.args.words.now) in
     ready-led c.args.map first c.args.plan.count (move_at first.scratch) c.requires.led
 
-pub move_all-requires-clause-within : goal.move_all-requires-clause-within
-move_all-requires-clause-within g c =
-    let m = c.args.map in
-    let moves = move_at (contents m (g.W.Words.words c.args.words.now)).scratch in
-    ∥∥₁_elim c.requires.led (hlevel props) (λ q. room m q.0 q.2 q.3 q.1 c.args.plan.count moves q.4 c.requires.sound.areas)
-
 pub settle_pages-requires-clause-room : goal.settle_pages-requires-clause-room
 settle_pages-requires-clause-room g c =
     let m = c.args.map in

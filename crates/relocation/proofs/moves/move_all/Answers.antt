@@ -4,9 +4,17 @@ use Rattle.relocation.specs.Moves.{heap_of, scratch_of, move_of, OnlyHeap, Movab
 use Rattle.relocation.proofs.Heap.{only_heap-then, only_heap-scratch}
 use Rattle.relocation.proofs.Moving.{movable-next, moved-more, size-waiting, words_moved-more}
 use Rattle.yak_model.specs.Plans.{forwarded}
+use Rattle.relocation.proofs.Fitting.{ready-room}
 use Rattle.relocation.proofs.Lawful.{relocated}
 use Rattle.relocation.proofs.Told.{ready-movable}
 use Rattle.relocation.proofs.moves.move_all.Goals as goal
+
+pub read_move-v-requires-clause-within : goal.read_move-v-requires-clause-within
+read_move-v-requires-clause-within g c =
+    let m = c.args.map in
+    let was = g.W.Words.words c.args.words.now in
+    let room = ready-room m (heap_of m was) c.args.plan.count (move_at (scratch_of m was)) c.requires.lawful in
+    omega (arith, room, c.loop-k-test.true)
 
 pub move_object-requires-clause-movable : goal.move_object-requires-clause-movable
 move_object-requires-clause-movable g c =

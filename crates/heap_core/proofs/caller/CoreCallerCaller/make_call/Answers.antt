@@ -4,7 +4,7 @@ use Rattle.heap_words.specs.Map.{IsAreas}
 use Rattle.heap_words.specs.Contents.{contents, depth_of}
 use Rattle.yak_model.specs.Standing.{counted_on}
 use Rattle.heap_core.specs.Callers.{words_asked}
-use Rattle.heap_core.proofs.Called.{Called, call-counted, call-fills, call-holds, call-knows-as, call-none-free, call-step-as, call-tells, call-tells_known, call-words, called}
+use Rattle.heap_core.proofs.Called.{Called, StepTold, call-counted, call-fills, call-holds, call-knows-as, call-none-free, call-step-as, call-tells, call-tells_known, call-words, called, step-done}
 use Rattle.heap_core.proofs.Calling.{some-knows-nothing}
 use Rattle.heap_core.proofs.Filling.{fills-more}
 use Rattle.heap_core.proofs.caller.CoreCallerCaller.make_call.Goals as goal
@@ -123,7 +123,22 @@ returns-in_default-clause-step g c =
     let w1 = g.W.Words.words step.new.self.words in
     let areas : IsAreas core.map = rw core.own (g.met.W.Words.within_limits core.words) in
     let k : Called core.map w0 w1 s.thread c.args.call step.result = called core.map step.new.self.map step.ensures.map w0 w1 s.thread c.args.call step.result areas s.has_thread (rw core.own (g.met.W.Words.whole core.words)) (rw step.new.self.own (g.met.W.Words.whole step.new.self.words)) core.stands step.new.self.stands step.ensures.turns step.ensures.filled step.ensures.full in
-    call-step-as core.map w0 w1 s.thread c.args.call step.result k step.new.self.map w1 step.ensures.map refl step.ensures.collected s.last s.last (subst (λ (o : Option Census). MatchOption o (s.last ≡ s.last) (λ census. s.last ≡ Some (census, depth_of (contents core.map w1) s.thread, words_asked c.args.call))) (sym c.in_default.is) refl)
+    let told : StepTold core.map step.new.self.map w0 w1 s.thread c.args.call step.result = record {
+      turns = step.ensures.turns;
+      lawful = step.ensures.lawful;
+      collected = step.ensures.collected;
+      full = step.ensures.full;
+      filled = step.ensures.filled;
+      shortage = step.ensures.shortage;
+      ended = step.ensures.ended;
+      census = step.ensures.census;
+      packed = step.ensures.packed;
+      records = step.ensures.records;
+      room = step.ensures.room;
+      idle = step.ensures.idle;
+    } in
+    let done = step-done core.map step.new.self.map step.ensures.map w0 w1 s.thread c.args.call step.result told in
+    call-step-as core.map w0 w1 s.thread c.args.call step.result k step.new.self.map w1 step.ensures.map refl done s.last s.last (subst (λ (o : Option Census). MatchOption o (s.last ≡ s.last) (λ census. s.last ≡ Some (census, depth_of (contents core.map w1) s.thread, words_asked c.args.call))) (sym c.in_default.is) refl)
 
 pub returns-in-Some-clause-step : goal.returns-in-Some-clause-step
 returns-in-Some-clause-step g c =
@@ -141,4 +156,19 @@ returns-in-Some-clause-step g c =
     let keeps : MatchOption step.result.full (kept_now ≡ s.last) (λ census. kept_now ≡ Some (census, depth_of (contents core.map w1) s.thread, words_asked c.args.call)) =
     subst (λ (o : Option Census). MatchOption o (kept_now ≡ s.last) (λ census. kept_now ≡ Some (census, depth_of (contents core.map w1) s.thread, words_asked c.args.call))) (sym c.in-Some.is) kept
     in
-    call-step-as core.map w0 w1 s.thread c.args.call step.result k c.depth.new.self.map (g.W.Words.words c.depth.new.self.words) (c.depth.ensures.map ∙ step.ensures.map) c.depth.ensures.words step.ensures.collected s.last kept_now keeps
+    let told : StepTold core.map step.new.self.map w0 w1 s.thread c.args.call step.result = record {
+      turns = step.ensures.turns;
+      lawful = step.ensures.lawful;
+      collected = step.ensures.collected;
+      full = step.ensures.full;
+      filled = step.ensures.filled;
+      shortage = step.ensures.shortage;
+      ended = step.ensures.ended;
+      census = step.ensures.census;
+      packed = step.ensures.packed;
+      records = step.ensures.records;
+      room = step.ensures.room;
+      idle = step.ensures.idle;
+    } in
+    let done = step-done core.map step.new.self.map step.ensures.map w0 w1 s.thread c.args.call step.result told in
+    call-step-as core.map w0 w1 s.thread c.args.call step.result k c.depth.new.self.map (g.W.Words.words c.depth.new.self.words) (c.depth.ensures.map ∙ step.ensures.map) c.depth.ensures.words done s.last kept_now keeps
