@@ -6,9 +6,9 @@ use Rattle.group_jobs.specs.Tallies.{Tally}
 use Rattle.group_jobs.specs.declared.TheConstants.{MOST_WORDS}
 
 -- The slot of the total refers to a table of a known map, which counts these words, and they are few enough.
-pub record IsFewTally (s : Standing) (known : KnownObjects) (done : List (List ℕ)) : Type 0 where
+pub record IsSmallTally (s : Standing) (known : KnownObjects) (done : List (List ℕ)) : Type 0 where
   pub tally : Tally s known done
   pub few : length done ≤ MOST_WORDS
 
-abbrev pub HasFewTally : Standing → (KnownObjects → Type 0) → Type 0
-HasFewTally s knows = (known : KnownObjects) × (done : List (List ℕ)) × knows known × IsFewTally s known done
+abbrev pub HasSmallTally : Standing → (KnownObjects → Type 0) → Type 0
+HasSmallTally s knows = (known : KnownObjects) × (done : List (List ℕ)) × knows known × IsSmallTally s known done

@@ -5,7 +5,7 @@ ghost use Rattle.yak_model.specs.Standing.{Standing};
 ghost use Rattle.heap_tables.specs.Runs.{Ran, stack_in};
 ghost use Rattle.group_jobs.specs.Counts.{AreEntries};
 ghost use Rattle.yak_model.specs.Texts.{word_counts};
-ghost use Rattle.group_jobs.specs.Listing.{HasFewTally, IsFewTally};
+ghost use Rattle.group_jobs.specs.Listing.{HasSmallTally, IsSmallTally};
 ghost use Rattle.group_jobs.specs.declared.TheConstants.{PART_SLOT};
 
 use crate::TOTAL_SLOT;
@@ -34,12 +34,12 @@ pub(crate) fn read_counts<C: Caller>(
     alloc: Global,
     caller: &mut C,
 ) -> Result<Vec<Counted>, NoMemory>
-    requires table { HasFewTally (C.standing caller.old) (C.knows caller.old) }
+    requires table { HasSmallTally (C.standing caller.old) (C.knows caller.old) }
     requires slots { length (stack_in (C.standing caller.old)) ≡ PART_SLOT }
     ensures ran { Ran C.base C.tells C.tells_known C.standing caller.old caller.new 0 }
     ensures own { (C.standing caller.new).own ≡ (C.standing caller.old).own }
-    ensures kept { (known : KnownObjects) (done : List (List ℕ)) → C.knows caller.old known → IsFewTally (C.standing caller.old) known done → C.knows caller.new known }
-    ensures read { IfOk result (λ list. (known : KnownObjects) (done : List (List ℕ)) → C.knows caller.old known → IsFewTally (C.standing caller.old) known done → AreEntries (word_counts done) list.items) }
+    ensures kept { (known : KnownObjects) (done : List (List ℕ)) → C.knows caller.old known → IsSmallTally (C.standing caller.old) known done → C.knows caller.new known }
+    ensures read { IfOk result (λ list. (known : KnownObjects) (done : List (List ℕ)) → C.knows caller.old known → IsSmallTally (C.standing caller.old) known done → AreEntries (word_counts done) list.items) }
 {
     let mut list = Vec::new(alloc);
     let mut at = Cursor {

@@ -1,14 +1,13 @@
 -- What a step does to what a caller tells, counts and keeps of the pages.
-use Rattle.std.proofs.Common.{◌≡◌, ◌≢◌, ◌⊎◌, ℕ, ◌+◌, ◌-◌, ◌*◌, ◌^◌, ◌≤◌, ◌<◌, List, [], ◌∷◌, ltb, true, false, cond, min, get_or, length, suc, refl, ◌∙◌, ap, sym, subst, inl, inr, Option, Some, None, MatchOption, arith}
+use Rattle.std.proofs.Common.{◌≡◌, ◌≢◌, ◌⊎◌, ℕ, ◌+◌, ◌-◌, ◌*◌, ◌^◌, ◌≤◌, ◌<◌, List, [], ◌∷◌, min, get_or, length, suc, refl, ◌∙◌, ap, sym, subst, inl, inr, Option, Some, None, MatchOption, arith}
 use Rattle.std.proofs.Math.Logic.{⊎_elim, ∥∥₁_elim}
 use Rattle.std.proofs.Props.{props}
 use Rattle.std.specs.List.{sum_by}
-use Rattle.std.proofs.lemmas.Bool.{cases_lt, ltb-false}
+use Rattle.std.proofs.lemmas.Bool.{cases_lt}
 use Rattle.std.proofs.lemmas.List.Sums.{sum_by-cons}
 use Rattle.object_layout.specs.declared.calls.Call.{Call}
 use Rattle.object_layout.specs.declared.calls.Call.TheVariants as call
 use Rattle.object_layout.specs.declared.replies.Census.{Census}
-use Rattle.object_layout.specs.declared.replies.Refusal.TheVariants as refusal
 use Rattle.object_layout.specs.declared.replies.Reply.TheVariants as reply
 use Rattle.object_layout.specs.declared.TheConstants.{OBJECT_WORDS}
 use Rattle.heap_words.specs.declared.map.Areas.{Areas}
@@ -20,6 +19,7 @@ use Rattle.yak_model.specs.Placed.{used_mark}
 use Rattle.yak_model.specs.Spaces.{SpaceState}
 use Rattle.yak_model.specs.Standing.{Counted, counted_on, words_made}
 use Rattle.yak_model.specs.Stands.{Stands}
+use Rattle.yak_model.proofs.Fitting.{short}
 use Rattle.yak_model.proofs.Stacks.{is_thread}
 use Rattle.heap_core.specs.declared.owned.Stepped.{Stepped}
 use Rattle.heap_core.specs.Callers.{FillsPages, KnowsAlone, TellsKnown, TellsThread, standing_told, thread_told, words_asked, words_used}
@@ -138,13 +138,6 @@ not-full m now s h t call.Collect other fills = fills refl
 not-full m now s h t call.Census other fills = fills refl
 
 -- an object for which there is no room is short enough, and nothing changes
-short : (page k : ℕ) (more : _) → cond (ltb (page - OBJECT_WORDS) k) (Some refusal.TooLong) more ≡ None → k ≤ page - OBJECT_WORDS
-short page k more e =
-    elim (ltb (page - OBJECT_WORDS) k) as (λ b. ltb (page - OBJECT_WORDS) k ≡ b → cond b (Some refusal.TooLong) more ≡ None → k ≤ page - OBJECT_WORDS) [
-      | true ↦ λ q r. cc
-      | false ↦ λ q r. ltb-false (page - OBJECT_WORDS) k q
-    ] refl e
-
 full-answer : (g : Graph) (t k : ℕ) (h : Graph) → answers g t (call.New k) reply.OutOfHeap h → (k ≤ g.limits.page - OBJECT_WORDS) × (h ≡ g)
 full-answer g t k h =
     elim (refusal_of g t (call.New k)) as (λ o. refusal_of g t (call.New k) ≡ o → MatchOption o (Does g t (call.New k) reply.OutOfHeap h) (λ why. (reply.OutOfHeap ≡ reply.Refused why) × (h ≡ g)) → (k ≤ g.limits.page - OBJECT_WORDS) × (h ≡ g)) [

@@ -73,7 +73,7 @@ module _ (limits : Limits) (known : KnownObjects) (fits : FitPages limits known)
       ]
 
 -- an object that isn't refused is short enough
-short : (page k : ℕ) (more : Option Refusal) → cond (ltb (page - OBJECT_WORDS) k) (Some refusal.TooLong) more ≡ None → k ≤ page - OBJECT_WORDS
+pub short : (page k : ℕ) (more : Option Refusal) → cond (ltb (page - OBJECT_WORDS) k) (Some refusal.TooLong) more ≡ None → k ≤ page - OBJECT_WORDS
 short page k more e =
     elim (ltb (page - OBJECT_WORDS) k) as (λ b. ltb (page - OBJECT_WORDS) k ≡ b → cond b (Some refusal.TooLong) more ≡ None → k ≤ page - OBJECT_WORDS) [
       | true ↦ λ q r. cc

@@ -29,7 +29,7 @@ pub record IsPrivate (g : Graph) (t : ℕ) (known : KnownObjects) : Type 0 where
   pub stacks : (name : Name) → IsKnown known name → (u : ℕ) → IsOnStack g u name → u ≡ t
   pub fields : (name : Name) → IsKnown known name → (from : Name) → Refers g from name → IsKnown known from
 
--- Each object fits a page.
+-- Each object of the map fits a page.
 abbrev pub FitPages : Limits → KnownObjects → Type 0
 FitPages limits known = (name : Name) (content : Content) → finite.get known name ≡ Some content → size_of content ≤ limits.page
 

@@ -2,13 +2,13 @@ use Rattle.std.proofs.Common.{◌≡◌, ℕ, List, [], true, false, ap, sym, su
 use Rattle.yak_model.specs.Private.{KnownObjects}
 use Rattle.yak_model.specs.Standing.{Standing}
 use Rattle.group_jobs.specs.Alone.{IsListed}
-use Rattle.group_jobs.specs.Listing.{IsFewTally}
+use Rattle.group_jobs.specs.Listing.{IsSmallTally}
 use Rattle.group_jobs.specs.Tallies.{IsProgress}
 use Rattle.yak_model.specs.Texts.{counts_of, word_cmp}
 use Rattle.group_jobs.proofs.Nothing.{no_entries}
 use Rattle.group_jobs.proofs.count.list_counts.Goals as goal
 
-abbrev few_tally : (s : Standing) (known : KnownObjects) (done : List (List ℕ)) (has : _) → has ≡ true → IsListed has s known done → IsFewTally s known done
+abbrev few_tally : (s : Standing) (known : KnownObjects) (done : List (List ℕ)) (has : _) → has ≡ true → IsListed has s known done → IsSmallTally s known done
 few_tally s known done has is l = record { tally = (subst (λ b. IsProgress b s known done) is l.progress).1; few = l.few }
 
 no_total : (s : Standing) (known : KnownObjects) (done : List (List ℕ)) (has : _) → has ≡ false → IsListed has s known done → done ≡ []

@@ -9,16 +9,16 @@ use Rattle.heap_tables.specs.declared.cursors.Cursor.{Cursor}
 use Rattle.heap_tables.specs.Merges.{done_at}
 use Rattle.heap_tables.proofs.RunOn.{ran_more}
 use Rattle.yak_model.specs.Texts.{word_counts}
-use Rattle.group_jobs.specs.Listing.{IsFewTally}
+use Rattle.group_jobs.specs.Listing.{IsSmallTally}
 use Rattle.group_jobs.specs.declared.TheConstants.{TOTAL_SLOT}
 use Rattle.group_jobs.proofs.Listed.{entry_of, gets_on, listed_next, next_place, read_entries}
 use Rattle.group_jobs.proofs.Tallying.{few_in_bucket}
 use Rattle.group_jobs.proofs.listing.read_counts.Goals as goal
 
-few : (s : Standing) (known : KnownObjects) (done : List (List ℕ)) (t : IsFewTally s known done) (b : ℕ) → b < BUCKETS → length (t.tally.table.buckets b) < 2 ^ 32
+few : (s : Standing) (known : KnownObjects) (done : List (List ℕ)) (t : IsSmallTally s known done) (b : ℕ) → b < BUCKETS → length (t.tally.table.buckets b) < 2 ^ 32
 few s known done t b h = let n = few_in_bucket done known t.tally.name t.tally.table b h in omega (arith, n, t.few)
 
-abbrev may_walk : (s now : Standing) → now.own ≡ s.own → (known : KnownObjects) (done : List (List ℕ)) (t : IsFewTally s known done) → MayWalk now known TOTAL_SLOT t.tally.name (word_counts done)
+abbrev may_walk : (s now : Standing) → now.own ≡ s.own → (known : KnownObjects) (done : List (List ℕ)) (t : IsSmallTally s known done) → MayWalk now known TOTAL_SLOT t.tally.name (word_counts done)
 may_walk s now e known done t = record {
   slot = ap (λ (o : Thread). get_or o.stack TOTAL_SLOT datum.Null) e ∙ t.tally.slot;
   is_table = t.tally.table;
