@@ -128,7 +128,7 @@ impl<W: Words> Core<W> {
     ghost use Rattle.heap_core.specs.Callers.{words_used};
 
     /// The depth of a thread: how many epochs it has open.
-    pub fn depth(&mut self, thread: u8) -> u8
+    pub(crate) fn depth(&mut self, thread: u8) -> u8
         requires thread { HasThread self.old.map thread }
         ensures depth { result ≡ depth_of (contents self.old.map (W.words self.old.words)) thread }
         ensures words { W.words self.new.words ≡ W.words self.old.words }
@@ -139,7 +139,7 @@ impl<W: Words> Core<W> {
     }
 
     /// The words of all objects that are present.
-    pub fn present_words(&mut self) -> u64
+    pub(crate) fn present_words(&mut self) -> u64
         ensures present { (s : SpaceState) → Stands self.old.map (contents self.old.map (W.words self.old.words)) s → result ≡ present_words s }
         ensures used { result ≡ words_used (contents self.old.map (W.words self.old.words)).table }
         ensures words { W.words self.new.words ≡ W.words self.old.words }
