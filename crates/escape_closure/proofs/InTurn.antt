@@ -17,7 +17,7 @@ use Rattle.region_pages.specs.Freeing.{freed_table, free_below, pool_with, with_
 use Rattle.region_pages.specs.Placement.{IsPlaced, depth_in, with_used}
 use Rattle.region_pages.specs.declared.TheConstants.{CLAIM_COUNTER, POOL_LENGTH}
 use Rattle.remember_sets.specs.declared.TheConstants.{SET_ENTRIES}
-use Rattle.escape_closure.specs.InTurn.{PlacedInTurn, StandInTurn}
+use Rattle.escape_closure.specs.InTurn.{PlacedInTurn, RunsOut, StandInTurn}
 use Rattle.escape_closure.specs.Needs.{InOrder}
 use Rattle.escape_closure.specs.Placing.{owner}
 
@@ -117,6 +117,27 @@ in_turn_recording m t count space size address c d n sets buffers p = record {
   ends = ap (recording n sets buffers) p.ends;
 }
 
+-- from words whose buffers were filed to the words before
+before_filing : (c filing : Contents) (n : ℕ) (sets : List ℕ) (buffers : List (List ℕ)) → filing ≡ record c { heads = set c.heads SET_ENTRIES n; sets = sets; buffers = buffers } → recording (set_entries c.heads) c.sets c.buffers filing ≡ c
+before_filing c filing n sets buffers frame =
+    ap (recording (set_entries c.heads) c.sets c.buffers) frame ∙ ap (λ (hs : List ℕ). record c { heads = hs }) (set-set c.heads SET_ENTRIES n (set_entries c.heads) ∙ set-get_or c.heads SET_ENTRIES 0)
+
+pub out_before : (m : Areas) (t count : ℕ) (space : ℕ → Space) (size : ℕ → ℕ) (c filing mid : Contents) (n : ℕ) (sets : List ℕ) (buffers : List (List ℕ)) → filing ≡ record c { heads = set c.heads SET_ENTRIES n; sets = sets; buffers = buffers } → mid ≡ record filing { scratch = mid.scratch; heap = mid.heap } → RunsOut m t count space size mid → RunsOut m t count space size c
+out_before m t count space size c filing mid n sets buffers frame beside h =
+    let k : ℕ = set_entries c.heads in
+    let still : Contents = record h.last { scratch = filing.scratch; heap = filing.heap } in
+    let last : Contents = recording k c.sets c.buffers still in
+    let first = in_turn_between m t h.reached space size h.address (record mid { scratch = filing.scratch; heap = filing.heap }) filing still still (ap (λ (x : Contents). record x { scratch = filing.scratch; heap = filing.heap }) beside) refl (in_turn_beside m t h.reached space size h.address mid h.last filing.scratch filing.heap h.placed) in
+    record {
+      reached = h.reached;
+      fewer = h.fewer;
+      address = h.address;
+      last = last;
+      placed = in_turn_between m t h.reached space size h.address (recording k c.sets c.buffers filing) c last last (before_filing c filing n sets buffers frame) refl (in_turn_recording m t h.reached space size h.address filing still k c.sets c.buffers first);
+      little = h.little;
+      none = free_kept h.last.heads h.last.pool k ∙ h.none;
+    }
+
 -- ---- the pages after a region gave its own back
 
 pub released_table : (c : Contents) (y : Space) → (with_released c y).table ≡ freed_table (space_index y + 1) c.table
@@ -154,18 +175,18 @@ released_free a b n y heads pool table =
     ∙ free_moved (space_index y + 1) b.heads b.pool b.table n
     ∙ sym (released_is b y)
 
--- from words whose buffers were filed to the words before
+-- what stands then
 pub stand_before : (m : Areas) (c filing d : Contents) (s : SpaceState) (l : Places) (t count : ℕ) (o : InOrder s l t count) (at : Name → ℕ) (n : ℕ) (sets : List ℕ) (buffers : List (List ℕ)) → filing ≡ record c { heads = set c.heads SET_ENTRIES n; sets = sets; buffers = buffers } → StandInTurn m filing d s l t count o at → StandInTurn m c d s l t count o at
 stand_before m c filing d s l t count o at n sets buffers frame h =
     let k : ℕ = set_entries c.heads in
     let last : Contents = recording k c.sets c.buffers h.last in
-    let before : recording k c.sets c.buffers filing ≡ c =
-    ap (recording k c.sets c.buffers) frame ∙ ap (λ (hs : List ℕ). record c { heads = hs }) (set-set c.heads SET_ENTRIES n k ∙ set-get_or c.heads SET_ENTRIES 0)
-    in
+    let before : recording k c.sets c.buffers filing ≡ c = before_filing c filing n sets buffers frame in
     record {
       last = last;
       placed = in_turn_between m t count _ _ _ (recording k c.sets c.buffers filing) c last last before refl (in_turn_recording m t count _ _ _ filing h.last k c.sets c.buffers h.placed);
-      table = h.table ∙ released_table h.last (innermost s.graph t) ∙ sym (released_table last (innermost s.graph t));
-      currents = h.currents ∙ released_currents h.last last (innermost s.graph t) refl;
-      pool = h.pool ∙ sym (released_free last h.last k (innermost s.graph t) refl refl refl);
+      left = with_released last (innermost s.graph t);
+      released = refl;
+      table = h.table ∙ ap (λ (x : Contents). x.table) h.released ∙ released_table h.last (innermost s.graph t) ∙ sym (released_table last (innermost s.graph t));
+      currents = h.currents ∙ ap (λ (x : Contents). x.currents) h.released ∙ released_currents h.last last (innermost s.graph t) refl;
+      free = h.free ∙ ap (λ (x : Contents). free_pages x.heads x.pool) h.released ∙ sym (released_free last h.last k (innermost s.graph t) refl refl refl);
     }

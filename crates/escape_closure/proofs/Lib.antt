@@ -15,6 +15,7 @@ pub mod Placing
 pub mod Weighed
 pub mod Follows
 pub mod InTurn
+pub mod RunsOut
 pub mod Underway
 pub mod Fates
 pub mod Afters

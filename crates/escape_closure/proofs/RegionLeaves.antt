@@ -344,9 +344,11 @@ module _ (m : Areas) (before mid c : Contents) (s : SpaceState) (st : Stands m b
         record {
           last = last;
           placed = in_turn_same m t count to to sizes sizes (λ k. (moves k).new) (λ k. state.stands.places.at (r.planned.order.name k)) before last (λ k lt. refl) (λ k lt. refl) stands_at turn;
+          left = with_released last (innermost s.graph t);
+          released = refl;
           table = table_is ∙ sym (released_table last (innermost s.graph t));
           currents = currents_is ∙ ap (λ (y : Space). (with_released last y).currents) (sym region);
-          pool =
+          free =
               let heads : moved.heads ≡ set c.heads SET_ENTRIES (set_entries moved.heads) = ap (λ (x : Contents). x.heads) carried.frame in
               let pool_is : moved.pool ≡ c.pool = ap (λ (x : Contents). x.pool) carried.frame in
               let table : moved.table ≡ c.table = ap (λ (x : Contents). x.table) carried.frame in

@@ -26,7 +26,7 @@ use Rattle.forwarding.specs.Crossing.{AreFiled}
 use Rattle.escape_closure.specs.Leaves.{FilesRecorded, IsLeftAs, RestKept, SlidInto}
 use Rattle.escape_closure.specs.Targets.{IsEscaping}
 use Rattle.escape_closure.specs.Needs.{InOrder, pages_needed}
-use Rattle.escape_closure.specs.InTurn.{EscapingInTurn, StandInTurn}
+use Rattle.escape_closure.specs.InTurn.{EscapingInTurn, RunsOut, StandInTurn}
 
 -- The word in the page table of the pages of a thread's innermost region.
 abbrev pub region_word : SpaceState → ℕ → ℕ
@@ -77,13 +77,15 @@ pub record EndPlanned (m : Areas) (c d : Contents) (s : SpaceState) (l : Places)
   pub dense : (u e : ℕ) → 1 ≤ u → u ≤ m.threads → 1 ≤ e → e ≤ max_depth m → Region u e ≢ innermost s.graph t → 0 < pages_of d.table (Region u e) → (current d.currents u e ≢ 0) × (page_words m * (pages_of d.table (Region u e) - 1) + used_mark d.table (current d.currents u e - 1) ≤ 2 * (words_of l.pages (object_of s) (Region u e) + words_into order.target (λ k. size_by (object_of s) (order.name k)) (Region u e) count))
   pub in_turn : EscapingInTurn m s l t count order (λ k. (move_at d.scratch k).new) c (record d { scratch = c.scratch; heap = c.heap })
 
--- The pages that the escaping objects need are more than the free ones, and these are both numbers.
+-- The pages that the escaping objects need are more than the free ones, and these are both numbers. Placed by ascending
+-- address they run out of room.
 pub record FallsShort (m : Areas) (c : Contents) (s : SpaceState) (l : Places) (t : ℕ) (shortage : Shortage) : Type 0 where
   pub count : ℕ
   pub order : InOrder s l t count
   pub needed : shortage.needed ≡ pages_needed m c s l t count order
   pub free : shortage.free ≡ length (free_pages c.heads c.pool)
   pub more : shortage.free < shortage.needed
+  pub runs_out : RunsOut m t count order.target (λ k. size_by (object_of s) (order.name k)) c
 
 -- Some order of the escaping objects needs no more pages than are free.
 pub record HasEnough (m : Areas) (c : Contents) (s : SpaceState) (l : Places) (t : ℕ) : Type 0 where
