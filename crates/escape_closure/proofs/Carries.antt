@@ -1,61 +1,25 @@
 -- A plan of an end that is carried out.
-use Rattle.std.proofs.Props.{props}
-use Rattle.std.proofs.Math.Logic.{∥∥₁_elim, ∥∥₁_map, ⊎_elim}
-use Rattle.std.proofs.Common.{◌≡◌, ◌↔◌, ℕ, ◌+◌, ◌-◌, ◌/◌, ◌%◌, ◌≤◌, ◌<◌, Bool, List, get_or, set, refl, sym, ap, subst, ◌∙◌, arith, inl, inr}
-use Rattle.std.proofs.lemmas.Bool.{cases_lt}
+use Rattle.std.proofs.Common.{◌≡◌, ◌↔◌, ℕ, ◌+◌, ◌-◌, ◌≤◌, Bool, List, get_or, set, refl, sym, ap, subst, ◌∙◌, arith}
 use Rattle.object_layout.specs.declared.names.Name.{Name}
-use Rattle.object_layout.specs.declared.TheConstants.{HEADER_BASE, SPACE_UNIT}
 use Rattle.heap_words.specs.declared.map.Areas.{Areas}
 use Rattle.heap_words.specs.Map.{HasThread, IsAreas, max_depth}
 use Rattle.heap_words.specs.Contents.{Contents, depth_of}
 use Rattle.epoch_lattice.specs.declared.Space.{Space}
-use Rattle.epoch_lattice.specs.declared.Space.TheVariants.{Control, Region}
+use Rattle.epoch_lattice.specs.declared.Space.TheVariants.{Region}
 use Rattle.epoch_lattice.specs.declared.TheConstants.{MAX_DEPTH}
 use Rattle.epoch_lattice.specs.Lattice.{IsValid}
 use Rattle.yak_model.specs.Spaces.{SpaceState, innermost}
 use Rattle.yak_model.specs.State.{State, view}
 use Rattle.yak_model.specs.Placed.{Holds}
-use Rattle.yak_model.specs.Plans.{AreApart, IsLawfulPlan, Move, after_moves, cleared, forwarded, without}
+use Rattle.yak_model.specs.Plans.{IsLawfulPlan, Move, after_moves, cleared, forwarded, without}
 use Rattle.yak_model.specs.Stands.{Stands, set_entries}
 use Rattle.yak_model.proofs.Stacks.{all-at}
-use Rattle.relocation.specs.Moves.{AllMovable, HasHeader, move_at, size_at}
-use Rattle.relocation.proofs.Lawful.{lawful-movable}
+use Rattle.relocation.specs.Moves.{IsReadyPlan, move_at}
 use Rattle.remember_sets.specs.Filed.{IsFiled, LiesIn, SetsHold, with_sets}
 use Rattle.escape_closure.specs.Ends.{DropsRest, References}
 use Rattle.escape_closure.specs.Leaving.{Carried, ReadyToMove, left_behind}
 use Rattle.escape_closure.proofs.Fates.{OneEach, drops_rest, one_each}
-use Rattle.escape_closure.proofs.Leads.{IsTold}
 use Rattle.escape_closure.proofs.Written.{region_is}
-
--- ---- moves that can be made, from some proof of it
-
-told_of : (heap : List ℕ) (a : ℕ) → HasHeader heap a → IsTold heap a
-told_of heap a (h, ok, e) = (omega (arith, ok.0, e), omega (arith, ok.0, ok.1, e), omega (arith, e))
-
-of_told : (heap : List ℕ) (a : ℕ) → IsTold heap a → HasHeader heap a
-of_told heap a w = (record { fields = (get_or heap a 0 - HEADER_BASE) % SPACE_UNIT; space = (get_or heap a 0 - HEADER_BASE) / SPACE_UNIT }, (w.0, w.1), omega (arith, w.2))
-
-valid_prop : (x : Space) → IsProp (IsValid MAX_DEPTH x)
-valid_prop Control = hlevel props
-valid_prop (Region t d) = hlevel props
-
-apart_told : (a n b k : ℕ) → ∥ AreApart a n b k ∥₁ → AreApart a n b k
-apart_told a n b k some = ⊎_elim
-    (λ (less : b < a + n). inr (∥∥₁_elim some (hlevel props) (λ q. ⊎_elim (λ (h : a + n ≤ b). absurd (omega (arith, h, less))) (λ (h : b + k ≤ a). h) q)))
-    (λ (le : a + n ≤ b). inl le)
-    (cases_lt b (a + n))
-
-pub movable_told : (m : Areas) (heap : List ℕ) (count : ℕ) (moves : ℕ → Move) → ∥ AllMovable m heap count moves ∥₁ → AllMovable m heap count moves
-movable_told m heap count moves some = record {
-  each = λ k lt. record {
-    header = of_told heap (moves k).old (∥∥₁_elim some (hlevel props) (λ q. told_of heap (moves k).old (q.each k lt).header));
-    space = ∥∥₁_elim some (valid_prop (moves k).space) (λ q. (q.each k lt).space);
-    old = ∥∥₁_elim some (hlevel props) (λ q. (q.each k lt).old);
-    new = ∥∥₁_elim some (hlevel props) (λ q. (q.each k lt).new);
-  };
-  apart = λ j k less lt. apart_told (moves j).new (size_at heap (moves j).old) (moves k).new (size_at heap (moves k).old) (∥∥₁_map some (λ q. q.apart j k less lt));
-  later = λ j k less lt. apart_told (moves j).new (size_at heap (moves j).old) (moves k).old (size_at heap (moves k).old) (∥∥₁_map some (λ q. q.later j k less lt));
-}
 
 -- ---- the region that ends
 
@@ -74,11 +38,18 @@ module _ (m : Areas) (before c : Contents) (s : SpaceState) (st : Stands m befor
   pub rest : DropsRest s t (left_behind s st.places t count moves)
   rest = drops_rest s st.whole st.places one t count has.0 (innermost_valid m before s st t areas has low) moves tight r.moves
 
-  pub carry_movable : (mid next : Contents) → References m c mid s st.places t count → next.heap ≡ mid.heap → next.scratch ≡ c.scratch → AllMovable m next.heap count (move_at next.scratch)
-  carry_movable mid next refs heap scratch =
-      let plan = r.lawful (left_behind s st.places t count moves) rest in
-      let all : AllMovable m mid.heap count moves = lawful-movable m mid.heap count moves (view s) st.places.at (forwarded count moves st.places.at) (λ n. get_or c.heap (st.places.at n + 2) 0) (left_behind s st.places t count moves) areas plan (refs.holds (left_behind s st.places t count moves) rest) in
-      subst (λ (x : List ℕ). AllMovable m x count (move_at next.scratch)) (sym heap) (subst (λ (x : List ℕ). AllMovable m mid.heap count (move_at x)) (sym scratch) all)
+  -- the plan that is carried out is ready where the references are corrected
+  pub carry_ready : (mid next : Contents) → References m c mid s st.places t count → next.heap ≡ mid.heap → next.scratch ≡ c.scratch → IsReadyPlan m next.heap count (move_at next.scratch)
+  carry_ready mid next refs heap scratch =
+      let ready : IsReadyPlan m mid.heap count moves = record {
+        state = view s;
+        places = st.places.at;
+        work = λ n. get_or c.heap (st.places.at n + 2) 0;
+        dropped = left_behind s st.places t count moves;
+        lawful = r.lawful (left_behind s st.places t count moves) rest;
+        holds = refs.holds (left_behind s st.places t count moves) rest;
+      } in
+      subst (λ (x : List ℕ). IsReadyPlan m x count (move_at next.scratch)) (sym heap) (subst (λ (x : List ℕ). IsReadyPlan m mid.heap count (move_at x)) (sym scratch) ready)
 
   pub carried : (mid next last : Contents) (depth : ℕ) → depth ≡ depth_of before t → References m c mid s st.places t count → ((a : ℕ) → IsFiled next a ↔ (IsFiled mid a × (LiesIn m mid (Region t depth) a → ⊥))) → SetsHold m next → next ≡ with_sets mid next → ((v : State) (at work : Name → ℕ) (dropped : Name → Bool) → IsLawfulPlan m count (move_at next.scratch) v at dropped → Holds m next.heap at (forwarded count (move_at next.scratch) at) work (without v dropped).objects → Holds m last.heap (forwarded count (move_at next.scratch) at) (forwarded count (move_at next.scratch) at) (cleared count (move_at next.scratch) at work) (after_moves count (move_at next.scratch) at (without v dropped)).objects) → last ≡ record next { heap = last.heap } → Carried m c last s st.places t count
   carried mid next last depth is refs filed sets others objects only =

@@ -1,5 +1,5 @@
 -- What refers to the objects that the plan of an end moves.
-use Rattle.std.proofs.Common.{◌≡◌, ◌≢◌, ◌⊎◌, ℕ, ◌+◌, ◌-◌, ◌*◌, ◌/◌, ◌%◌, ◌≤◌, ◌<◌, Bool, true, Option, Some, None, is_some, List, [], ◌∷◌, zero, suc, length, map, take, get_or, refl, sym, ap, subst, ◌∙◌, arith, inl, inr, length-take, get_or-take}
+use Rattle.std.proofs.Common.{◌≡◌, ◌≢◌, ◌⊎◌, ℕ, ◌+◌, ◌-◌, ◌*◌, ◌/◌, ◌≤◌, ◌<◌, Bool, true, Option, Some, None, is_some, List, [], ◌∷◌, zero, suc, length, map, take, get_or, refl, sym, ap, subst, ◌∙◌, arith, inl, inr, length-take, get_or-take}
 use Rattle.std.proofs.lemmas.Bool.{cases_eq}
 use Rattle.std.proofs.lemmas.List.{ext_get_or, get_or_default, length-map}
 use Rattle.std.proofs.lemmas.List.Elements.{All-get_or, Contains-get_or}
@@ -8,7 +8,7 @@ use Rattle.std.specs.Int.{IsBitSet}
 use Rattle.std.specs.Int.Bits.{bit_and}
 use Rattle.std.specs.Prelude.{◌^◌}
 use Rattle.object_layout.specs.declared.names.Name.{Name}
-use Rattle.object_layout.specs.declared.TheConstants.{HEADER_BASE, MAX_FIELDS, MAX_SPACE, OBJECT_WORDS, SPACE_UNIT}
+use Rattle.object_layout.specs.declared.TheConstants.{OBJECT_WORDS}
 use Rattle.epoch_lattice.specs.declared.Space.{Space}
 use Rattle.epoch_lattice.specs.declared.Space.TheVariants.{Control, Region}
 use Rattle.epoch_lattice.specs.declared.TheConstants.{MAX_DEPTH}
@@ -33,7 +33,8 @@ use Rattle.heap_walks.specs.Reach.{IsIn}
 use Rattle.heap_walks.proofs.Objects.{in_heap, kept_word, leads_to, lie_apart, same_address, same_thing, size_is}
 use Rattle.heap_walks.proofs.Seen.{home_of_in, seen}
 use Rattle.heap_walks.proofs.Stacks.{some_row}
-use Rattle.relocation.specs.Moves.{HasHeader, Numbered, corrected_word, move_at, size_at, words_moved}
+use Rattle.relocation.specs.Moves.{Numbered, corrected_word, move_at, size_at, words_moved}
+use Rattle.relocation.proofs.Told.{IsTold, of_told, told_of}
 use Rattle.relocation.specs.Fields.{LeadWithin, Lined, MovesCorrected}
 use Rattle.relocation.proofs.Corrected.{corrected-datum}
 use Rattle.relocation.proofs.Lawful.{by_move-other, kept}
@@ -79,16 +80,6 @@ words_same was now (suc k) moves same =
     let rest = words_same was now k moves (λ j lt. same j (omega (arith, lt))) in
     let own = same k (omega arith) in
     omega (arith, rest, own)
-
--- the header at an address, as the word tells it
-abbrev pub IsTold : List ℕ → ℕ → Type 0
-IsTold heap a = ((get_or heap a 0 - HEADER_BASE) % SPACE_UNIT ≤ MAX_FIELDS) × ((get_or heap a 0 - HEADER_BASE) / SPACE_UNIT ≤ MAX_SPACE) × (HEADER_BASE ≤ get_or heap a 0)
-
-told_of : (heap : List ℕ) (a : ℕ) → HasHeader heap a → IsTold heap a
-told_of heap a (h, ok, e) = (omega (arith, ok.0, e), omega (arith, ok.0, ok.1, e), omega (arith, e))
-
-of_told : (heap : List ℕ) (a : ℕ) → IsTold heap a → HasHeader heap a
-of_told heap a w = (record { fields = (get_or heap a 0 - HEADER_BASE) % SPACE_UNIT; space = (get_or heap a 0 - HEADER_BASE) / SPACE_UNIT }, (w.0, w.1), omega (arith, w.2))
 
 -- the objects of a plan one after another, in facts that have one proof
 pub record LinedAs (m : Areas) (heap : List ℕ) (count : ℕ) (moves : ℕ → Move) : Type 0 where

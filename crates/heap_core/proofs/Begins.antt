@@ -29,7 +29,7 @@ use Rattle.heap_core.specs.Records.{SameRecords}
 use Rattle.heap_core.proofs.Logged.{recorded-same}
 use Rattle.heap_core.proofs.Recorded.{same_records}
 use Rattle.heap_core.proofs.Named.{depth-shown}
-use Rattle.heap_core.proofs.Steps.{beyond, same_room, thread_in, within}
+use Rattle.heap_core.proofs.Steps.{beyond, not-idle, same_room, thread_in, within}
 
 -- the shown state with another depth, and the state itself
 abbrev pub deepened : State → ℕ → ℕ → State
@@ -95,6 +95,7 @@ too_deep m c t ht deep = record {
       (s, (s, (thread_in m c s h t ht, rw test (refl, refl), refl, tt), refl), h, λ r. r);
   room = same_room c;
   records = λ s h. same_records c;
+  idle = λ i. refl;
 }
 
 depth_room_same : (c d : Contents) (t k : ℕ) → d ≡ with_depth c t k → SameRoom c d
@@ -128,4 +129,5 @@ begin_turns m c d t ht lt e = record {
       (deeper s t k, (deeper s t k, (thread_in m c s h t ht, rw test (refl, refl), refl, tt), refl), later, λ r. subst (λ (w : State). RecordedAs m d w h.places.at) (sym (view-deeper s t k)) (recorded-same m c d (deepened (view s) t k) h.places.at (depth_records_same c d t (depth_of c t + 1) e) (recorded-deepened m c (view s) h.places.at t k ht (omega (arith, depth-shown s t)) h.stands.threads r)));
   room = depth_room_same c d t (depth_of c t + 1) e;
   records = λ s h. depth_records_same c d t (depth_of c t + 1) e;
+  idle = λ i. absurd (not-idle call.Begin reply.Ok (λ no. no) (λ why q. cc) i);
 }

@@ -20,6 +20,7 @@ use Rattle.yak_model.specs.Packed.{IsFull, IsPacked, IsSpaceOf}
 use Rattle.region_pages.specs.Counts.{regions_in}
 use Rattle.region_pages.proofs.Counting.{free_is, parts}
 use Rattle.escape_closure.specs.Ends.{FallsShort}
+use Rattle.heap_core.specs.Done.{RegionsPacked}
 use Rattle.heap_core.specs.Lawful.{PackedIfAsked}
 use Rattle.heap_core.proofs.RoomsOpen.{open_spaces, regions_of}
 use Rattle.heap_core.proofs.RoomsNames.{present-paged}
@@ -35,6 +36,9 @@ regions-packed m c s h (Region t d) own ne =
     (λ (none : pages ≡ 0). omega (arith, none))
     (λ (some : pages ≢ 0). let dense = h.stands.dense t d own.0 own.1 own.2 own.3 (omega (arith, some)) in omega (arith, some, dense.1))
     (cases_eq pages 0)
+
+pub every-region : (m : Areas) (c : Contents) → RegionsPacked m c
+every-region m c s h t d region = regions-packed m c s h (Region t d) region (λ e. cc)
 
 -- the words of a page by the limits
 page_limit : (m : Areas) (s : SpaceState) → s.graph.limits ≡ standard_limits → s.graph.limits.page ≡ page_words m

@@ -35,7 +35,7 @@ use Rattle.heap_core.proofs.Homes.{home-open, home-shown}
 use Rattle.heap_core.proofs.Marks.{ReadersFit, marked, now_reader, recorded-marked, stands-reread}
 use Rattle.heap_core.proofs.Reached.{no_more}
 use Rattle.heap_core.proofs.Recorded.{IsRead, same_records}
-use Rattle.heap_core.proofs.Steps.{beyond, pushes, same_room, thread_in}
+use Rattle.heap_core.proofs.Steps.{beyond, not-idle, pushes, same_room, thread_in}
 
 -- a heap word that is a field is the word of its value
 abbrev pub field_word : (m : Areas) (c : Contents) (s : SpaceState) (h : Stands m c s) (t k f a w : ℕ) → IsFieldOf s h.places.at t k f a → w ≡ get_or c.heap a 0 → IsWordOf s h.places.at w
@@ -117,6 +117,7 @@ load_room m c d t k f a w sp ht areas fit room field is spaces changed marks = r
         buffers = ap (λ (x : Contents). x.buffers) changed;
         reader = subst (MarksReader c d t) told marks;
       };
+  idle = λ i. absurd (not-idle (call.Load k f) reply.Ok (λ no. no) (λ why q. cc) i);
 }
 
 -- the stack is full
@@ -129,6 +130,7 @@ load_full m c t k f a ht full field = record {
       (s, (s, (thread_in m c s h t ht, rw (e ∙ refused) (refl, refl), refl, tt), refl), h, λ r. r);
   room = same_room c;
   records = λ s h. same_records c;
+  idle = λ i. refl;
 }
 
 pub load_turns : (m : Areas) (c d : Contents) (t k f a w : ℕ) (sp : Option Space) (r : Reply) → HasThread m t → IsAreas m → ReadersFit m c.readers → ((s : SpaceState) (h : Stands m c s) → IsFieldOf s h.places.at t k f a) → w ≡ get_or c.heap a 0

@@ -19,7 +19,7 @@ use Rattle.heap_words.specs.Contents.{Contents, depth_of, made_of, stack_of, wit
 use Rattle.epoch_lattice.specs.declared.Space.{Space}
 use Rattle.epoch_lattice.specs.Lattice.{inner_of, space_index}
 use Rattle.yak_model.specs.declared.datum.Datum.TheVariants as datum
-use Rattle.yak_model.specs.Graph.{Limits, is_stack_full, next_name, thread_of}
+use Rattle.yak_model.specs.Graph.{Limits, is_stack_full, next_name, standard_limits, thread_of}
 use Rattle.yak_model.specs.Graph as graph
 use Rattle.yak_model.specs.Spaces.{SpaceState, innermost}
 use Rattle.yak_model.specs.State.{IsDatum, State, Thing, view}
@@ -39,7 +39,7 @@ use Rattle.heap_core.proofs.Stores.{recorded-newly}
 use Rattle.region_pages.proofs.Shapes.{Shape}
 use Rattle.heap_core.specs.Steps.{IsPushed, Turned}
 use Rattle.heap_core.specs.Objects.{IsWritten}
-use Rattle.heap_core.proofs.Steps.{beyond, same_room, thread_in, within}
+use Rattle.heap_core.proofs.Steps.{beyond, not-idle, same_room, thread_in, within}
 use Rattle.heap_core.proofs.Newly.{no_object-case, stands-added, with_new}
 use Rattle.heap_core.proofs.Named.{depth-shown, made-shown, named, new_thing, view-named, whole-named}
 use Rattle.heap_core.proofs.Places.{somewhere}
@@ -80,11 +80,11 @@ written-more c d e a first second size i least lt fits h he =
     }
 
 -- the tests of a call that makes an object
-too_many : (s : SpaceState) (m : Areas) (c : Contents) → Stands m c s → (k : ℕ) → MAX_FIELDS < k → ltb (s.graph.limits.page - 3) k ≡ true
-too_many s m c h k lt = ap (λ (x : Limits). ltb (x.page - 3) k) h.whole.limits ∙ (let e : ltb 253 k ≡ true = grind (arith, nat_tests) in e)
+too_many : (s : SpaceState) (m : Areas) (c : Contents) → Stands m c s → (k : ℕ) → MAX_FIELDS < k → ltb (s.graph.limits.page - OBJECT_WORDS) k ≡ true
+too_many s m c h k lt = ap (λ (x : Limits). ltb (x.page - OBJECT_WORDS) k) h.whole.limits ∙ (let e : ltb (standard_limits.page - OBJECT_WORDS) k ≡ true = grind (arith, nat_tests) in e)
 
-few_enough : (s : SpaceState) (m : Areas) (c : Contents) → Stands m c s → (k : ℕ) → k ≤ MAX_FIELDS → ltb (s.graph.limits.page - 3) k ≡ false
-few_enough s m c h k le = ap (λ (x : Limits). ltb (x.page - 3) k) h.whole.limits ∙ (let e : ltb 253 k ≡ false = grind (arith, nat_tests) in e)
+few_enough : (s : SpaceState) (m : Areas) (c : Contents) → Stands m c s → (k : ℕ) → k ≤ MAX_FIELDS → ltb (s.graph.limits.page - OBJECT_WORDS) k ≡ false
+few_enough s m c h k le = ap (λ (x : Limits). ltb (x.page - OBJECT_WORDS) k) h.whole.limits ∙ (let e : ltb (standard_limits.page - OBJECT_WORDS) k ≡ false = grind (arith, nat_tests) in e)
 
 stack_room : (m : Areas) (c : Contents) (s : SpaceState) (h : Stands m c s) (t : ℕ) → length (stack_of c t) < STACK_SLOTS → is_stack_full s.graph t ≡ false
 stack_room m c s h t lt = within STACK_SLOTS (length (graph.stack_of s.graph t)) (omega (arith, lt, stack_length m c s h t))
@@ -103,6 +103,7 @@ too_long m c t k ht lt = record {
   turns = λ s h. (s, (s, (thread_in m c s h t ht, rw (too_many s m c h k lt) (refl, refl), refl, tt), refl), h, λ r. r);
   room = same_room c;
   records = λ s h. same_records c;
+  idle = λ i. refl;
 }
 
 pub new_stack_full : (m : Areas) (c : Contents) (t k : ℕ) → HasThread m t → k ≤ MAX_FIELDS → STACK_SLOTS ≤ length (stack_of c t) → Turned m c c t (call.New k) (reply.Refused refusal.StackFull)
@@ -112,6 +113,7 @@ new_stack_full m c t k ht le full = record {
       (s, (s, (thread_in m c s h t ht, rw (few_enough s m c h k le, test) (refl, refl), refl, tt), refl), h, λ r. r);
   room = same_room c;
   records = λ s h. same_records c;
+  idle = λ i. refl;
 }
 
 pub names_spent : (m : Areas) (c : Contents) (t k : ℕ) → HasThread m t → k ≤ MAX_FIELDS → length (stack_of c t) < STACK_SLOTS → MAX_SERIAL ≤ made_of c t → Turned m c c t (call.New k) (reply.Refused refusal.NamesSpent)
@@ -121,6 +123,7 @@ names_spent m c t k ht le room spent = record {
       (s, (s, (thread_in m c s h t ht, rw (few_enough s m c h k le, stack_room m c s h t room, test) (refl, refl), refl, tt), refl), h, λ r. r);
   room = same_room c;
   records = λ s h. same_records c;
+  idle = λ i. refl;
 }
 
 pub out_of_heap : (m : Areas) (c : Contents) (t k : ℕ) → HasThread m t → k ≤ MAX_FIELDS → length (stack_of c t) < STACK_SLOTS → made_of c t < MAX_SERIAL → HasNoRoom m c t (k + OBJECT_WORDS) → Turned m c c t (call.New k) reply.OutOfHeap
@@ -128,6 +131,7 @@ out_of_heap m c t k ht le room left none = record {
   turns = λ s h. (s, (s, (thread_in m c s h t ht, rw (few_enough s m c h k le, stack_room m c s h t room, serial_left m c s h t left) (inr (refl, refl)), refl, tt), refl), h, λ r. r);
   room = (none, same_room c);
   records = λ s h. same_records c;
+  idle = λ i. refl;
 }
 
 -- the words of the contents afterwards
@@ -146,9 +150,9 @@ new-stands m c1 c2 s at t k a first second here ef es h =
       work_word = h.zero 2 (omega arith) (omega arith);
       fields = λ f lt.
           let lt' : f < k = rw (← long) lt in
-          let same : a + OBJECT_WORDS + f ≡ a + (3 + f) = omega arith in
+          let same : a + OBJECT_WORDS + f ≡ a + (OBJECT_WORDS + f) = omega arith in
           let null : get_or (replicate k datum.Null) f datum.Null ≡ datum.Null = get_or-replicate k f datum.Null datum.Null lt' in
-          ap (λ i. get_or c2.heap i 0) same ∙ h.zero (3 + f) (omega arith) (omega arith) ∙ ap (datum_word at) (sym null);
+          ap (λ i. get_or c2.heap i 0) same ∙ h.zero (OBJECT_WORDS + f) (omega arith) (omega arith) ∙ ap (datum_word at) (sym null);
     })
 
 -- the place that it takes
@@ -246,6 +250,7 @@ made_turns m c c1 c2 c3 d t k made a first second w r areas ht few room is_made 
       );
   room = made_room m c c1 c2 c3 d t k made a first second w placed written hm hd;
   records = λ s h. made_records m c c1 c2 c3 d t k made a first second w placed written hm hd;
+  idle = λ i. absurd (not-idle (call.New k) reply.Ok (λ no. no) (λ why q. cc) i);
 }
 
 placed-stacks : (m : Areas) (c c1 : Contents) (t : ℕ) (x : Space) (size a : ℕ) → IsPlaced m c t x size a c1 → c1.stacks ≡ c.stacks

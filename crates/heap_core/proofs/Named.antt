@@ -11,7 +11,7 @@ use Rattle.heap_words.specs.Contents.{Contents}
 use Rattle.epoch_lattice.specs.declared.Space.{Space}
 use Rattle.epoch_lattice.specs.Lattice.{IsValid, inner_of}
 use Rattle.yak_model.specs.declared.datum.Datum.TheVariants.{Null, Object}
-use Rattle.yak_model.specs.Graph.{Fields, Thread, idle, make, next_name, thread_of}
+use Rattle.yak_model.specs.Graph.{standard_limits, Fields, Thread, idle, make, next_name, thread_of}
 use Rattle.yak_model.specs.Spaces.{SpaceState, content_at, home_of, innermost}
 use Rattle.yak_model.specs.State.{Thing, object_of, thing_of, view}
 use Rattle.yak_model.specs.Placed.{same_name, with_object}
@@ -66,7 +66,7 @@ view-named s t k =
       objects-named s t k,
     ) refl
 
-valid : (m : Areas) (t d : ℕ) → IsAreas m → HasThread m t → d ≤ 8 → IsValid 8 (inner_of t d)
+valid : (m : Areas) (t d : ℕ) → IsAreas m → HasThread m t → d ≤ max_depth m → IsValid standard_limits.depth (inner_of t d)
 valid m t zero areas ht deep = tt
 valid m t (suc d) areas ht deep = (ht.0, omega (arith, ht.1, areas.3), omega arith, deep)
 
@@ -74,7 +74,7 @@ valid m t (suc d) areas ht deep = (ht.0, omega (arith, ht.1, areas.3), omega ari
 pub innermost-valid : (m : Areas) (c : Contents) (s : SpaceState) (h : Stands m c s) (t : ℕ) → IsAreas m → HasThread m t → IsValid s.graph.limits.depth (innermost s.graph t)
 innermost-valid m c s h t areas ht =
     let deep : get_or (view s).depths (t - 1) 0 ≤ max_depth m = rw (← h.stands.depths) (all-at (λ i. i ≤ max_depth m) c.depths (t - 1) 0 (omega arith) h.stands.limits.depths) in
-    let deep' : (thread_of s.graph t).depth ≤ 8 = rw (← depth-shown s t) deep in
+    let deep' : (thread_of s.graph t).depth ≤ max_depth m = rw (← depth-shown s t) deep in
     rw h.whole.limits (valid m t (thread_of s.graph t).depth areas ht deep')
 
 some_home : (x y : Space) → Some x ≡ Some y → x ≡ y

@@ -10,10 +10,11 @@ use Rattle.std.proofs.lemmas.List.{length-replicate, get_or-replicate, get_or_de
 use Rattle.std.proofs.lemmas.List.Sums.{length-filter}
 use Rattle.std.proofs.lemmas.List.Elements.{All-replicate, All-cons, All-nil}
 use Rattle.object_layout.specs.declared.names.Name.{Name}
-use Rattle.object_layout.specs.declared.TheConstants.{MAX_FIELDS, MAX_SERIAL}
+use Rattle.object_layout.specs.declared.TheConstants.{MAX_FIELDS, MAX_SERIAL, OBJECT_WORDS}
 use Rattle.heap_words.specs.declared.map.Areas.{Areas}
 use Rattle.heap_words.specs.declared.TheConstants.{STACK_SLOTS, BUFFER_ENTRIES}
-use Rattle.heap_words.specs.Map.{IsAreas, max_depth}
+use Rattle.object_layout.specs.Layout.{header_word}
+use Rattle.heap_words.specs.Map.{IsAreas, heap_length, max_depth, page_words, rest_words}
 use Rattle.heap_words.specs.Contents.{InLimits}
 use Rattle.heap_words.proofs.Zero.{map-replicate}
 use Rattle.epoch_lattice.specs.declared.Space.{Space}
@@ -27,12 +28,14 @@ use Rattle.yak_model.proofs.Names.{get-same, get-other, same_or_other}
 use Rattle.yak_model.specs.State.{State, Thing, IsDatum, IsClosed, object_of, thing_of, view}
 use Rattle.yak_model.specs.Stands.{SpacesOpen, NamesMade, RestsZero, PoolStands, CurrentsStand, SetsStand, RegionsDense, IsWhole, StandsAs, Stands, pages_of}
 use Rattle.yak_model.specs.Placed.{Places, names_of, datum_word, space_word, used_mark, size_by, IsAt, Tiles, ObjectAt, HeapStands}
+use Rattle.yak_model.specs.declared.TheConstants.{ROOT_FIELDS}
+use Rattle.yak_model.specs.Room.{root_words}
 use Rattle.heap_core.specs.Opening.{opened, Counts}
 use Rattle.std.specs.Prelude.{◌==◌}
 
 -- the root as it lies in the heap
 abbrev pub root : Thing
-root = record { home = Control; fields = replicate 16 Null }
+root = record { home = Control; fields = replicate ROOT_FIELDS Null }
 
 abbrev pub is_root : Name → Bool
 is_root n = nat_eq n.thread 0 && nat_eq n.serial 0
@@ -76,7 +79,7 @@ only_root n o h =
     (is_root-true n p.0, p.1)
 
 abbrev table : ℕ → List (List ℕ)
-table n = (1 ∷ 19 ∷ []) ∷ replicate n (0 ∷ 0 ∷ [])
+table n = (1 ∷ root_words ∷ []) ∷ replicate n (0 ∷ 0 ∷ [])
 
 free_row : (n q : ℕ) (d : List ℕ) → q < n → get_or (replicate n (0 ∷ 0 ∷ [])) q d ≡ 0 ∷ 0 ∷ []
 free_row n q d h = get_or-replicate n q (0 ∷ 0 ∷ []) d h
@@ -108,16 +111,16 @@ at_root n x (suc q) k h =
     let lt' : k < 0 = subst (λ (ns : List Name). k < length ns) (no_names n q) lt in
     absurd (omega arith)
 
-page_sum : (n p : ℕ) → sum_by (size_by root_alone) (names_of (lay n) p) ≤ 256
-page_sum n zero = omega arith
-page_sum n (suc q) = rw (no_names n q) (omega arith)
+page_sum : (m : Areas) (n p : ℕ) → sum_by (size_by root_alone) (names_of (lay n) p) ≤ page_words m
+page_sum m n zero = omega arith
+page_sum m n (suc q) = rw (no_names n q) (omega arith)
 
 first_place : (n : ℕ) → IsAt (lay n) root_name 0 0
 first_place n = record { page = omega arith; place = omega arith; name = refl }
 
-tiles : (n : ℕ) → Tiles 256 (size_by root_alone) (lay n)
-tiles n = record {
-  fits = λ p h. page_sum n p;
+tiles : (m : Areas) (n : ℕ) → Tiles (page_words m) (size_by root_alone) (lay n)
+tiles m n = record {
+  fits = λ p h. page_sum m n p;
   places = λ x p k h. let r = at_root n x p k h in rw (r.1, r.2) refl;
   once = λ x p k q j hx hy.
       let r = at_root n x p k hx in
@@ -125,20 +128,24 @@ tiles n = record {
       (r.1 ∙ sym s.1, r.2 ∙ sym s.2);
 }
 
-behind : (N i : ℕ) → get_or {A = ℕ} (set (replicate N 0) 0 65552) (suc i) 0 ≡ 0
+-- the header of the root
+abbrev root_header : ℕ
+root_header = header_word (record { fields = ROOT_FIELDS; space = 0 })
+
+behind : (N i : ℕ) → get_or {A = ℕ} (set (replicate N 0) 0 root_header) (suc i) 0 ≡ 0
 behind zero i = refl
 behind (suc N) i = zeros N i
 
-root_words : (N : ℕ) → 0 < N → ObjectAt (set (replicate N 0) 0 65552) (λ _. 0) (λ _. 0) root_name root
-root_words N h =
+root_laid : (N : ℕ) → 0 < N → ObjectAt (set (replicate N 0) 0 root_header) (λ _. 0) (λ _. 0) root_name root
+root_laid N h =
     let long : 0 < length (replicate N (let z : ℕ = 0 in z)) = rw (length-replicate {A = ℕ} N 0) h in
     record {
-      header = get_or-set_same (replicate N 0) 0 65552 0 long;
+      header = get_or-set_same (replicate N 0) 0 root_header 0 long;
       name = behind N 0;
       work_word = behind N 1;
       fields = λ f lt.
-          let e : 0 + 3 + f ≡ suc (2 + f) = omega arith in
-          rw (e, nulls 16 f) (behind N (2 + f));
+          let e : 0 + OBJECT_WORDS + f ≡ suc (2 + f) = omega arith in
+          rw (e, nulls ROOT_FIELDS f) (behind N (2 + f));
     }
 
 marks : (n p : ℕ) → p < suc n → used_mark (table n) p ≡ sum_by (size_by root_alone) (names_of (lay n) p)
@@ -148,7 +155,7 @@ marks n (suc q) h = let below : q < n = omega arith in rw (no_names n q, free_ro
 heap_stands : (n k : ℕ) (pool : List ℕ) → HeapStands (opening_map n k) (table n) (opened (opening_map n k) pool).heap root_alone (lay n) (λ _. 0)
 heap_stands n k pool = record {
   count = ap suc (length-replicate {A = List Name} n []);
-  tiles = tiles n;
+  tiles = tiles (opening_map n k) n;
   present = λ x o h. (0, 0, subst (λ y. IsAt (lay n) y 0 0) (sym (only_root x o h).0) (first_place n));
   whole = λ x p i h.
       let r = at_root n x p i h in
@@ -156,7 +163,7 @@ heap_stands n k pool = record {
   marks = marks n;
   held = λ x o h.
       let r = only_root x o h in
-      rw (r.0, ← r.1) (root_words (256 * suc n) (omega arith));
+      rw (r.0, ← r.1) (root_laid (heap_length (opening_map n k)) (omega arith));
 }
 
 spaces_open : (n k : ℕ) (depths : List ℕ) → SpacesOpen (opening_map n k) (table n) depths
@@ -173,7 +180,7 @@ is_closed m = record {
   stacks = All-replicate (All (IsDatum (opening m).objects)) m.threads (Object root_name ∷ []) (All-cons (IsDatum (opening m).objects) (Object root_name) [] refl (All-nil (IsDatum (opening m).objects)));
   fields = λ n o h.
       let e : root ≡ o = (only_root n o h).1 in
-      subst (λ (x : Thing). All (IsDatum (opening m).objects) x.fields × (length x.fields ≤ MAX_FIELDS)) e (All-replicate (IsDatum (opening m).objects) 16 Null tt, omega arith);
+      subst (λ (x : Thing). All (IsDatum (opening m).objects) x.fields × (length x.fields ≤ MAX_FIELDS)) e (All-replicate (IsDatum (opening m).objects) ROOT_FIELDS Null tt, omega arith);
 }
 
 in_limits : (m : Areas) (pool : List ℕ) → InLimits m (opened m pool)
@@ -224,28 +231,29 @@ pool_stands n k pool long counts =
       once = counts-apart n pool long counts;
     })
 
-zero_rows : (k q d : ℕ) → get_or (get_or (replicate k (replicate 9 (let z : ℕ = 0 in z))) q []) d 0 ≡ 0
-zero_rows zero q d = refl
-zero_rows (suc k) zero d = zeros 9 d
-zero_rows (suc k) (suc q) d = zero_rows k q d
+zero_rows : (w k q d : ℕ) → get_or (get_or (replicate k (replicate w (let z : ℕ = 0 in z))) q []) d 0 ≡ 0
+zero_rows w zero q d = refl
+zero_rows w (suc k) zero d = zeros w d
+zero_rows w (suc k) (suc q) d = zero_rows w k q d
 
-abbrev first_currents : ℕ → List (List ℕ)
-first_currents k = (1 ∷ replicate 8 0) ∷ replicate k (replicate 9 0)
+-- the current pages of threads of a depth at most
+abbrev first_currents : ℕ → ℕ → List (List ℕ)
+first_currents w k = (1 ∷ replicate w 0) ∷ replicate k (replicate (w + 1) 0)
 
 -- one page is current
-one_current : (k q d : ℕ) → get_or (get_or (first_currents k) q []) d 0 ≢ 0 → (q ≡ 0) × (d ≡ 0)
-one_current k zero zero ne = (refl, refl)
-one_current k zero (suc d) ne = absurd (ne (zeros 8 d))
-one_current k (suc q) d ne = absurd (ne (zero_rows k q d))
+one_current : (w k q d : ℕ) → get_or (get_or (first_currents w k) q []) d 0 ≢ 0 → (q ≡ 0) × (d ≡ 0)
+one_current w k zero zero ne = (refl, refl)
+one_current w k zero (suc d) ne = absurd (ne (zeros w d))
+one_current w k (suc q) d ne = absurd (ne (zero_rows (w + 1) k q d))
 
 currents_stand : (n k : ℕ) (pool : List ℕ) → CurrentsStand (opening_map n k) (opened (opening_map n k) pool).currents (table n)
 currents_stand n k pool = record {
   belong = λ t d ht hk hd ne.
-      let p = one_current k (t - 1) d ne in
+      let p = one_current (max_depth (opening_map n k)) k (t - 1) d ne in
       rw (p.0, p.1) (omega arith, refl);
   once = λ t d u e ht hk hu hl ne same.
-      let p = one_current k (t - 1) d ne in
-      let q = one_current k (u - 1) e (λ z. ne (same ∙ z)) in
+      let p = one_current (max_depth (opening_map n k)) k (t - 1) d ne in
+      let q = one_current (max_depth (opening_map n k)) k (u - 1) e (λ z. ne (same ∙ z)) in
       (omega (arith, p.0, q.0), p.1 ∙ sym q.1);
 }
 
@@ -253,7 +261,7 @@ sets_stand : (n k : ℕ) (pool : List ℕ) → SetsStand (opening_map n k) (open
 sets_stand n k pool = record {
   within = omega arith;
   listed = λ i h. absurd (omega arith);
-  placed = λ a h ne. absurd (ne (get_or-replicate {A = ℕ} (2 * (256 * suc n)) (256 * suc n + a) 0 0 (omega arith)));
+  placed = λ a h ne. absurd (ne (let words : ℕ = heap_length (opening_map n k) in get_or-replicate {A = ℕ} (2 * words) (words + a) 0 0 (omega arith)));
 }
 
 filter-none : (f : List ℕ → Bool) (n : ℕ) (r : List ℕ) → f r ≡ false → filter f (replicate n r) ≡ []
@@ -263,7 +271,7 @@ filter-none f (suc n) r h = rw h (filter-none f n r h)
 no_pages : (n t d : ℕ) → pages_of (table n) (Region t d) ≡ 0
 no_pages n t d =
     let f = λ (r : List ℕ). slice_index r 0 == space_index (Region t d) + 1 in
-    let one : f (1 ∷ 19 ∷ []) ≡ false = grind (arith, nat_tests) in
+    let one : f (1 ∷ root_words ∷ []) ≡ false = grind (arith, nat_tests) in
     let none : f (0 ∷ 0 ∷ []) ≡ false = grind (arith, nat_tests) in
     let empty : filter f (table n) ≡ [] = rw one (filter-none f n (0 ∷ 0 ∷ []) none) in
     sym (length-filter f (table n)) ∙ ap (λ (rs : List (List ℕ)). length rs) empty
@@ -275,7 +283,7 @@ regions_dense n k currents t d ht hk hd hg some = absurd (omega (arith, no_pages
 rests_zero : (n k : ℕ) (pool : List ℕ) → RestsZero (opened (opening_map n k) pool).heads (opened (opening_map n k) pool).rests
 rests_zero n k pool = record {
   heads = All-replicate (λ w. w ≡ 0) 4 0 refl;
-  blocks = All-replicate (All (λ w. w ≡ 0)) (suc k) (replicate 11 0) (All-replicate (λ w. w ≡ 0) 11 0 refl);
+  blocks = All-replicate (All (λ w. w ≡ 0)) (suc k) (replicate (rest_words (opening_map n k)) 0) (All-replicate (λ w. w ≡ 0) (rest_words (opening_map n k)) 0 refl);
 }
 
 opening_as : (n k : ℕ) (pool : List ℕ) → length pool ≡ suc n → Counts n pool → StandsAs (opening_map n k) (opened (opening_map n k) pool) (opening (opening_map n k)) (lay n)
@@ -312,8 +320,8 @@ root_shown : (threads : ℕ) (x : Name) → object_of (opening_spaces standard_l
 root_shown threads x =
     elim (same_or_other x root_name) [
       | inl q ↦
-          rw q (ap (thing_of (home_of (opening_spaces standard_limits threads) root_name)) (get-same finite.empty root_name (Fields (replicate 16 Null)))
-          ∙ ap (λ h. thing_of h (Some (Fields (replicate 16 Null)))) (get-same finite.empty root_name Control))
+          rw q (ap (thing_of (home_of (opening_spaces standard_limits threads) root_name)) (get-same finite.empty root_name (Fields (replicate ROOT_FIELDS Null)))
+          ∙ ap (λ h. thing_of h (Some (Fields (replicate ROOT_FIELDS Null)))) (get-same finite.empty root_name Control))
       | inr ne ↦
           rw (other_root x ne) (ap (λ h. thing_of h (content_at (opening_spaces standard_limits threads).graph x)) (get-other finite.empty root_name Control x ne ∙ finite.get-empty name_cmp x))
     ]
@@ -334,11 +342,11 @@ is_whole : (threads : ℕ) → IsWhole (opening_spaces standard_limits threads)
 is_whole threads = record {
   limits = refl;
   contents = λ x. elim (same_or_other x root_name) [
-    | inl q ↦ rw q (ap is_some (get-same finite.empty root_name (Fields (replicate 16 Null))) ∙ sym (ap is_some (get-same finite.empty root_name Control)))
-    | inr ne ↦ ap is_some (get-other finite.empty root_name (Fields (replicate 16 Null)) x ne ∙ finite.get-empty name_cmp x) ∙ sym (ap is_some (get-other finite.empty root_name Control x ne ∙ finite.get-empty name_cmp x))
+    | inl q ↦ rw q (ap is_some (get-same finite.empty root_name (Fields (replicate ROOT_FIELDS Null))) ∙ sym (ap is_some (get-same finite.empty root_name Control)))
+    | inr ne ↦ ap is_some (get-other finite.empty root_name (Fields (replicate ROOT_FIELDS Null)) x ne ∙ finite.get-empty name_cmp x) ∙ sym (ap is_some (get-other finite.empty root_name Control x ne ∙ finite.get-empty name_cmp x))
   ];
   homes = λ x y e. elim (same_or_other x root_name) [
-    | inl q ↦ subst (IsValid 8) (some_home Control y (sym (get-same finite.empty root_name Control) ∙ ap (home_of (opening_spaces standard_limits threads)) (sym q) ∙ e)) tt
+    | inl q ↦ subst (IsValid standard_limits.depth) (some_home Control y (sym (get-same finite.empty root_name Control) ∙ ap (home_of (opening_spaces standard_limits threads)) (sym q) ∙ e)) tt
     | inr ne ↦ absurd (let f : None ≡ Some y = sym (get-other finite.empty root_name Control x ne ∙ finite.get-empty name_cmp x) ∙ e in cc)
   ];
 }

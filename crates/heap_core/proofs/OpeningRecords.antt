@@ -11,7 +11,7 @@ use Rattle.yak_model.specs.Graph.{standard_limits}
 use Rattle.yak_model.specs.Spaces.{opening_spaces}
 use Rattle.yak_model.specs.State.{State, Thing}
 use Rattle.yak_model.specs.Recorded.{RecordedAs}
-use Rattle.heap_core.specs.declared.TheConstants.{ROOT_FIELDS}
+use Rattle.yak_model.specs.declared.TheConstants.{ROOT_FIELDS}
 use Rattle.heap_core.specs.Opening.{Counts, opened}
 use Rattle.heap_core.specs.Records.{StandsRecorded}
 use Rattle.heap_core.proofs.Logged.{entries_of, none_left}

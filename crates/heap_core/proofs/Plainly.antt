@@ -166,4 +166,5 @@ plainly m was now t asked said p quiet h =
       packed = all.packed;
       records = λ s stands r. all.records s stands (h.records s stands);
       room = all.room h.room;
+      idle = h.idle;
     }

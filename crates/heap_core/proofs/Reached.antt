@@ -104,6 +104,7 @@ load_refused m c t k f why ht none = record {
       (s, (s, (thread_in m c s h t ht, rw e (refl, refl), refl, tt), refl), h, λ r. r);
   room = same_room c;
   records = λ s h. same_records c;
+  idle = λ i. refl;
 }
 
 same_both : (a : Bool) (x : Option Refusal) → cond a x x ≡ x
@@ -117,6 +118,7 @@ store_refused_value m c t k f x ht le = record {
       (s, (s, (thread_in m c s h t ht, rw (bad_slot m c s h t x le, e) (refl, refl), refl, tt), refl), h, λ r. r);
   room = same_room c;
   records = λ s h. same_records c;
+  idle = λ i. refl;
 }
 
 pub store_refused : (m : Areas) (c : Contents) (t k f x : ℕ) (why : Refusal) → HasThread m t → x < length (stack_of c t) → ((s : SpaceState) → Stands m c s → no_field s.graph t k f ≡ Some why) → Turned m c c t (call.Store k f x) (reply.Refused why)
@@ -124,4 +126,5 @@ store_refused m c t k f x why ht lt none = record {
   turns = λ s h. (s, (s, (thread_in m c s h t ht, rw (good_slot m c s h t x lt, none s h) (refl, refl), refl, tt), refl), h, λ r. r);
   room = same_room c;
   records = λ s h. same_records c;
+  idle = λ i. refl;
 }

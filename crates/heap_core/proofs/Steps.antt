@@ -6,9 +6,11 @@ use Rattle.std.proofs.lemmas.List.Elements.{All-push, All-take}
 use Rattle.std.proofs.lemmas.Bool.Decides.{nat_tests}
 use Rattle.std.proofs.Math.Logic.{⊎_elim}
 use Rattle.object_layout.specs.declared.TheConstants.{MAX_ADDRESS, MAX_INT}
+use Rattle.object_layout.specs.declared.calls.Call.{Call}
 use Rattle.object_layout.specs.declared.calls.Call.TheVariants as call
 use Rattle.object_layout.specs.declared.replies.Reply.{Reply}
 use Rattle.object_layout.specs.declared.replies.Reply.TheVariants as reply
+use Rattle.object_layout.specs.declared.replies.Refusal.{Refusal}
 use Rattle.object_layout.specs.declared.replies.Refusal.TheVariants as refusal
 use Rattle.heap_words.specs.declared.map.Areas.{Areas}
 use Rattle.heap_words.specs.declared.TheConstants.{STACK_SLOTS}
@@ -28,7 +30,7 @@ use Rattle.yak_model.proofs.Data.{Tells, counted, in_heap, is_integer, is_null, 
 use Rattle.yak_model.proofs.Stacks.{is_thread, restacked, slot-fits, slot-word, stack-fits, stack_length, stack_words}
 use Rattle.heap_core.specs.Room.{SameRoom}
 use Rattle.heap_core.specs.Records.{SameRecords}
-use Rattle.heap_core.specs.Steps.{IsPushed, Turned}
+use Rattle.heap_core.specs.Steps.{IsIdle, IsPushed, OnlyShows, Turned}
 use Rattle.heap_core.proofs.Recorded.{IsRead, Later, restacks, same_records, slots-read}
 
 pub beyond : (n k : ℕ) → n ≤ k → leb n k ≡ true
@@ -70,6 +72,19 @@ pushed_records : (c d : Contents) (t w : ℕ) (r : Reply) → IsPushed c d t w r
 pushed_records c d t w r done = ⊎_elim
     (λ (p : (length (stack_of c t) < STACK_SLOTS) × (r ≡ reply.Ok) × (d ≡ with_stack c t (stack_of c t ++ w ∷ []))). stack_records_same c d t (stack_of c t ++ w ∷ []) p.2)
     (λ (p : (length (stack_of c t) ≡ STACK_SLOTS) × (r ≡ reply.Refused refusal.StackFull) × (d ≡ c)). subst (SameRecords c) (sym p.2) (same_records c))
+    done
+
+-- a call that does more than show something is idle only where it is refused
+pub refused-alone : (asked : Call) (said : Reply) → (OnlyShows asked → ⊥) → IsIdle asked said → (why : Refusal) × (said ≡ reply.Refused why)
+refused-alone asked said more idle = ⊎_elim (λ (shows : OnlyShows asked). absurd (more shows)) (λ (r : (why : Refusal) × (said ≡ reply.Refused why)). r) idle
+
+pub not-idle : (asked : Call) (said : Reply) → (OnlyShows asked → ⊥) → ((why : Refusal) → said ≢ reply.Refused why) → IsIdle asked said → ⊥
+not-idle asked said more taken idle = let r = refused-alone asked said more idle in taken r.0 r.1
+
+pushed_idle : (c d : Contents) (t w : ℕ) (r : Reply) → IsPushed c d t w r → (why : Refusal) × (r ≡ reply.Refused why) → d ≡ c
+pushed_idle c d t w r done refused = ⊎_elim
+    (λ (p : (length (stack_of c t) < STACK_SLOTS) × (r ≡ reply.Ok) × (d ≡ with_stack c t (stack_of c t ++ w ∷ []))). absurd (let q : reply.Ok ≡ reply.Refused refused.0 = sym p.1 ∙ refused.1 in cc))
+    (λ (p : (length (stack_of c t) ≡ STACK_SLOTS) × (r ≡ reply.Refused refusal.StackFull) × (d ≡ c)). p.2)
     done
 
 -- an integer and null enter no region
@@ -114,6 +129,7 @@ int_turns m c d t i w r ht fits e done = record {
       (p.0, (p.0, (thread_in m c s h t ht, p.1, p.2, fits), refl), p.3.0, p.3.1);
   room = pushed_room c d t w r done;
   records = λ s h. pushed_records c d t w r done;
+  idle = λ quiet. pushed_idle c d t w r done (refused-alone (call.Int i) r (λ no. no) quiet);
 }
 
 pub null_turns : (m : Areas) (c d : Contents) (t w : ℕ) (r : Reply) → HasThread m t → w ≡ 0 → IsPushed c d t w r → Turned m c d t call.Null r
@@ -123,6 +139,7 @@ null_turns m c d t w r ht e done = record {
       (p.0, (p.0, (thread_in m c s h t ht, p.1, p.2, tt), refl), p.3.0, p.3.1);
   room = pushed_room c d t w r done;
   records = λ s h. pushed_records c d t w r done;
+  idle = λ i. pushed_idle c d t w r done (refused-alone call.Null r (λ no. no) i);
 }
 
 pub dup_turns : (m : Areas) (c d : Contents) (t k w : ℕ) (r : Reply) → HasThread m t → k < length (stack_of c t) → w ≡ get_or (stack_of c t) k 0 → IsPushed c d t w r → Turned m c d t (call.Dup k) r
@@ -132,6 +149,7 @@ dup_turns m c d t k w r ht lt e done = record {
       (p.0, (p.0, (thread_in m c s h t ht, rw (good_slot m c s h t k lt) p.1, p.2, tt), refl), p.3.0, p.3.1);
   room = pushed_room c d t w r done;
   records = λ s h. pushed_records c d t w r done;
+  idle = λ i. pushed_idle c d t w r done (refused-alone (call.Dup k) r (λ no. no) i);
 }
 
 pub dup_refused : (m : Areas) (c : Contents) (t k : ℕ) → HasThread m t → length (stack_of c t) ≤ k → Turned m c c t (call.Dup k) (reply.Refused refusal.BadSlot)
@@ -139,6 +157,7 @@ dup_refused m c t k ht le = record {
   turns = λ s h. (s, (s, (thread_in m c s h t ht, rw (bad_slot m c s h t k le) (refl, refl), refl, tt), refl), h, λ r. r);
   room = same_room c;
   records = λ s h. same_records c;
+  idle = λ i. refl;
 }
 
 -- a slot that is dropped, and a stack that has none
@@ -157,6 +176,7 @@ pop_turns m c d t ht lt most e = record {
       (restacked s t (take n st), (restacked s t (take n st), (thread_in m c s h t ht, rw test (refl, refl), refl, tt), refl), now.0, now.1);
   room = stack_room_same c d t (take (length (stack_of c t) - 1) (stack_of c t)) e;
   records = λ s h. stack_records_same c d t (take (length (stack_of c t) - 1) (stack_of c t)) e;
+  idle = λ i. absurd (not-idle call.Pop reply.Ok (λ no. no) (λ why q. cc) i);
 }
 
 pub pop_refused : (m : Areas) (c : Contents) (t : ℕ) → HasThread m t → length (stack_of c t) ≡ 0 → Turned m c c t call.Pop (reply.Refused refusal.StackEmpty)
@@ -166,6 +186,7 @@ pop_refused m c t ht e = record {
       (s, (s, (thread_in m c s h t ht, rw test (refl, refl), refl, tt), refl), h, λ r. r);
   room = same_room c;
   records = λ s h. same_records c;
+  idle = λ i. refl;
 }
 
 -- what is shown of a slot
@@ -174,6 +195,7 @@ got m c t k r ht lt is = record {
   turns = λ s h. (s, (s, (thread_in m c s h t ht, rw (good_slot m c s h t k lt) (is s h, refl), refl, tt), refl), h, λ r. r);
   room = same_room c;
   records = λ s h. same_records c;
+  idle = λ i. refl;
 }
 
 pub get_refused : (m : Areas) (c : Contents) (t k : ℕ) → HasThread m t → length (stack_of c t) ≤ k → Turned m c c t (call.Get k) (reply.Refused refusal.BadSlot)
@@ -181,6 +203,7 @@ get_refused m c t k ht le = record {
   turns = λ s h. (s, (s, (thread_in m c s h t ht, rw (bad_slot m c s h t k le) (refl, refl), refl, tt), refl), h, λ r. r);
   room = same_room c;
   records = λ s h. same_records c;
+  idle = λ i. refl;
 }
 
 pub shows_int : (m : Areas) (c : Contents) (t k i : ℕ) → 2 * i + 1 ≡ get_or (stack_of c t) k 0 → (s : SpaceState) → Stands m c s → reply.Int i ≡ shown s.graph (slot_of s.graph t k)
@@ -214,6 +237,7 @@ same_turns m c t k x ht lk lx e = record {
       (s, (s, (thread_in m c s h t ht, rw (good_slot m c s h t k lk, good_slot m c s h t x lx) (inl (refl, same), refl), refl, tt), refl), h, λ r. r);
   room = same_room c;
   records = λ s h. same_records c;
+  idle = λ i. refl;
 }
 
 pub differ_turns : (m : Areas) (c : Contents) (t k x : ℕ) → HasThread m t → k < length (stack_of c t) → x < length (stack_of c t) → get_or (stack_of c t) k 0 ≢ get_or (stack_of c t) x 0 → Turned m c c t (call.Same k x) reply.No
@@ -223,6 +247,7 @@ differ_turns m c t k x ht lk lx ne = record {
       (s, (s, (thread_in m c s h t ht, rw (good_slot m c s h t k lk, good_slot m c s h t x lx) (inr (refl, differ), refl), refl, tt), refl), h, λ r. r);
   room = same_room c;
   records = λ s h. same_records c;
+  idle = λ i. refl;
 }
 
 pub same_refused : (m : Areas) (c : Contents) (t k x : ℕ) → HasThread m t → length (stack_of c t) ≤ k → Turned m c c t (call.Same k x) (reply.Refused refusal.BadSlot)
@@ -230,6 +255,7 @@ same_refused m c t k x ht le = record {
   turns = λ s h. (s, (s, (thread_in m c s h t ht, rw (bad_slot m c s h t k le) (refl, refl), refl, tt), refl), h, λ r. r);
   room = same_room c;
   records = λ s h. same_records c;
+  idle = λ i. refl;
 }
 
 pub same_refused_too : (m : Areas) (c : Contents) (t k x : ℕ) → HasThread m t → k < length (stack_of c t) → length (stack_of c t) ≤ x → Turned m c c t (call.Same k x) (reply.Refused refusal.BadSlot)
@@ -237,4 +263,5 @@ same_refused_too m c t k x ht lt le = record {
   turns = λ s h. (s, (s, (thread_in m c s h t ht, rw (good_slot m c s h t k lt, bad_slot m c s h t x le) (refl, refl), refl, tt), refl), h, λ r. r);
   room = same_room c;
   records = λ s h. same_records c;
+  idle = λ i. refl;
 }

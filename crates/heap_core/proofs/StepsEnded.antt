@@ -5,6 +5,7 @@ use Rattle.std.proofs.Math.Logic.{⊎_elim, ∥∥₁_elim}
 use Rattle.object_layout.specs.declared.calls.Call.TheVariants as call
 use Rattle.object_layout.specs.declared.replies.Reply.{Reply}
 use Rattle.object_layout.specs.declared.replies.Reply.TheVariants as reply
+use Rattle.object_layout.specs.declared.replies.Refusal.{Refusal}
 use Rattle.object_layout.specs.declared.replies.Refusal.TheVariants as refusal
 use Rattle.object_layout.specs.declared.replies.Shortage.{Shortage}
 use Rattle.heap_words.specs.declared.map.Areas.{Areas}
@@ -29,27 +30,27 @@ use Rattle.heap_core.proofs.Bounds.{tight-bound}
 use Rattle.heap_core.proofs.Begins.{depth_words}
 use Rattle.heap_core.proofs.Gathered.{kept-threads}
 use Rattle.heap_core.proofs.Recorded.{same_records}
-use Rattle.heap_core.proofs.Steps.{beyond, same_room, thread_in}
+use Rattle.heap_core.proofs.Steps.{beyond, not-idle, same_room, thread_in}
 use Rattle.heap_core.proofs.StepsMade.{only-collected}
 
 -- the three ways in which an end goes
-after-cases : (m : Areas) (was now : Contents) (s : SpaceState) (t : ℕ) (P : Reply → Option Shortage → Type 0)
-    → ((moved : ℕ) → EndedAfter m was now s t moved → P (reply.Ended moved false) None)
-    → ((moved : ℕ) (shortage : Shortage) → TightAfter m was now s t moved shortage → P (reply.Ended moved true) (Some shortage))
-    → (said : Reply) (shortage : Option Shortage) → CollectedAs m was now s t said shortage → P said shortage
-after-cases m was now s t P loose tight reply.Ok shortage h = absurd h
-after-cases m was now s t P loose tight reply.Null shortage h = absurd h
-after-cases m was now s t P loose tight (reply.Int i) shortage h = absurd h
-after-cases m was now s t P loose tight (reply.Object n) shortage h = absurd h
-after-cases m was now s t P loose tight reply.Yes shortage h = absurd h
-after-cases m was now s t P loose tight reply.No shortage h = absurd h
-after-cases m was now s t P loose tight (reply.Ended moved false) None h = loose moved h
-after-cases m was now s t P loose tight (reply.Ended moved false) (Some shortage) h = absurd h
-after-cases m was now s t P loose tight (reply.Ended moved true) None h = absurd h
-after-cases m was now s t P loose tight (reply.Ended moved true) (Some shortage) h = tight moved shortage h
-after-cases m was now s t P loose tight (reply.Pages a b c) shortage h = absurd h
-after-cases m was now s t P loose tight reply.OutOfHeap shortage h = absurd h
-after-cases m was now s t P loose tight (reply.Refused why) shortage h = absurd h
+after-cases : (m : Areas) (was now : Contents) (s : SpaceState) (h : Stands m was s) (t : ℕ) (P : Reply → Option Shortage → Type 0)
+    → ((moved : ℕ) → EndedAfter m was now s h t moved → P (reply.Ended moved false) None)
+    → ((moved : ℕ) (shortage : Shortage) → TightAfter m was now s h t moved shortage → P (reply.Ended moved true) (Some shortage))
+    → (said : Reply) (shortage : Option Shortage) → CollectedAs m was now s h t said shortage → P said shortage
+after-cases m was now s h t P loose tight reply.Ok shortage e = absurd e
+after-cases m was now s h t P loose tight reply.Null shortage e = absurd e
+after-cases m was now s h t P loose tight (reply.Int i) shortage e = absurd e
+after-cases m was now s h t P loose tight (reply.Object n) shortage e = absurd e
+after-cases m was now s h t P loose tight reply.Yes shortage e = absurd e
+after-cases m was now s h t P loose tight reply.No shortage e = absurd e
+after-cases m was now s h t P loose tight (reply.Ended moved false) None e = loose moved e
+after-cases m was now s h t P loose tight (reply.Ended moved false) (Some shortage) e = absurd e
+after-cases m was now s h t P loose tight (reply.Ended moved true) None e = absurd e
+after-cases m was now s h t P loose tight (reply.Ended moved true) (Some shortage) e = tight moved shortage e
+after-cases m was now s h t P loose tight (reply.Pages a b c) shortage e = absurd e
+after-cases m was now s h t P loose tight reply.OutOfHeap shortage e = absurd e
+after-cases m was now s h t P loose tight (reply.Refused why) shortage e = absurd e
 
 once-cases : (m : Areas) (was now : Contents) (s : SpaceState) (h : Stands m was s) (t : ℕ) (P : Reply → Option Shortage → Type 0)
     → ((moved : ℕ) → RegionEnded m was now s h t moved → P (reply.Ended moved false) None)
@@ -76,9 +77,10 @@ pub record Ending (m : Areas) (was now : Contents) (s : SpaceState) (h : Stands 
   pub turns : TurnsTo m was now s h (ending t said collected)
   pub lawful : (before : List Entry) → AreLawful m.pages before s (ending t said collected)
   pub makes : CollectsForEnd m was s h t said collected
-  pub tells : TellsShortage m s t said shortage
+  pub tells : TellsShortage m was s h t said shortage
   pub records : RecordsEnd m s was now t said collected
   pub no_fault : said ≢ reply.OutOfHeap
+  pub not_refused : (why : Refusal) → said ≢ reply.Refused why
 
 -- the readers after an end that stands behind a collection
 closed-readers : (m : Areas) (was between tried now : Contents) (s : SpaceState) (h : Stands m was s) (t : ℕ) (after : SpaceState) → Collects s after → Stands m between after → between.readers ≡ was.readers → tried.readers ≡ between.readers → depth_of tried t ≡ depth_of between t → now.readers ≡ (with_readers tried t (depth_of tried t) 0).readers → now.readers ≡ (with_readers was t (depth_of was t) 0).readers
@@ -99,39 +101,42 @@ ended-once m was now s h t moved ht e = record {
     record { after = e.state.after; ends = e.state.ends; stands = e.state.stands; filed = e.rest.filed },
   );
   no_fault = λ same. cc;
+  not_refused = λ why same. cc;
 }
 
-ended-after : (m : Areas) (was first now : Contents) (s : SpaceState) (h : Stands m was s) (t moved : ℕ) (found : Shortage) → HasThread m t → RegionShort m was first s h t found → EndedAfter m first now s t moved → Ending m was now s h t (reply.Ended moved false) true None
-ended-after m was first now s h t moved found ht short e = record {
+ended-after : (m : Areas) (was first now : Contents) (s : SpaceState) (h : Stands m was s) (t moved : ℕ) → HasThread m t → (found : Shortage) (short : RegionShort m was first s h t found) → EndedAfter m first now s short.later t moved → Ending m was now s h t (reply.Ended moved false) true None
+ended-after m was first now s h t moved ht found short e = record {
   turns = (e.ended.state.after, (e.state.after, (thread_in m was s h t ht, e.state.collects), (e.ended.state.after, (thread_in m e.between e.state.after e.state.stands t ht, e.ended.state.ends), refl)), e.ended.state.stands, λ r. e.ended.state.recorded);
   lawful = λ before. (inr (moved, false, [], refl), λ mid turned. (tt, λ last more. tt));
   makes = (found, short.short);
   tells = λ other same. cc;
   records = record { filed = e.ended.state.filed; readers = closed-readers m was e.between e.between now s h t e.state.after e.state.collects e.state.stands (e.room.readers ∙ ap (λ (x : Contents). x.readers) short.frame) refl refl (ap (λ (x : Contents). x.readers) e.ended.rest.frame) };
   no_fault = λ same. cc;
+  not_refused = λ why same. cc;
 }
 
-tight-after : (m : Areas) (was first now : Contents) (s : SpaceState) (h : Stands m was s) (t moved : ℕ) (shortage found : Shortage) → IsAreas m → HasThread m t → RegionShort m was first s h t found → TightAfter m first now s t moved shortage → Ending m was now s h t (reply.Ended moved true) true (Some shortage)
-tight-after m was first now s h t moved shortage found areas ht short e = record {
+tight-after : (m : Areas) (was first now : Contents) (s : SpaceState) (h : Stands m was s) (t moved : ℕ) (shortage : Shortage) → IsAreas m → HasThread m t → (found : Shortage) (short : RegionShort m was first s h t found) → TightAfter m first now s short.later t moved shortage → Ending m was now s h t (reply.Ended moved true) true (Some shortage)
+tight-after m was first now s h t moved shortage areas ht found short e = record {
   turns = (e.ended.state.after, (e.state.after, (thread_in m was s h t ht, e.state.collects), (e.ended.state.after, (thread_in m e.between e.state.after e.state.stands t ht, e.ended.state.ends), refl)), e.ended.state.stands, λ r. e.ended.state.recorded);
   lawful = λ before. (
     inr (moved, true, [], refl),
     λ mid turned. (
-      ((before, refl), only-collected m e.between s mid (λ (z : SpaceState). (escaped : ℕ) × HasWords z (Escapes z t (innermost z.graph t)) escaped × (z.graph.limits.page * m.pages < (2 * present_words z + 2 * escaped) + 2 * z.graph.limits.page * (open_regions z + 1))) e.state turned.1 (tight-bound m e.between e.state.after e.state.stands t shortage areas ht e.ended.state.ends.open_epoch e.state.packed e.short.short)),
+      ((before, refl), only-collected m first e.between s mid short.later (λ (z : SpaceState). (escaped : ℕ) × HasWords z (Escapes z t (innermost z.graph t)) escaped × (z.graph.limits.page * m.pages < (2 * present_words z + 2 * escaped) + 2 * z.graph.limits.page * (open_regions z + 1))) e.state turned.1 (tight-bound m e.between e.state.after e.state.stands t shortage areas ht e.ended.state.ends.open_epoch e.state.packed e.short.short)),
       λ last more. tt,
     ),
   );
   makes = (found, short.short);
-  tells = ((moved, refl), e.short.short.more, record { between = e.between; state = e.state; short = e.short.short });
+  tells = ((moved, refl), e.short.short.more, record { first = first; found = found; tried = short; between = e.between; room = e.room; state = e.state; short = e.short.short });
   records = record { filed = e.ended.state.filed; readers = closed-readers m was e.between e.tried now s h t e.state.after e.state.collects e.state.stands (e.room.readers ∙ ap (λ (x : Contents). x.readers) short.frame) (ap (λ (x : Contents). x.readers) e.short.frame) (ap (λ (x : Contents). depth_of x t) e.short.frame) (ap (λ (x : Contents). x.readers) e.ended.rest.frame) };
   no_fault = λ same. cc;
+  not_refused = λ why same. cc;
 }
 
 ending-of : (m : Areas) (was now : Contents) (s : SpaceState) (h : Stands m was s) (t : ℕ) (said : Reply) (collected : Bool) (shortage : Option Shortage) → IsAreas m → HasThread m t → EndsAs m was now s h t said collected shortage → Ending m was now s h t said collected shortage
 ending-of m was now s h t said false shortage areas ht e = once-cases m was now s h t (λ (r : Reply) (o : Option Shortage). Ending m was now s h t r false o) (λ moved x. ended-once m was now s h t moved ht x) said shortage e
-ending-of m was now s h t said true shortage areas ht e = after-cases m e.first now s t (λ (r : Reply) (o : Option Shortage). Ending m was now s h t r true o)
-    (λ moved x. ended-after m was e.first now s h t moved e.found ht e.short x)
-    (λ moved numbers x. tight-after m was e.first now s h t moved numbers e.found areas ht e.short x)
+ending-of m was now s h t said true shortage areas ht e = after-cases m e.first now s e.short.later t (λ (r : Reply) (o : Option Shortage). Ending m was now s h t r true o)
+    (λ moved x. ended-after m was e.first now s h t moved ht e.found e.short x)
+    (λ moved numbers x. tight-after m was e.first now s h t moved numbers areas ht e.found e.short x)
     said shortage e.ends
 
 -- an end where no epoch is open
@@ -142,6 +147,7 @@ no_epoch m c t ht shallow = record {
       (s, (s, (thread_in m c s h t ht, rw test (refl, refl), refl, tt), refl), h, λ r. r);
   room = same_room c;
   records = λ s h. same_records c;
+  idle = λ i. refl;
 }
 
 done-none : (m : Areas) (c : Contents) (t : ℕ) → HasThread m t → depth_of c t ≡ 0 → Done m c c t call.End (plain (reply.Refused refusal.NoEpoch))
@@ -159,6 +165,7 @@ done-none m c t ht shallow =
       packed = λ s stands. tt;
       records = λ s stands r. same_records c;
       room = tt;
+      idle = λ i. refl;
     }
 
 done-some : (m : Areas) (was now : Contents) (t : ℕ) (said : Reply) (collected : Bool) (shortage : Option Shortage) → IsAreas m → HasThread m t → SomeRecorded m was → 0 < depth_of was t
@@ -179,6 +186,7 @@ done-some m was now t said collected shortage areas ht some deep ends =
       packed = λ s h. tt;
       records = λ s h r. (each s h r).records;
       room = tt;
+      idle = λ i. absurd (not-idle call.End said (λ no. no) (λ why e. ∥∥₁_elim some (hlevel props) (λ q. (each q.0 q.1 q.2).not_refused why e)) i);
     }
 
 pub done-ended : (m : Areas) (was now : Contents) (t : ℕ) (said : Stepped) → IsAreas m → HasThread m t → SomeRecorded m was → IsEnd m was now t said → Done m was now t call.End said

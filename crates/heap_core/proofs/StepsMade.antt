@@ -27,11 +27,11 @@ use Rattle.heap_core.specs.Steps.{Turned, plain}
 use Rattle.heap_core.proofs.Bounds.{census-bound, full-bound}
 use Rattle.heap_core.proofs.Gathered.{full-after, packed-after}
 use Rattle.heap_core.proofs.Recorded.{same_records}
-use Rattle.heap_core.proofs.Steps.{same_room, thread_in}
+use Rattle.heap_core.proofs.Steps.{not-idle, same_room, thread_in}
 
 -- the state that a collection leaves is the one that the words stand for
-pub only-collected : (m : Areas) (now : Contents) (s mid : SpaceState) (P : SpaceState → Type 0) (x : StateCollected m now s) → Collects s mid → P x.after → P mid
-only-collected m now s mid P x h p = subst P (states_unique.collection s x.after mid x.collects h) p
+pub only-collected : (m : Areas) (was now : Contents) (s mid : SpaceState) (h : Stands m was s) (P : SpaceState → Type 0) (x : StateCollected m was now s h) → Collects s mid → P x.after → P mid
+only-collected m was now s mid h P x collects p = subst P (states_unique.collection s x.after mid x.collects collects) p
 
 -- an object that takes a place has room
 inner-depth : (t d : ℕ) → depth_in (inner_of t d) ≡ d
@@ -64,6 +64,7 @@ done-refused m was now t k why h = record {
   packed = λ s stands. tt;
   records = λ s stands r. h.records s stands;
   room = h.room;
+  idle = h.idle;
 }
 
 done-once : (m : Areas) (was now : Contents) (t k : ℕ) → Turned m was now t (call.New k) reply.Ok → Done m was now t (call.New k) (plain reply.Ok)
@@ -79,6 +80,7 @@ done-once m was now t k h = record {
   packed = λ s stands. tt;
   records = λ s stands r. h.records s stands;
   room = h.room;
+  idle = h.idle;
 }
 
 pub done-made_once : (m : Areas) (was now : Contents) (t k : ℕ) (said : Stepped) → MadeAtOnce m was now t k said → Done m was now t (call.New k) said
@@ -109,7 +111,8 @@ done-after m was now t k said ht short h = record {
         filed = rw same.buffers h.collected.room.filed;
         readers = same.readers ∙ h.collected.room.readers;
       };
-  room = record { short = short; between = h.between; room = h.collected.room; then = h.turned.room };
+  room = record { short = short; between = h.between; collected = h.collected; then = h.turned.room };
+  idle = λ i. absurd (not-idle (call.New k) reply.Ok (λ no. no) (λ why q. cc) i);
 }
 
 -- no room after a collection either
@@ -125,7 +128,7 @@ done-full m was now t k said areas ht rows some short h =
         inl (k, reply.OutOfHeap, [], refl, inr refl),
         λ mid turned.
             let x = h.collected.state s stands r in
-            (((before, refl), only-collected m now s mid (λ (z : SpaceState). z.graph.limits.page * m.pages ≤ 2 * present_words z + z.graph.limits.page * (open_regions z + 1)) x turned.1 (full-bound m now x.after x.stands t k areas (full x.after x.stands))), λ last more. tt),
+            (((before, refl), only-collected m was now s mid stands (λ (z : SpaceState). z.graph.limits.page * m.pages ≤ 2 * present_words z + z.graph.limits.page * (open_regions z + 1)) x turned.1 (full-bound m now x.after x.stands t k areas (full x.after x.stands))), λ last more. tt),
       );
       collected = λ s stands r. (λ e. short, λ e. refl);
       full = (refl, h.counts);
@@ -135,7 +138,8 @@ done-full m was now t k said areas ht rows some short h =
       counts = tt;
       packed = λ s stands. tt;
       records = λ s stands r. record { filed = h.collected.room.filed; readers = h.collected.room.readers };
-      room = record { short = short; between = now; room = h.collected.room; then = (h.none, same_room now) };
+      room = record { short = short; between = now; collected = h.collected; then = (h.none, same_room now) };
+      idle = λ i. absurd (not-idle (call.New k) reply.OutOfHeap (λ no. no) (λ why q. cc) i);
     }
 
 pub done-made : (m : Areas) (was now : Contents) (t k : ℕ) (said : Stepped) → IsAreas m → HasThread m t → length now.table ≡ m.pages → SomeRecorded m was → IsMade m was now t k said → Done m was now t (call.New k) said
@@ -160,7 +164,8 @@ done-collected m was now t ht rows some h = record {
   counts = tt;
   packed = packed-after m was now t some h rows;
   records = λ s stands r. record { filed = h.room.filed; readers = h.room.readers };
-  room = h.room;
+  room = h;
+  idle = λ i. absurd (not-idle call.Collect reply.Ok (λ no. no) (λ why q. cc) i);
 }
 
 -- a census
@@ -177,4 +182,5 @@ done-counted m c t areas ht rows = record {
   packed = λ s stands. tt;
   records = λ s stands r. same_records c;
   room = same_room c;
+  idle = λ i. refl;
 }

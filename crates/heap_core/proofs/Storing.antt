@@ -32,7 +32,7 @@ use Rattle.heap_core.specs.Room.{SameRoom}
 use Rattle.heap_core.proofs.Homes.{home-shown}
 use Rattle.heap_core.proofs.Logged.{recorded-logged, recorded-same, slot_recorded, stands-with_logs}
 use Rattle.heap_core.proofs.Reached.{field_within}
-use Rattle.heap_core.proofs.Steps.{good_slot, thread_in}
+use Rattle.heap_core.proofs.Steps.{good_slot, not-idle, thread_in}
 use Rattle.heap_core.proofs.Stores.{recorded-stored}
 
 -- what is recorded doesn't tell the words of objects
@@ -112,4 +112,5 @@ store_turns m c d t k f x a w from to ht long buffers limits lt field is froms t
       let place : a ≡ h.places.at n + OBJECT_WORDS + f = p.place ∙ ap (λ (y : Name). h.places.at y + OBJECT_WORDS + f) name in
       let out : from ≡ home_of s n = froms s h ∙ ap (home_at s) e in
       subst (λ (b : Option Space). RecordsSlot m c d t (h.places.at n + OBJECT_WORDS + f) (home_of s n) b) (tos s h) (subst (λ (b : Option Space). RecordsSlot m c d t (h.places.at n + OBJECT_WORDS + f) b to) out (subst (λ i. RecordsSlot m c d t i from to) place done.records));
+  idle = λ i. absurd (not-idle (call.Store k f x) reply.Ok (λ no. no) (λ why q. cc) i);
 }

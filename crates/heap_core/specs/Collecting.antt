@@ -14,7 +14,7 @@ use Rattle.mark_compact.specs.Collected.{RoomCollected, StateCollected}
 
 -- A collection by a thread led from the one words to the others, for each state that they stand for.
 pub record IsCollected (m : Areas) (was now : Contents) (t : ℕ) : Type 0 where
-  pub state : (s : SpaceState) (h : Stands m was s) → Recorded m was s h → StateCollected m now s
+  pub state : (s : SpaceState) (h : Stands m was s) → Recorded m was s h → StateCollected m was now s h
   pub room : RoomCollected m was now t
 
 -- The reply that tells the exact counts of the page table.

@@ -9,8 +9,9 @@ use Rattle.object_layout.specs.declared.replies.Shortage.{Shortage}
 use Rattle.object_layout.specs.declared.replies.Census as layout
 use Rattle.object_layout.specs.declared.TheConstants.{OBJECT_WORDS}
 use Rattle.heap_words.specs.declared.map.Areas.{Areas}
+use Rattle.heap_words.specs.Map.{HasRegion}
 use Rattle.heap_words.specs.Contents.{Contents, depth_of, with_readers}
-use Rattle.epoch_lattice.specs.declared.Space.TheVariants.{Control}
+use Rattle.epoch_lattice.specs.declared.Space.TheVariants.{Control, Region}
 use Rattle.yak_model.specs.History.{Entry}
 use Rattle.yak_model.specs.Spaces.{EndsEpoch, SpaceState}
 use Rattle.yak_model.specs.State.{object_of}
@@ -19,15 +20,15 @@ use Rattle.yak_model.specs.Recorded.{Recorded}
 use Rattle.yak_model.specs.Packed.{IsFull, IsPacked}
 use Rattle.mark_compact.specs.Collected.{RoomCollected, StateCollected}
 use Rattle.forwarding.specs.Crossing.{AreFiled}
-use Rattle.escape_closure.specs.Ends.{FallsShort, HasEnough}
+use Rattle.escape_closure.specs.Ends.{FallsShort, HasEnough, RegionShort}
 use Rattle.escape_closure.specs.Leaves.{FilesEnded}
 use Rattle.heap_core.specs.declared.owned.Stepped.{Stepped}
-use Rattle.heap_core.specs.Collecting.{CountsFull, counted}
+use Rattle.heap_core.specs.Collecting.{CountsFull, IsCollected, counted}
 use Rattle.heap_core.specs.EpochEnds.{IsEnd, IsShort}
 use Rattle.heap_core.specs.Lawful.{AreLawful, PackedIfAsked}
 use Rattle.heap_core.specs.Records.{Records, SameRecords}
 use Rattle.heap_core.specs.Room.{HasNoRoom, SameRoom, TakesPlace, TakesRoom}
-use Rattle.heap_core.specs.Steps.{TurnsTo, entries}
+use Rattle.heap_core.specs.Steps.{IsIdle, TurnsTo, entries}
 
 -- ---- when a step collects
 
@@ -58,17 +59,22 @@ abbrev pub FillsHeap : (m : Areas) (now : Contents) (s : SpaceState) → Stands 
 FillsHeap m now s stands t (New k) said = said ≡ OutOfHeap → IsFull m now s stands t k
 FillsHeap m now s stands t asked said = said ≢ OutOfHeap
 
--- After a collection of the state the objects that escape still need more pages than are free, and these are both numbers.
-pub record ShortAfter (m : Areas) (s : SpaceState) (t : ℕ) (shortage : Shortage) : Type 0 where
+-- The free pages were too few at the call, and after the collection that then was made the objects that escape still need more
+-- pages than are free. These are both numbers.
+pub record ShortAfter (m : Areas) (was : Contents) (s : SpaceState) (stands : Stands m was s) (t : ℕ) (shortage : Shortage) : Type 0 where
+  pub first : Contents
+  pub found : Shortage
+  pub tried : RegionShort m was first s stands t found
   pub between : Contents
-  pub state : StateCollected m between s
+  pub room : RoomCollected m first between t
+  pub state : StateCollected m first between s tried.later
   pub short : FallsShort m between state.after state.stands.places t shortage
 
 -- The shortage is told exactly where an end was tight.
-abbrev pub TellsShortage : Areas → SpaceState → ℕ → Reply → Option Shortage → Type 0
-TellsShortage m s t said shortage =
+abbrev pub TellsShortage : (m : Areas) (was : Contents) (s : SpaceState) → Stands m was s → ℕ → Reply → Option Shortage → Type 0
+TellsShortage m was s stands t said shortage =
     MatchOption shortage ((moved : ℕ) → said ≢ Ended moved true)
-    (λ numbers. ((moved : ℕ) × (said ≡ Ended moved true)) × (numbers.free < numbers.needed) × ShortAfter m s t numbers)
+    (λ numbers. ((moved : ℕ) × (said ≡ Ended moved true)) × (numbers.free < numbers.needed) × ShortAfter m was s stands t numbers)
 
 -- A census tells the exact counts.
 abbrev pub TellsPages : Contents → Call → Reply → Type 0
@@ -117,7 +123,7 @@ StepRecords m s at was now t asked said collected = Records m s at was now t ask
 pub record MakesRoom (m : Areas) (was : Contents) (t size : ℕ) (more : Contents → Type 0) : Type 0 where
   pub short : HasNoRoom m was t size
   pub between : Contents
-  pub room : RoomCollected m was between t
+  pub collected : IsCollected m was between t
   pub then : more between
 
 -- An object takes its place, at once or after a collection, or has no room after a collection either.
@@ -131,7 +137,7 @@ RoomForNew m was now t size said collected = SameRoom was now
 abbrev pub StepRoom : Areas → Contents → Contents → ℕ → Call → Reply → Bool → Type 0
 StepRoom m was now t (New k) said collected = RoomForNew m was now t (k + OBJECT_WORDS) said collected
 StepRoom m was now t End said collected = Unit {0}
-StepRoom m was now t Collect said collected = RoomCollected m was now t
+StepRoom m was now t Collect said collected = IsCollected m was now t
 StepRoom m was now t asked said collected = TakesRoom m was now t asked said
 
 -- An end ends the epoch as the rules have it.
@@ -144,6 +150,10 @@ abbrev pub PacksControl : (m : Areas) (now : Contents) (s : SpaceState) → Stan
 PacksControl m now s stands Collect = IsPacked m now s stands Control
 PacksControl m now s stands asked = Unit {0}
 
+-- Each region of the heap's threads wastes at most half of its pages, but for one page.
+abbrev pub RegionsPacked : Areas → Contents → Type 0
+RegionsPacked m c = (s : SpaceState) (h : Stands m c s) (t d : ℕ) → HasRegion m t d → IsPacked m c s h (Region t d)
+
 -- All that a step does and says.
 pub record Done (m : Areas) (was now : Contents) (t : ℕ) (asked : Call) (said : Stepped) : Type 0 where
   pub turns : (s : SpaceState) (h : Stands m was s) → Recorded m was s h → TurnsTo m was now s h (entries t asked said)
@@ -151,9 +161,10 @@ pub record Done (m : Areas) (was now : Contents) (t : ℕ) (asked : Call) (said 
   pub collected : (s : SpaceState) (h : Stands m was s) → Recorded m was s h → CollectsWhere m was s h t asked said.reply said.collected
   pub full : TellsFull now said.reply said.full
   pub filled : (s : SpaceState) (h : Stands m now s) → FillsHeap m now s h t asked said.reply
-  pub shortage : (s : SpaceState) (h : Stands m was s) → Recorded m was s h → TellsShortage m s t said.reply said.shortage
+  pub shortage : (s : SpaceState) (h : Stands m was s) → Recorded m was s h → TellsShortage m was s h t said.reply said.shortage
   pub ended : EndsSo m was now t asked said
   pub counts : TellsPages was asked said.reply
   pub packed : (s : SpaceState) (h : Stands m now s) → PacksControl m now s h asked
   pub records : (s : SpaceState) (h : Stands m was s) → Recorded m was s h → StepRecords m s h.places.at was now t asked said.reply said.collected
   pub room : StepRoom m was now t asked said.reply said.collected
+  pub idle : IsIdle asked said.reply → now ≡ was

@@ -24,39 +24,39 @@ abbrev pub IsShort : Areas → Contents → SpaceState → Places → ℕ → Ty
 IsShort m c s l t = (shortage : Shortage) × FallsShort m c s l t shortage
 
 -- After a collection the free pages were enough for the objects that escape.
-pub record EndedAfter (m : Areas) (was now : Contents) (s : SpaceState) (t moved : ℕ) : Type 0 where
+pub record EndedAfter (m : Areas) (was now : Contents) (s : SpaceState) (stands : Stands m was s) (t moved : ℕ) : Type 0 where
   pub between : Contents
   pub room : RoomCollected m was between t
-  pub state : StateCollected m between s
+  pub state : StateCollected m was between s stands
   pub ended : RegionEnded m between now state.after state.stands t moved
 
 -- After a collection the free pages were still too few, and the objects that escape stayed in the region's own pages.
-pub record TightAfter (m : Areas) (was now : Contents) (s : SpaceState) (t moved : ℕ) (shortage : Shortage) : Type 0 where
+pub record TightAfter (m : Areas) (was now : Contents) (s : SpaceState) (stands : Stands m was s) (t moved : ℕ) (shortage : Shortage) : Type 0 where
   pub between : Contents
   pub room : RoomCollected m was between t
-  pub state : StateCollected m between s
+  pub state : StateCollected m was between s stands
   pub tried : Contents
   pub short : RegionShort m between tried state.after state.stands t shortage
   pub ended : TightEnded m tried now state.after short.later t moved
 
 -- An end after a collection says that it made one, and the shortage exactly where it is tight.
-abbrev pub CollectedAs : Areas → Contents → Contents → SpaceState → ℕ → Reply → Option Shortage → Type 0
-CollectedAs m was now s t (Ended moved false) None = EndedAfter m was now s t moved
-CollectedAs m was now s t (Ended moved true) (Some shortage) = TightAfter m was now s t moved shortage
-CollectedAs m was now s t said shortage = ⊥
+abbrev pub CollectedAs : (m : Areas) (was now : Contents) (s : SpaceState) → Stands m was s → ℕ → Reply → Option Shortage → Type 0
+CollectedAs m was now s stands t (Ended moved false) None = EndedAfter m was now s stands t moved
+CollectedAs m was now s stands t (Ended moved true) (Some shortage) = TightAfter m was now s stands t moved shortage
+CollectedAs m was now s stands t said shortage = ⊥
 
 -- The end of an epoch after a collection, for each state that the words stand for.
 pub record EndsAfterCollection (m : Areas) (was now : Contents) (t : ℕ) (said : Stepped) : Type 0 where
   pub collected : said.collected ≡ true
   pub full : said.full ≡ None
-  pub ends : (s : SpaceState) (h : Stands m was s) → Recorded m was s h → CollectedAs m was now s t said.reply said.shortage
+  pub ends : (s : SpaceState) (h : Stands m was s) → Recorded m was s h → CollectedAs m was now s h t said.reply said.shortage
 
 -- The free pages were too few at the call, and then a collection was made.
 pub record ShortAtFirst (m : Areas) (was now : Contents) (s : SpaceState) (stands : Stands m was s) (t : ℕ) (said : Reply) (shortage : Option Shortage) : Type 0 where
   pub first : Contents
   pub found : Shortage
   pub short : RegionShort m was first s stands t found
-  pub ends : CollectedAs m first now s t said shortage
+  pub ends : CollectedAs m first now s short.later t said shortage
 
 -- An end without a collection isn't tight: the free pages were enough.
 abbrev pub EndsAtOnce : (m : Areas) (was now : Contents) (s : SpaceState) → Stands m was s → ℕ → Reply → Option Shortage → Type 0

@@ -16,11 +16,6 @@ mod slots;
 pub use caller::CoreCaller;
 pub use owned::{Core, Stepped};
 
-/// The fields of the root object.
-pub const ROOT_FIELDS: u16 = 16;
-/// The words of the root object.
-pub const ROOT_WORDS: u64 = 19;
-
 #[cfg(test)]
 mod tests {
     use super::*;

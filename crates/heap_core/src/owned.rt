@@ -11,11 +11,12 @@ ghost use Rattle.yak_model.specs.Recorded.{Recorded};
 ghost use Rattle.epoch_lattice.specs.declared.Space.TheVariants.{Control};
 ghost use Rattle.yak_model.specs.History.{Entry};
 ghost use Rattle.yak_model.specs.Packed.{IsPacked};
-ghost use Rattle.heap_core.specs.Done.{CollectsWhere, EndsSo, FillsHeap, StepRecords, StepRoom, TellsFull, TellsPages, TellsShortage};
+ghost use Rattle.heap_core.specs.Done.{CollectsWhere, EndsSo, FillsHeap, RegionsPacked, StepRecords, StepRoom, TellsFull, TellsPages, TellsShortage};
 ghost use Rattle.heap_core.specs.EpochEnds.{ReadsFew};
 ghost use Rattle.heap_core.specs.Lawful.{AreLawful, PackedIfAsked};
+ghost use Rattle.heap_core.specs.Opening.{IsOpened};
 ghost use Rattle.heap_core.specs.Records.{SomeRecorded, StandsRecorded};
-ghost use Rattle.heap_core.specs.Steps.{entries};
+ghost use Rattle.heap_core.specs.Steps.{IsIdle, entries};
 
 use crate::caller::words_in_use;
 use crate::calls::answer;
@@ -49,7 +50,9 @@ impl Core<Image> {
     /// A new heap of so many pages and threads, in the opening state.
     pub fn new(alloc: Global, pages: u32, threads: u8) -> Result<Core<Image>, MakeError>
         ensures opening { IfOk result (λ core. StandsRecorded core.map (contents core.map (⟦<Image as Words>⟧.words core.words)) (opening_spaces standard_limits threads)) }
+        ensures opened { IfOk result (λ core. IsOpened core.map (contents core.map (⟦<Image as Words>⟧.words core.words))) }
         ensures map { IfOk result (λ core. core.map ≡ record { pages = pages; threads = threads }) }
+        ensures regions { IfOk result (λ core. RegionsPacked core.map (contents core.map (⟦<Image as Words>⟧.words core.words))) }
         ensures within_limits { IfOk result (λ _. IsAreas (record { pages = pages; threads = threads })) }
         ensures refused { IfErr result (λ e. (e ≡ MakeError.BadConfig) ↔ ¬ IsAreas (record { pages = pages; threads = threads })) }
     {
@@ -67,6 +70,7 @@ impl<W: Words> Core<W> {
         requires stands { SomeRecorded map (contents map (W.words words)) }
         ensures words { result.words ≡ words }
         ensures map { result.map ≡ map }
+        ensures regions { RegionsPacked result.map (contents result.map (W.words result.words)) }
     {
         Core { words, map }
     }
@@ -81,11 +85,13 @@ impl<W: Words> Core<W> {
         ensures collected { (s : SpaceState) (h : Stands self.old.map (contents self.old.map (W.words self.old.words)) s) → CollectsWhere self.old.map (contents self.old.map (W.words self.old.words)) s h thread call result.reply result.collected }
         ensures full { TellsFull (contents self.new.map (W.words self.new.words)) result.reply result.full }
         ensures filled { (s : SpaceState) (h : Stands self.new.map (contents self.new.map (W.words self.new.words)) s) → FillsHeap self.new.map (contents self.new.map (W.words self.new.words)) s h thread call result.reply }
-        ensures shortage { (s : SpaceState) → Stands self.old.map (contents self.old.map (W.words self.old.words)) s → TellsShortage self.old.map s thread result.reply result.shortage }
+        ensures shortage { (s : SpaceState) (h : Stands self.old.map (contents self.old.map (W.words self.old.words)) s) → TellsShortage self.old.map (contents self.old.map (W.words self.old.words)) s h thread result.reply result.shortage }
         ensures ended { EndsSo self.old.map (contents self.old.map (W.words self.old.words)) (contents self.new.map (W.words self.new.words)) thread call result }
         ensures census { TellsPages (contents self.old.map (W.words self.old.words)) call result.reply }
         ensures packed { call ≡ Call.Collect → (s : SpaceState) (h : Stands self.new.map (contents self.new.map (W.words self.new.words)) s) → IsPacked self.new.map (contents self.new.map (W.words self.new.words)) s h Control }
+        ensures regions { RegionsPacked self.new.map (contents self.new.map (W.words self.new.words)) }
         ensures records { (s : SpaceState) (h : Stands self.old.map (contents self.old.map (W.words self.old.words)) s) → StepRecords self.old.map s h.places.at (contents self.old.map (W.words self.old.words)) (contents self.new.map (W.words self.new.words)) thread call result.reply result.collected }
+        ensures idle { IsIdle call result.reply → contents self.new.map (W.words self.new.words) ≡ contents self.old.map (W.words self.old.words) }
         ensures room { StepRoom self.old.map (contents self.old.map (W.words self.old.words)) (contents self.new.map (W.words self.new.words)) thread call result.reply result.collected }
         ensures reads { (s : SpaceState) (h : Stands self.old.map (contents self.old.map (W.words self.old.words)) s) → ReadsFew self.old.map (contents self.old.map (W.words self.old.words)) s h thread call result (W.reads self.old.words) (W.reads self.new.words) }
         ensures map { self.new.map ≡ self.old.map }

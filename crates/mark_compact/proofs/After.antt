@@ -32,7 +32,7 @@ use Rattle.relocation.proofs.SlidLawful.{keep-case}
 use Rattle.forwarding.specs.Crossing.{AreData, AreValid, IsCrossing}
 use Rattle.forwarding.specs.Reshaped.{Reshaped}
 use Rattle.forwarding.proofs.Reshaping.{reshape, reshaped-objects, reshaped-whole}
-use Rattle.mark_compact.specs.Collected.{StateCollected}
+use Rattle.mark_compact.specs.Collected.{AreSlid, StateCollected}
 use Rattle.mark_compact.specs.Collecting.{Cleared, ControlPages, IsLast, Lain}
 use Rattle.mark_compact.proofs.Drops.{control_case}
 use Rattle.mark_compact.proofs.Logged.{cleared-stands, pool-with_entries}
@@ -282,7 +282,7 @@ module _ (m : Areas) (c0 c1 c2 c3 c4 : Contents) (s : SpaceState) (h : Stands m 
     stands = subst (λ (w : State). StandsAs m c4 w there) (sym (view-after after r)) stands-as;
   }
 
-  pub collected : RecordedAs m c0 (view s) h.places.at → ((a : ℕ) → IsFiled c4 a ↔ (IsFiled c3 a ⊎ IsCrossing v.objects there.at count moves a)) → StateCollected m c4 s
+  pub collected : RecordedAs m c0 (view s) h.places.at → ((a : ℕ) → IsFiled c4 a ↔ (IsFiled c3 a ⊎ IsCrossing v.objects there.at count moves a)) → StateCollected m c0 c4 s h
   collected r filed =
       let made = reshape s (given s st.lain.dropped) present-before in
       let same = view-after made.0 made.1 in
@@ -293,4 +293,5 @@ module _ (m : Areas) (c0 c1 c2 c3 c4 : Contents) (s : SpaceState) (h : Stands m 
         stands = stands-after made.0 made.1;
         recorded = subst (λ (w : State). RecordedAs m c4 w there.at) (sym same) (recorded-as r filed);
         packed = subst (λ (w : State). PackedAs m c4.table there.pages w.objects Control) (sym same) packed;
+        slid = subst (λ (w : State). AreSlid m c0.table h.places.at w.objects there.at) (sym same) (subst (λ (tb : List (List ℕ)). AreSlid m tb h.places.at v.objects there.at) (ap (λ (x : Contents). x.table) st.cleared.others) st.lain.slid);
       }

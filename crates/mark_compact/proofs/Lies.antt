@@ -1,11 +1,11 @@
 -- What the moves of a collection leave.
-use Rattle.std.proofs.Common.{◌≡◌, ◌≢◌, ℕ, ◌+◌, ◌*◌, ◌/◌, ◌≤◌, ◌<◌, Option, Some, None, List, [], ◌∷◌, length, map, get_or, zero, suc, refl, sym, ap, subst, ◌∙◌, arith, inl, inr}
+use Rattle.std.proofs.Common.{◌≡◌, ◌≢◌, ◌⊎◌, ℕ, ◌+◌, ◌*◌, ◌/◌, ◌≤◌, ◌<◌, Option, Some, None, List, [], ◌∷◌, length, map, get_or, zero, suc, refl, sym, ap, subst, ◌∙◌, arith, inl, inr}
 use Rattle.std.proofs.Math.Path.{fun_ext}
 use Rattle.std.proofs.lemmas.Bool.{cases_eq, cases_lt}
-use Rattle.std.proofs.Math.Logic.{⊎_elim}
+use Rattle.std.proofs.Math.Logic.{⊎_elim, ∥∥₁_map}
 use Rattle.object_layout.specs.declared.names.Name.{Name}
 use Rattle.object_layout.specs.declared.headers.Header.{Header}
-use Rattle.object_layout.specs.declared.TheConstants.{MAX_DEPTH, MAX_SPACE}
+use Rattle.object_layout.specs.declared.TheConstants.{MAX_DEPTH, MAX_SPACE, OBJECT_WORDS}
 use Rattle.object_layout.specs.Layout.{IsHeader}
 use Rattle.heap_words.specs.declared.map.Areas.{Areas}
 use Rattle.heap_words.specs.Map.{IsAreas, heap_length, page_words}
@@ -20,8 +20,8 @@ use Rattle.yak_model.specs.Placed.{HeapStands, Holds, Places, datum_word, names_
 use Rattle.yak_model.specs.Plans.{Move, after_moves, by_move, cleared, forward, forwarded, rehomed, without}
 use Rattle.yak_model.specs.Packed.{PackedAs}
 use Rattle.yak_model.specs.Stands.{Stands, pages_of}
-use Rattle.relocation.specs.Moves.{AllMovable, HasHeader, Moved, corrected_word, fields_at, size_at}
-use Rattle.relocation.specs.Slide.{IsPageOf, brought, pages_before}
+use Rattle.relocation.specs.Moves.{AllMovable, HasHeader, IsReadyPlan, Moved, corrected_word, fields_at, size_at}
+use Rattle.relocation.specs.Slide.{GoesBehind, GoesOn, IsFirstPage, IsPageOf, brought, pages_before}
 use Rattle.relocation.specs.Slidden.{names_after}
 use Rattle.relocation.proofs.Corrected.{corrected-datum}
 use Rattle.relocation.proofs.Lawful.{before_moves, by_move-at, by_move-other, kept, which_move}
@@ -31,6 +31,7 @@ use Rattle.relocation.proofs.SlidLaid.{places_of}
 use Rattle.relocation.proofs.SlidPages.{pages_before-gap}
 use Rattle.relocation.proofs.Slidden.{pick, slide-packed}
 use Rattle.relocation.proofs.SlidLawful.{slide-present}
+use Rattle.mark_compact.specs.Collected.{AreSlid, IsNext, IsOfControl}
 use Rattle.mark_compact.specs.Collecting.{Lain, Led, Planned}
 use Rattle.mark_compact.specs.declared.sliding.TheConstants.{CONTROL_WORD}
 use Rattle.mark_compact.proofs.Slides
@@ -63,6 +64,20 @@ holds-work m heap lies leads work other objects h same = record {
 map-map : {A B C : Type 0} (f : A → B) (g : B → C) (k : A → C) (xs : List A) → ((x : A) → g (f x) ≡ k x) → map g (map f xs) ≡ map k xs
 map-map f g k [] same = refl
 map-map f g k (x ∷ xs) same = let here : g (f x) ≡ k x = same x in let rest : map g (map f xs) ≡ map k xs = map-map f g k xs same in cc
+
+goes-there : (m : Areas) (slid : ℕ) {table table' : List (List ℕ)} {a a' x x' b b' y y' : ℕ} → table ≡ table' → a ≡ a' → x ≡ x' → b ≡ b' → y ≡ y' → GoesBehind m a x b y ⊎ GoesOn m slid table a x b y → GoesBehind m a' x' b' y' ⊎ GoesOn m slid table' a' x' b' y'
+goes-there m slid et ea ex eb ey h = rw (← et, ← ea, ← ex, ← eb, ← ey) h
+
+-- a plan whose references were corrected is ready
+pub ready-led : (m : Areas) (c : Contents) (count : ℕ) (moves : ℕ → Move) → ∥ ((was : Contents) × (planned : Contents) × (s : SpaceState) × (h : Stands m was s) × (p : Planned m was s h.places planned count moves) × Led m (view s) h.places p.dropped planned c count moves) ∥₁ → ∥ IsReadyPlan m c.heap count moves ∥₁
+ready-led m c count moves some = ∥∥₁_map some (λ q. record {
+  state = view q.2;
+  places = q.3.places.at;
+  work = λ n. get_or q.1.heap (q.3.places.at n + 2) 0;
+  dropped = q.4.dropped;
+  lawful = q.4.lawful;
+  holds = q.5.holds;
+})
 
 -- ---- the page table
 
@@ -110,6 +125,64 @@ module _ (m : Areas) (was : Contents) (s : SpaceState) (h : Stands m was s) (d :
 
   pub brought-to : (n : Name) (k : ℕ) → k < count → h.places.at n ≡ (moves k).old → forwarded count moves h.places.at n ≡ (moves k).new
   brought-to n k lt at = by_move-at count moves (λ v. v.new) (h.places.at n) (h.places.at n) k (Slides.known m was s h d count moves p areas).ascending lt at
+
+  -- an object of Control that is kept goes where its move brings it
+  place-of : (n : Name) (o : Thing) → IsOfControl (Slides.kept_objects m was s h d count moves p areas) n o → (k : ℕ) × (k < count) × ((moves k).old ≡ h.places.at n) × (forwarded count moves h.places.at n ≡ (moves k).new) × (size_at p.marked.heap (moves k).old ≡ length o.fields + OBJECT_WORDS)
+  place-of n o here =
+      let y = Slides.found m was s h d count moves p areas n o here.0 here.1 in
+      let old : object_of s n ≡ Some o = kept (view s) p.dropped n o here.0 in
+      (y.0, y.1, y.2, brought-to n y.0 y.1 (sym y.2), ap (size_at p.marked.heap) y.2 ∙ (Slides.sized-marked m was s h d count moves p areas n o old).1)
+
+  -- the object of a move
+  moved-one : (k : ℕ) → k < count → (n : Name) × (o : Thing) × IsOfControl (Slides.kept_objects m was s h d count moves p areas) n o × (h.places.at n ≡ (moves k).old)
+  moved-one k lt = let x = Slides.object m was s h d count moves p areas k lt in (x.0, x.1, (x.2, Slides.moved-home m was s h d count moves p areas k lt), x.4)
+
+  before-next : (j k : ℕ) → j < k → k < count → (moves j).old < (moves k).old
+  before-next j k lt within = (Slides.known m was s h d count moves p areas).ascending j k lt within
+
+  -- the first object of Control is that of the first move
+  first-move : (n : Name) (o : Thing) → IsOfControl (Slides.kept_objects m was s h d count moves p areas) n o → ((x : Name) (q : Thing) → IsOfControl (Slides.kept_objects m was s h d count moves p areas) x q → h.places.at n ≤ h.places.at x) → (0 < count) × (forwarded count moves h.places.at n ≡ (moves 0).new)
+  first-move n o here least =
+      let y = place-of n o here in
+      ⊎_elim
+      (λ (z : y.0 ≡ 0). (omega (arith, y.1, z), y.3 ∙ ap (λ k. (moves k).new) z))
+      (λ (ne : y.0 ≢ 0).
+      let more : 0 < y.0 = omega arith in
+      let x = moved-one 0 (omega (arith, more, y.1)) in
+      let least_one = least x.0 x.1 x.2 in
+      absurd (omega (arith, before-next 0 y.0 more y.1, least_one, x.3, y.2)))
+      (cases_eq y.0 0)
+
+  -- the next object of Control is that of the next move
+  next-move : (a b : Name) (j k : ℕ) → j < count → k < count → (moves j).old ≡ h.places.at a → (moves k).old ≡ h.places.at b → IsNext (Slides.kept_objects m was s h d count moves p areas) h.places.at a b → k ≡ j + 1
+  next-move a b j k hj hk ea eb next = ⊎_elim
+      (λ (same : k ≡ j + 1). same)
+      (λ (ne : k ≢ j + 1). ⊎_elim
+      (λ (lt : k < j + 1). absurd (⊎_elim
+      (λ (same : k ≡ j). let e : (moves k).old ≡ (moves j).old = ap (λ i. (moves i).old) same in omega (arith, next.behind, ea, eb, e))
+      (λ (other : k ≢ j). omega (arith, before-next k j (omega (arith, lt, other)) hj, next.behind, ea, eb))
+      (cases_eq k j)))
+      (λ (le : j + 1 ≤ k).
+      let x = moved-one (j + 1) (omega (arith, le, hk)) in
+      absurd (next.none_between x.0 x.1 x.2 (omega (arith, before-next j (j + 1) (omega arith) (omega (arith, le, hk)), x.3, ea)) (omega (arith, before-next (j + 1) k (omega (arith, le, ne)) hk, x.3, eb))))
+      (cases_lt k (j + 1)))
+      (cases_eq k (j + 1))
+
+  pub are-slid : AreSlid m was.table h.places.at (Slides.kept_objects m was s h d count moves p areas) (forwarded count moves h.places.at)
+  are-slid = record {
+    first = λ n o here least.
+        let y = first-move n o here least in
+        let b = (Slides.slid m was s h d count moves p areas).sliding.begins y.0 in
+        (b.0, subst (λ (t : List (List ℕ)). IsFirstPage CONTROL_WORD t 0 b.0) (Slides.table-marked m was s h d count moves p areas) b.1, y.1 ∙ b.2);
+    next = λ a b o q ha hb next.
+        let x = place-of a o ha in
+        let y = place-of b q hb in
+        let same = next-move a b x.0 y.0 x.1 y.1 x.2 y.2 next in
+        let lt : x.0 + 1 < count = omega (arith, same, y.1) in
+        goes-there m CONTROL_WORD (Slides.table-marked m was s h d count moves p areas) (sym x.3) x.4 (ap (λ k. (moves k).new) (sym same) ∙ sym y.3) (ap (λ k. size_at p.marked.heap (moves k).old) (sym same) ∙ y.4)
+        ((Slides.slid m was s h d count moves p areas).sliding.follows x.0 lt);
+    still = λ n o e ne. still n o (kept (view s) p.dropped n o e) ne;
+  }
 
   module _ (c : Contents) (led : Led m (view s) h.places p.dropped d c count moves) (movable : AllMovable m c.heap count moves) (heap : List ℕ) (done : Moved c.heap heap count moves) where
     size-led : (k : ℕ) → k < count → size_at c.heap (moves k).old ≡ size_at p.marked.heap (moves k).old
@@ -233,6 +306,7 @@ module _ (m : Areas) (was : Contents) (s : SpaceState) (h : Stands m was s) (d :
             (cases_lt q (Slides.slid m was s h d count moves p areas).next);
         still = still;
         moved = λ n o e control. let y = Slides.found m was s h d count moves p areas n o e control in (y.0, y.1, brought-to n y.0 y.1 (sym y.2));
+        slid = are-slid;
         are_moved = λ k lt. let x = Slides.object m was s h d count moves p areas k lt in (x.0, x.1, x.2, brought-to x.0 k lt x.4, Slides.moved-home m was s h d count moves p areas k lt ∙ sym ((Slides.slid m was s h d count moves p areas).sliding.control k lt).0);
         room = room;
       }

@@ -1,24 +1,49 @@
 -- What a collection of the control space leaves.
-use Rattle.std.specs.Prelude.{◌≡◌, ◌≢◌, ◌⊎◌, ◌↔◌, ℕ, ◌+◌, ◌-◌, ◌≤◌, ◌<◌}
+use Rattle.std.specs.Prelude.{◌≡◌, ◌≢◌, ◌⊎◌, ◌↔◌, ℕ, ◌+◌, ◌-◌, ◌*◌, ◌≤◌, ◌<◌, List, length, Option, Some}
 use Rattle.std.specs.List.{Contains}
+use Rattle.object_layout.specs.declared.names.Name.{Name}
+use Rattle.object_layout.specs.declared.TheConstants.{OBJECT_WORDS}
 use Rattle.heap_words.specs.declared.map.Areas.{Areas}
+use Rattle.heap_words.specs.Map.{page_words}
 use Rattle.heap_words.specs.Contents.{Contents}
 use Rattle.epoch_lattice.specs.declared.Space.TheVariants.{Control}
 use Rattle.yak_model.specs.Spaces.{Collects, SpaceState}
+use Rattle.yak_model.specs.State.{Thing, object_of}
 use Rattle.yak_model.specs.Placed.{space_word}
 use Rattle.yak_model.specs.Packed.{IsPacked}
 use Rattle.yak_model.specs.Stands.{Stands, current, free_pages}
 use Rattle.yak_model.specs.Recorded.{Recorded}
 use Rattle.forwarding.specs.Crossing.{AreFiled}
+use Rattle.relocation.specs.Slide.{GoesBehind, GoesOn, IsFirstPage}
 use Rattle.mark_compact.specs.declared.sliding.TheConstants.{CONTROL_WORD}
 
+-- The object of Control that has this name.
+abbrev pub IsOfControl : (Name → Option Thing) → Name → Thing → Type 0
+IsOfControl objects n o = (objects n ≡ Some o) × (o.home ≡ Control)
+
+-- Of the objects of Control the one is the next behind the other, where `at` gives the address of each name.
+pub record IsNext (objects : Name → Option Thing) (at : Name → ℕ) (a b : Name) : Type 0 where
+  pub behind : at a < at b
+  pub none_between : (n : Name) (o : Thing) → IsOfControl objects n o → at a < at n → at n < at b → ⊥
+
+-- The kept objects of Control went to its pages, both in ascending order: the first to the front of the first page, and each
+-- other one right behind the one before it where it fits into that one's page, else to the front of the next page. No other
+-- object has moved. These are the pages and the addresses before, the objects that are kept, and their addresses now.
+pub record AreSlid (m : Areas) (table : List (List ℕ)) (at : Name → ℕ) (objects : Name → Option Thing) (at_now : Name → ℕ) : Type 0 where
+  pub first : (n : Name) (o : Thing) → IsOfControl objects n o → ((x : Name) (p : Thing) → IsOfControl objects x p → at n ≤ at x) → (q : ℕ) × IsFirstPage CONTROL_WORD table 0 q × (at_now n ≡ page_words m * q)
+  pub next : (a b : Name) (o p : Thing) → IsOfControl objects a o → IsOfControl objects b p → IsNext objects at a b
+      → GoesBehind m (at_now a) (length o.fields + OBJECT_WORDS) (at_now b) (length p.fields + OBJECT_WORDS) ⊎ GoesOn m CONTROL_WORD table (at_now a) (length o.fields + OBJECT_WORDS) (at_now b) (length p.fields + OBJECT_WORDS)
+  pub still : (n : Name) (o : Thing) → objects n ≡ Some o → o.home ≢ Control → at_now n ≡ at n
+
 -- The words stand for the state after the collection, in which Control is packed and the crossing references are recorded.
-pub record StateCollected (m : Areas) (now : Contents) (s : SpaceState) : Type 0 where
+-- The objects that are kept have slid.
+pub record StateCollected (m : Areas) (was now : Contents) (s : SpaceState) (h : Stands m was s) : Type 0 where
   pub after : SpaceState
   pub collects : Collects s after
   pub stands : Stands m now after
   pub recorded : Recorded m now after stands
   pub packed : IsPacked m now after stands Control
+  pub slid : AreSlid m was.table h.places.at (object_of after) stands.places.at
 
 -- The current control page of the thread is the last control page, where there is one, and no other thread has one.
 pub record CurrentsCollected (was now : Contents) (t : ℕ) : Type 0 where

@@ -19,6 +19,7 @@ use Rattle.relocation.specs.Slide.{Drops, IsPageOf, Runs}
 use Rattle.relocation.specs.declared.plans.TheConstants.{MOVE_WORDS}
 use Rattle.forwarding.specs.Corrected.{corrected_stacks}
 use Rattle.forwarding.specs.Crossing.{AreMoved}
+use Rattle.mark_compact.specs.Collected.{AreSlid}
 use Rattle.mark_compact.specs.Given.{IsSlid}
 use Rattle.mark_compact.specs.declared.sliding.TheConstants.{CONTROL_WORD}
 
@@ -68,6 +69,7 @@ pub record Lain (m : Areas) (was : Contents) (s : SpaceState) (l : Places) (now 
   pub control : (p : ℕ) → p < m.pages → IsPageOf CONTROL_WORD was.table p → (space_word now.table p ≡ CONTROL_WORD) ⊎ (space_word now.table p ≡ 0)
   pub still : (n : Name) (o : Thing) → object_of s n ≡ Some o → o.home ≢ Control → places.at n ≡ l.at n
   pub moved : (n : Name) (o : Thing) → (without (view s) dropped).objects n ≡ Some o → o.home ≡ Control → (k : ℕ) × (k < count) × (places.at n ≡ (moves k).new)
+  pub slid : AreSlid m was.table l.at (without (view s) dropped).objects places.at
   pub are_moved : AreMoved (without (view s) dropped).objects places.at count moves
   pub room : MOVE_WORDS * count ≤ heap_length m
 

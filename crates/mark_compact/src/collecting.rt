@@ -22,7 +22,7 @@ pub fn collect<W: Words>(words: &mut W, map: Areas, thread: u8)
     requires sound { Sound map (W.words words.old) }
     requires thread { HasThread map thread }
     requires recorded { (let c = contents map (W.words words.old) in ∥ ((s : SpaceState) × (h : Stands map c s) × Recorded map c s h) ∥₁) }
-    ensures state { (let c = contents map (W.words words.old) in let d = contents map (W.words words.new) in (s : SpaceState) (h : Stands map c s) → Recorded map c s h → StateCollected map d s) }
+    ensures state { (let c = contents map (W.words words.old) in let d = contents map (W.words words.new) in (s : SpaceState) (h : Stands map c s) → Recorded map c s h → StateCollected map c d s h) }
     ensures room { RoomCollected map (contents map (W.words words.old)) (contents map (W.words words.new)) thread }
     ensures sound { Sound map (W.words words.new) }
     ensures base { W.base words.new ≡ W.base words.old }

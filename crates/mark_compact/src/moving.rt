@@ -6,7 +6,7 @@ ghost use Rattle.heap_words.specs.Contents.{Contents, Sound, contents};
 ghost use Rattle.yak_model.specs.Spaces.{SpaceState};
 ghost use Rattle.yak_model.specs.State.{view};
 ghost use Rattle.yak_model.specs.Stands.{Stands};
-ghost use Rattle.relocation.specs.Moves.{AllMovable, Numbered, move_at};
+ghost use Rattle.relocation.specs.Moves.{Numbered, move_at};
 ghost use Rattle.mark_compact.specs.Collecting.{Lain, Led, Planned};
 
 use crate::marking::mark;
@@ -21,7 +21,6 @@ fn plan_collection<W: Words>(words: &mut W, map: Areas) -> Plan
     requires stands { ∥ ((s : SpaceState) × Stands map (contents map (W.words words.old)) s) ∥₁ }
     ensures planned { (let d = contents map (W.words words.new) in (s : SpaceState) (h : Stands map (contents map (W.words words.old)) s) → Planned map (contents map (W.words words.old)) s h.places d result.count (move_at d.scratch)) }
     ensures numbered { (let d = contents map (W.words words.new) in Numbered map d.heap result.count (move_at d.scratch)) }
-    ensures movable { (let d = contents map (W.words words.new) in AllMovable map d.heap result.count (move_at d.scratch)) }
     ensures sound { Sound map (W.words words.new) }
     ensures base { W.base words.new ≡ W.base words.old }
 {
@@ -33,10 +32,8 @@ fn plan_collection<W: Words>(words: &mut W, map: Areas) -> Plan
 fn correct_references<W: Words>(words: &mut W, map: Areas, plan: &Plan)
     requires sound { Sound map (W.words words.old) }
     requires numbered { (let c = contents map (W.words words.old) in Numbered map c.heap plan.now.count (move_at c.scratch)) }
-    requires movable { (let c = contents map (W.words words.old) in AllMovable map c.heap plan.now.count (move_at c.scratch)) }
     requires planned { (let c = contents map (W.words words.old) in ∥ ((was : Contents) × (s : SpaceState) × (h : Stands map was s) × Planned map was s h.places c plan.now.count (move_at c.scratch)) ∥₁) }
     ensures led { (let c = contents map (W.words words.old) in let d = contents map (W.words words.new) in (was : Contents) (s : SpaceState) (h : Stands map was s) (p : Planned map was s h.places c plan.now.count (move_at c.scratch)) → Led map (view s) h.places p.dropped c d plan.now.count (move_at c.scratch)) }
-    ensures movable { (let d = contents map (W.words words.new) in AllMovable map d.heap plan.now.count (move_at d.scratch)) }
     ensures sound { Sound map (W.words words.new) }
     ensures base { W.base words.new ≡ W.base words.old }
 {
@@ -48,7 +45,6 @@ fn correct_references<W: Words>(words: &mut W, map: Areas, plan: &Plan)
 /// Moves the objects of a plan, and enters in the page table how far the pages are used.
 fn move_objects<W: Words>(words: &mut W, map: Areas, plan: Plan)
     requires sound { Sound map (W.words words.old) }
-    requires movable { (let c = contents map (W.words words.old) in AllMovable map c.heap plan.count (move_at c.scratch)) }
     requires led { (let c = contents map (W.words words.old) in ∥ ((was : Contents) × (planned : Contents) × (s : SpaceState) × (h : Stands map was s) × (p : Planned map was s h.places planned plan.count (move_at c.scratch)) × Led map (view s) h.places p.dropped planned c plan.count (move_at c.scratch)) ∥₁) }
     ensures lain { (let c = contents map (W.words words.old) in let d = contents map (W.words words.new) in (was planned : Contents) (s : SpaceState) (h : Stands map was s) (p : Planned map was s h.places planned plan.count (move_at c.scratch)) → Led map (view s) h.places p.dropped planned c plan.count (move_at c.scratch) → Lain map was s h.places d plan.count (move_at d.scratch)) }
     ensures sound { Sound map (W.words words.new) }

@@ -2,6 +2,7 @@ pub mod Heap
 pub mod Runs
 pub mod Moving
 pub mod Lawful
+pub mod Told
 pub mod Corrected
 pub mod Planned
 pub mod SlidObjects

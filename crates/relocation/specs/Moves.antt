@@ -1,5 +1,6 @@
-use Rattle.std.specs.Prelude.{◌≡◌, ◌==◌, cond, ℕ, ◌+◌, ◌-◌, ◌*◌, ◌/◌, ◌%◌, ◌≤◌, ◌<◌, ◌⊎◌, List, slice_index, unwrap_or, zero, suc}
+use Rattle.std.specs.Prelude.{Bool, ◌≡◌, ◌==◌, cond, ℕ, ◌+◌, ◌-◌, ◌*◌, ◌/◌, ◌%◌, ◌≤◌, ◌<◌, ◌⊎◌, List, slice_index, unwrap_or, zero, suc}
 use Rattle.object_layout.specs.declared.headers.Header.{Header}
+use Rattle.object_layout.specs.declared.names.Name.{Name}
 use Rattle.object_layout.specs.declared.TheConstants.{HEADER_BASE, SPACE_UNIT}
 use Rattle.object_layout.specs.Layout.{IsHeader, header_word}
 use Rattle.heap_words.specs.declared.map.Areas.{Areas}
@@ -8,7 +9,9 @@ use Rattle.heap_words.specs.Contents.{contents}
 use Rattle.epoch_lattice.specs.declared.TheConstants.{MAX_DEPTH}
 use Rattle.epoch_lattice.specs.declared.Space.TheVariants.{Control}
 use Rattle.epoch_lattice.specs.Lattice.{IsValid, space_index, space_of}
-use Rattle.yak_model.specs.Plans.{Move, AreApart}
+use Rattle.yak_model.specs.State.{State}
+use Rattle.yak_model.specs.Placed.{Holds}
+use Rattle.yak_model.specs.Plans.{Move, AreApart, IsLawfulPlan, forwarded, without}
 use Rattle.relocation.specs.declared.plans.Move as planned
 use Rattle.relocation.specs.declared.plans.TheConstants.{MOVE_WORDS}
 
@@ -85,6 +88,16 @@ pub record AllMovable (m : Areas) (heap : List ℕ) (count : ℕ) (moves : ℕ �
   pub each : (k : ℕ) → k < count → Movable m heap (moves k)
   pub apart : (j k : ℕ) → j < k → k < count → AreApart (moves j).new (size_at heap (moves j).old) (moves k).new (size_at heap (moves k).old)
   pub later : (j k : ℕ) → j < k → k < count → AreApart (moves j).new (size_at heap (moves j).old) (moves k).old (size_at heap (moves k).old)
+
+-- The moves are those of a plan that is lawful for some state, and its objects that are kept stand in the words, with all
+-- their references corrected already.
+pub record IsReadyPlan (m : Areas) (heap : List ℕ) (count : ℕ) (moves : ℕ → Move) : Type 0 where
+  pub state : State
+  pub places : Name → ℕ
+  pub work : Name → ℕ
+  pub dropped : Name → Bool
+  pub lawful : IsLawfulPlan m count moves state places dropped
+  pub holds : Holds m heap places (forwarded count moves places) work (without state dropped).objects
 
 -- A plan stands in the scratch area: its moves go by ascending old addresses, and the work word of each one's object tells its number from 1.
 pub record Numbered (m : Areas) (heap : List ℕ) (count : ℕ) (moves : ℕ → Move) : Type 0 where

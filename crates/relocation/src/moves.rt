@@ -7,7 +7,7 @@ ghost use Rattle.heap_words.specs.Contents.{Sound};
 ghost use Rattle.yak_model.specs.State.{State};
 ghost use Rattle.yak_model.specs.Placed.{Holds};
 ghost use Rattle.yak_model.specs.Plans.{forwarded, cleared, without, after_moves, IsLawfulPlan};
-ghost use Rattle.relocation.specs.Moves.{heap_of, scratch_of, OnlyHeap, move_of, move_at, size_at, Beside, RunCopied, Copied, Moved, Movable, AllMovable, words_moved};
+ghost use Rattle.relocation.specs.Moves.{heap_of, scratch_of, OnlyHeap, move_of, move_at, size_at, Beside, RunCopied, Copied, Moved, Movable, IsReadyPlan, words_moved};
 
 use crate::plans::{MOVE_WORDS, Move, Plan, read_move};
 use epoch_lattice::index_of;
@@ -94,7 +94,7 @@ fn move_object<W: Words>(words: &mut W, map: Areas, v: Move)
 pub fn move_all<W: Words>(words: &mut W, map: Areas, plan: Plan)
     requires sound { Sound map (W.words words.old) }
     requires within { MOVE_WORDS * plan.count ≤ heap_length map }
-    requires movable { AllMovable map (heap_of map (W.words words.old)) plan.count (move_at (scratch_of map (W.words words.old))) }
+    requires lawful { ∥ IsReadyPlan map (heap_of map (W.words words.old)) plan.count (move_at (scratch_of map (W.words words.old))) ∥₁ }
     ensures moved { Moved (heap_of map (W.words words.old)) (heap_of map (W.words words.new)) plan.count (move_at (scratch_of map (W.words words.old))) }
     ensures objects { (s : State) (at work : Name → ℕ) (dropped : Name → Bool) → (let moves = move_at (scratch_of map (W.words words.old)) in IsLawfulPlan map plan.count moves s at dropped → Holds map (heap_of map (W.words words.old)) at (forwarded plan.count moves at) work (without s dropped).objects → Holds map (heap_of map (W.words words.new)) (forwarded plan.count moves at) (forwarded plan.count moves at) (cleared plan.count moves at work) (after_moves plan.count moves at (without s dropped)).objects) }
     ensures only_heap { OnlyHeap map (W.words words.old) (W.words words.new) }

@@ -9,7 +9,7 @@ use Rattle.remember_sets.specs.Filed.{SetsHold}
 use Rattle.relocation.specs.Moves.{move_at, words_moved}
 use Rattle.escape_closure.specs.Ends.{PlanReady, References}
 use Rattle.escape_closure.proofs.Costs.{few_words, words_mid}
-use Rattle.escape_closure.proofs.Carries.{carried, carry_movable, movable_told}
+use Rattle.escape_closure.proofs.Carries.{carried, carry_ready}
 use Rattle.escape_closure.proofs.carrying.carry_out.Goals as goal
 
 pub correct_references-requires-clause-ready : goal.correct_references-requires-clause-ready
@@ -34,8 +34,8 @@ drop_slots_in-requires-clause-sets g c =
 pub move_all-requires-clause-within : goal.move_all-requires-clause-within
 move_all-requires-clause-within g c = ∥∥₁_elim c.requires.ready (hlevel props) (λ q. q.4.ready.numbered.room)
 
-pub move_all-requires-clause-movable : goal.move_all-requires-clause-movable
-move_all-requires-clause-movable g c =
+pub move_all-requires-clause-lawful : goal.move_all-requires-clause-lawful
+move_all-requires-clause-lawful g c =
     let m = c.args.map in
     let t = c.args.thread in
     let count = c.args.plan.count in
@@ -45,10 +45,10 @@ move_all-requires-clause-movable g c =
     let next = contents m (g.W.Words.words c.drop_slots_in.new.words) in
     let same : start ≡ old = ap (contents m) c.depth-innermost.ensures.words in
     let told = refer m old start mid t count same c.correct_references.ensures.references in
-    movable_told m next.heap count (move_at next.scratch) (∥∥₁_map c.requires.ready (λ q.
+    ∥∥₁_map c.requires.ready (λ q.
     let refs = told q.0 q.1 q.2 q.4.ready in
     let low : 1 ≤ depth_of q.0 t = omega (arith, c.requires.depth, ap (λ (x : Contents). depth_of x t) q.4.ready.frame) in
-    carry_movable m q.0 old q.1 q.2 t count q.3 c.requires.sound.areas c.requires.thread low q.4 mid next refs (ap (λ (x : Contents). x.heap) c.drop_slots_in.ensures.others) (ap (λ (x : Contents). x.scratch) c.drop_slots_in.ensures.others ∙ ap (λ (x : Contents). x.scratch) refs.frame)))
+    carry_ready m q.0 old q.1 q.2 t count q.3 c.requires.sound.areas c.requires.thread low q.4 mid next refs (ap (λ (x : Contents). x.heap) c.drop_slots_in.ensures.others) (ap (λ (x : Contents). x.scratch) c.drop_slots_in.ensures.others ∙ ap (λ (x : Contents). x.scratch) refs.frame))
 
 pub returns-clause-carried : goal.returns-clause-carried
 returns-clause-carried g c before s stands tight r =

@@ -4,12 +4,12 @@ use Rattle.std.proofs.Common.{◌≡◌, ℕ, ◌+◌, ◌-◌, List, [], get_or
 use Rattle.heap_words.specs.Contents.{Contents, contents}
 use Rattle.yak_model.specs.Placed.{Holds}
 use Rattle.yak_model.specs.Plans.{forward, forwarded}
-use Rattle.relocation.specs.Moves.{AllMovable, heap_of, move_at, scratch_of}
+use Rattle.relocation.specs.Moves.{heap_of, move_at, scratch_of}
 use Rattle.relocation.specs.Fields.{Lined, MovesCorrected}
 use Rattle.forwarding.specs.Corrected.{corrected_stacks}
 use Rattle.mark_compact.proofs.RunsTold.{lined-told}
 use Rattle.mark_compact.proofs.Slides.{frame, kept_objects}
-use Rattle.mark_compact.proofs.Leads.{header-two, holds-two, lined, movable-same, region-runs-told, regions, stack-lead}
+use Rattle.mark_compact.proofs.Leads.{holds-two, lined, region-runs-told, regions, stack-lead}
 use Rattle.mark_compact.proofs.moving.correct_references.Goals as goal
 
 pub correct_regions-requires-clause-runs : goal.correct_regions-requires-clause-runs
@@ -56,19 +56,3 @@ returns-clause-led g c was s h p =
       holds = subst (λ (ws : List ℕ). Holds m ws h.places.at (forwarded count (move_at d.scratch) h.places.at) (λ n. get_or d.heap (h.places.at n + 2) 0) (kept_objects m was s h d count (move_at d.scratch) p c.requires.sound.areas)) (sym heap)
           (holds-two m was s h d count (move_at d.scratch) p c.requires.sound.areas (heap_of m mid) (c.correct_regions.ensures.corrected (regions m was s h d count (move_at d.scratch) p c.requires.sound.areas)) (heap_of m last) done);
     }
-
-pub returns-clause-movable : goal.returns-clause-movable
-returns-clause-movable g c =
-    let m = c.args.map in
-    let count = c.args.plan.now.count in
-    let d = contents m (g.W.Words.words c.args.words.now) in
-    let mid = g.W.Words.words c.correct_regions.new.words in
-    let last = g.W.Words.words c.correct_moves.new.words in
-    let now = contents m (g.W.Words.words c.correct_stacks.new.words) in
-    let scratch : scratch_of m mid ≡ d.scratch = ap (λ (x : Contents). x.scratch) c.correct_regions.ensures.only_heap in
-    let heap : now.heap ≡ heap_of m last = ap (λ (x : Contents). x.heap) c.correct_stacks.ensures.corrected in
-    let all : now.scratch ≡ d.scratch = ap (λ (x : Contents). x.scratch) c.correct_stacks.ensures.corrected ∙ ap (λ (x : Contents). x.scratch) c.correct_moves.ensures.only_heap ∙ scratch in
-    let done : MovesCorrected (forward count (move_at d.scratch)) (heap_of m mid) (heap_of m last) count (move_at d.scratch) = subst (λ (sc : List ℕ). MovesCorrected (forward count (move_at sc)) (heap_of m mid) (heap_of m last) count (move_at sc)) scratch c.correct_moves.ensures.fields in
-    subst (λ (sc : List ℕ). AllMovable m now.heap count (move_at sc)) (sym all)
-    (movable-same m d.heap now.heap count (move_at d.scratch) c.requires.movable (λ k lt. ap (λ (ws : List ℕ). get_or ws (move_at d.scratch k).old 0) heap ∙ ∥∥₁_elim c.requires.planned (hlevel props) (λ q.
-    header-two m q.0 q.1 q.2 d count (move_at d.scratch) q.3 c.requires.sound.areas (heap_of m mid) (c.correct_regions.ensures.corrected (regions m q.0 q.1 q.2 d count (move_at d.scratch) q.3 c.requires.sound.areas)) (heap_of m last) done k lt)))

@@ -4,6 +4,7 @@ use Rattle.heap_words.specs.Map.{IsAreas}
 use Rattle.heap_words.specs.Contents.{contents}
 use Rattle.object_layout.specs.declared.calls.Call.{Call}
 use Rattle.heap_core.specs.Done.{PacksControl}
+use Rattle.heap_core.proofs.Bounds.{every-region}
 use Rattle.heap_core.proofs.Recognized.{recorded-told}
 use Rattle.heap_core.proofs.Sound.{sound-from}
 use Rattle.heap_core.proofs.owned.Core.step.Goals as goal
@@ -59,6 +60,12 @@ pub returns-clause-records : goal.returns-clause-records
 returns-clause-records g c =
     let core = c.args.self.now in
     λ s h. c.answer.ensures.done.records s h (recorded-told core.map (contents core.map (g.W.Words.words core.words)) core.stands s h)
+
+pub returns-clause-idle : goal.returns-clause-idle
+returns-clause-idle g c = c.answer.ensures.done.idle
+
+pub returns-clause-regions : goal.returns-clause-regions
+returns-clause-regions g c = let core = c.args.self.now in every-region core.map (contents core.map (g.W.Words.words c.answer.new.words))
 
 pub returns-clause-room : goal.returns-clause-room
 returns-clause-room g c = c.answer.ensures.done.room
