@@ -193,5 +193,6 @@ module _ (m : Areas) (c filing : Contents) (s : SpaceState) (st : Stands m c s) 
     filed = none_logged m c filing others;
     written = written;
     few = few_filed m c filing filed sets long;
+    records = filed;
     frame = others ∙ ap (λ bs. record c { heads = set c.heads SET_ENTRIES (set_entries filing.heads); sets = filing.sets; buffers = bs }) (sym (ap (λ (x : Contents). x.buffers) others));
   }

@@ -1,5 +1,5 @@
 -- The words that an end leaves stand for the state after it, and its crossing references are recorded.
-use Rattle.std.proofs.Common.{◌≡◌, ◌≢◌, ℕ, ◌+◌, ◌-◌, ◌/◌, ◌≤◌, ◌<◌, Bool, true, false, cond, Option, Some, None, IsSome, List, [], ◌∷◌, length, get_or, map, set, zero, suc, refl, sym, ap, subst, ◌∙◌, arith, inl, inr, length-set, get_or-set_same, get_or-set_other}
+use Rattle.std.proofs.Common.{◌≡◌, ◌≢◌, ◌↔◌, ℕ, ◌+◌, ◌-◌, ◌/◌, ◌≤◌, ◌<◌, Bool, true, false, cond, Option, Some, None, IsSome, List, [], ◌∷◌, length, get_or, map, set, zero, suc, refl, sym, ap, subst, ◌∙◌, arith, inl, inr, length-set, get_or-set_same, get_or-set_other}
 use Rattle.std.specs.List.{All, Contains, flat_map}
 use Rattle.std.proofs.lemmas.Bool.{cases_eq, cases_lt}
 use Rattle.std.specs.Int.{IsBitSet}
@@ -11,7 +11,7 @@ use Rattle.object_layout.specs.declared.TheConstants.{MAX_FIELDS, OBJECT_WORDS}
 use Rattle.heap_words.specs.declared.map.Areas.{Areas}
 use Rattle.heap_words.specs.Map.{HasThread, IsAreas, max_depth, page_words}
 use Rattle.heap_words.specs.Cells.{row}
-use Rattle.heap_words.specs.Contents.{Contents, depth_of}
+use Rattle.heap_words.specs.Contents.{Contents, depth_of, with_depth, with_readers}
 use Rattle.epoch_lattice.specs.declared.Space.{Space}
 use Rattle.epoch_lattice.specs.declared.Space.TheVariants.{Control, Region}
 use Rattle.epoch_lattice.specs.declared.TheConstants.{MAX_DEPTH}
@@ -22,23 +22,24 @@ use Rattle.yak_model.specs.declared.datum.Datum.TheVariants.{Int, Null, Object}
 use Rattle.yak_model.specs.Graph.{Limits, thread_of}
 use Rattle.yak_model.specs.Spaces.{Counts, IsOnStack, SpaceState, Walk, here, home_of, innermost, other, own}
 use Rattle.yak_model.specs.State.{IsClosed, IsDatum, IsOpen, State, Thing, object_of, stack, view}
-use Rattle.yak_model.specs.Placed.{Places, datum_word, size_by, space_word, words_by}
+use Rattle.yak_model.specs.Placed.{HeapStands, Places, datum_word, size_by, space_word, words_by}
 use Rattle.yak_model.specs.Plans.{Move, after_moves, forwarded, rehomed, without}
 use Rattle.yak_model.specs.Stands.{Stands, StandsAs}
 use Rattle.yak_model.specs.Recorded.{Enters, IsField, IsRecorded, Recorded, RecordedAs}
 use Rattle.yak_model.proofs.Placed.{in_page}
 use Rattle.yak_model.proofs.Lists.{slot_on_list}
 use Rattle.yak_model.proofs.Stacks.{all-at}
-use Rattle.heap_walks.proofs.Seen.{on_stack, seen}
+use Rattle.heap_walks.proofs.Seen.{on_stack, present_home, seen, shown}
 use Rattle.heap_walks.proofs.Stacks.{some_row}
-use Rattle.relocation.proofs.Lawful.{before_moves}
+use Rattle.relocation.proofs.Lawful.{before_moves, by_move-at}
 use Rattle.remember_sets.specs.Filed.{IsFiled, LiesIn}
-use Rattle.forwarding.specs.Crossing.{AreFiled}
+use Rattle.forwarding.specs.Crossing.{AreFiled, IsCrossing}
 use Rattle.escape_closure.specs.Targets.{IsEscaping}
 use Rattle.escape_closure.specs.Ends.{StateEnded, region_word}
+use Rattle.escape_closure.specs.Leaves.{FilesEnded, IsMovedCrossing, RestKept}
 use Rattle.escape_closure.specs.Leaving.{EndMoves, Leaves, left_behind, objects_left}
 use Rattle.escape_closure.proofs.Afters.{Ended, ended_so, ended_view}
-use Rattle.escape_closure.proofs.Fates.{MovedAs, OneEach, left_so, moves_so, one_each, stays_so}
+use Rattle.escape_closure.proofs.Fates.{MovedAs, OneEach, escaping_in, left_so, moves_so, one_each, stays_so}
 use Rattle.escape_closure.proofs.Written.{depth_is, region_is}
 
 one_thing : (a b : Thing) → Some a ≡ Some b → a ≡ b
@@ -329,4 +330,92 @@ module _ (m : Areas) (c : Contents) (s : SpaceState) (st : Stands m c s) (record
         recorded = subst (λ v. RecordedAs m d v later.at) (sym x.shows) view_recorded;
         filed = leaves.buffers;
         gone = none_left;
+      }
+
+  -- the places are those that the moves leave
+  pub ended_places : (counts : Counts (IsEscaping s t) count) (spaces : (k : ℕ) → k < count → IsValid MAX_DEPTH (moves k).space) → (state_ended counts spaces).stands.places ≡ later
+  unfolding state_ended
+  ended_places counts spaces = refl
+
+  -- ---- what is left beside the state
+
+  same_objects : (x : Ended s l t count moves tight) → object_of x.after ≡ left
+  same_objects x = ap (λ (v : State). v.objects) x.shows
+
+  -- objects that are left at one address are one
+  one_left : Ended s l t count moves tight → (a b : Name) (o p : Thing) → left a ≡ Some o → left b ≡ Some p → later.at a ≡ later.at b → a ≡ b
+  one_left x = subst (λ (f : Name → Option Thing). (a b : Name) (o p : Thing) → f a ≡ Some o → f b ≡ Some p → later.at a ≡ later.at b → a ≡ b) (same_objects x) (one_each m d.table d.heap x.after later (λ _. 0) (subst (λ (f : Name → Option Thing). HeapStands m d.table d.heap f later (λ _. 0)) (sym (same_objects x)) leaves.heap))
+
+  moved_to : (n : Name) (k : ℕ) → k < count → l.at n ≡ (moves k).old → later.at n ≡ (moves k).new
+  moved_to n k lt at = leads n ∙ by_move-at count moves (λ v. v.new) (l.at n) (l.at n) k e.ascending lt at
+
+  -- what stands at the new place of a move has escaped
+  escaped_at : Ended s l t count moves tight → (n : Name) (o : Thing) (k : ℕ) → left n ≡ Some o → k < count → later.at n ≡ (moves k).new → IsEscaping s t n
+  escaped_at x n o k present lt at =
+      let w = e.moved k lt in
+      let i = escaping_in s st.whole l one t count has.0 valid moves tight e w.0 w.1 in
+      let v = moves_so s st.whole l one t count has.0 valid moves tight e w.0 i.0 k i.1 lt w.2 in
+      subst (IsEscaping s t) (one_left x w.0 n (record i.0 { home = (moves k).space }) o v.0 present (moved_to w.0 k lt w.2 ∙ sym at)) w.1
+
+  crossing_as : Ended s l t count moves tight → (a : ℕ) → IsCrossing left later.at count moves a ↔ IsMovedCrossing s t left later.at a
+  crossing_as x a = (
+    λ q. record {
+      from = q.from;
+      escaped = escaped_at x q.from q.object q.move q.present q.among q.moved;
+      object = q.object;
+      present = q.present;
+      field = q.field;
+      within = q.within;
+      to = q.to;
+      goal = q.goal;
+      refers = q.refers;
+      reached = q.reached;
+      enters = q.enters;
+      place = q.place;
+    },
+    λ q.
+        let k = e.complete q.from q.escaped in
+        record {
+          move = k.0;
+          among = k.1;
+          from = q.from;
+          object = q.object;
+          present = q.present;
+          moved = moved_to q.from k.0 k.1 k.2;
+          field = q.field;
+          within = q.within;
+          to = q.to;
+          goal = q.goal;
+          refers = q.refers;
+          reached = q.reached;
+          enters = q.enters;
+          place = q.place;
+        },
+  )
+
+  files_ended : (x : Ended s l t count moves tight) → FilesEnded m c d s t (object_of x.after) later.at
+  files_ended x = subst (λ (f : Name → Option Thing). FilesEnded m c d s t f later.at) (sym (same_objects x)) (λ a. (
+    λ h. ⊎_elim (λ r. inl r) (λ q. inr ((crossing_as x a).0 q)) ((leaves.filed a).0 h),
+    λ h. (leaves.filed a).1 (⊎_elim (λ r. inl r) (λ q. inr ((crossing_as x a).1 q)) h),
+  ))
+
+  frame_kept : d ≡ record (with_depth (with_readers c t (depth_of c t) 0) t (depth_of c t - 1)) { heads = d.heads; stacks = d.stacks; buffers = d.buffers; currents = d.currents; table = d.table; pool = d.pool; sets = d.sets; scratch = d.scratch; heap = d.heap }
+  frame_kept =
+      ap (λ (ds : List ℕ). record d { depths = ds }) leaves.depths
+      ∙ ap (λ (ms : List ℕ). record d { depths = set c.depths (t - 1) (depth_of c t - 1); made = ms }) leaves.made
+      ∙ ap (λ (rs : List (List ℕ)). record d { depths = set c.depths (t - 1) (depth_of c t - 1); made = c.made; rests = rs }) leaves.rests
+      ∙ ap (λ (rs : List (List ℕ)). record d { depths = set c.depths (t - 1) (depth_of c t - 1); made = c.made; rests = c.rests; readers = rs }) leaves.readers
+
+  pub rest_kept : (counts : Counts (IsEscaping s t) count) (spaces : (k : ℕ) → k < count → IsValid MAX_DEPTH (moves k).space) → RestKept m c d s l t (state_ended counts spaces).after (state_ended counts spaces).stands.places.at
+  unfolding state_ended
+  rest_kept counts spaces =
+      let x : Ended s l t count moves tight = ended_so s st.whole l one t count has.0 valid moves tight e counts (omega (arith, low, depth_is m c s st t has)) spaces in
+      record {
+        stays = λ n present far.
+            let home = present_home s n present in
+            let o = shown s n home.0 st.whole home.1 in
+            leads n ∙ (stays_so s st.whole l one t count has.0 valid moves tight e n o.0 o.1 (λ q. far (home.1 ∙ ap Some (sym o.2 ∙ q)))).1.leads;
+        filed = files_ended x;
+        pool = leaves.anew;
+        frame = frame_kept;
       }

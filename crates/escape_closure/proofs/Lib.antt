@@ -14,11 +14,14 @@ pub mod Rolls
 pub mod Placing
 pub mod Weighed
 pub mod Follows
+pub mod InTurn
+pub mod RunsOut
 pub mod Underway
 pub mod Fates
 pub mod Afters
 pub mod LaidPages
 pub mod Regrouped
+pub mod Anew
 pub mod Leaves
 pub mod Sums
 pub mod Corrects
@@ -42,6 +45,7 @@ pub mod RegionLeaves
 pub mod Outcomes
 pub mod RunsTold
 pub mod TightReadies
+pub mod SlidPages
 pub mod TightLeaves
 pub mod MovedWords
 pub mod Costs

@@ -1,10 +1,13 @@
 -- What an end tells of the words before its buffers were filed.
-use Rattle.std.proofs.Common.{◌≡◌, ◌≢◌, ◌⊎◌, ◌↔◌, ℕ, ◌+◌, ◌*◌, ◌≤◌, ◌<◌, false, List, length, get_or, set, refl, sym, ap, subst, ◌∙◌, arith, get_or-set_other}
-use Rattle.std.specs.List.{Contains}
+use Rattle.std.proofs.Common.{◌≡◌, ◌≢◌, ◌⊎◌, ◌↔◌, ℕ, ◌+◌, ◌-◌, ◌*◌, ◌/◌, ◌≤◌, ◌<◌, false, List, length, get_or, set, refl, sym, ap, subst, ◌∙◌, arith, inl, inr, get_or-set_other}
+use Rattle.std.specs.List.{Contains, flat_map}
+use Rattle.std.proofs.Math.Logic.{⊎_elim}
 use Rattle.object_layout.specs.declared.replies.Shortage.{Shortage}
 use Rattle.heap_words.specs.declared.map.Areas.{Areas}
-use Rattle.heap_words.specs.Map.{HasThread, IsAreas, heap_length}
-use Rattle.heap_words.specs.Contents.{Contents, depth_of, stack_of}
+use Rattle.object_layout.specs.declared.names.Name.{Name}
+use Rattle.heap_words.specs.Map.{HasThread, IsAreas, heap_length, page_words}
+use Rattle.heap_words.specs.Cells.{row}
+use Rattle.heap_words.specs.Contents.{Contents, depth_of, stack_of, with_current, with_depth, with_readers}
 use Rattle.epoch_lattice.specs.declared.Space.{Space}
 use Rattle.epoch_lattice.specs.declared.Space.TheVariants.{Region}
 use Rattle.epoch_lattice.specs.Lattice.{space_index}
@@ -12,20 +15,26 @@ use Rattle.relocation.specs.Moves.{move_at}
 use Rattle.relocation.specs.Slide.{Runs, Sliding}
 use Rattle.yak_model.specs.Spaces.{SpaceState, innermost}
 use Rattle.yak_model.specs.State.{State, object_of, view}
-use Rattle.yak_model.specs.Placed.{Places, space_word}
-use Rattle.yak_model.specs.Stands.{Stands, StandsAs, claim_counter, current, free_pages, pool_length, set_entries, words_of}
-use Rattle.yak_model.specs.Recorded.{RecordedAs}
+use Rattle.yak_model.specs.Placed.{Places, size_by, space_word}
+use Rattle.yak_model.specs.Stands.{Stands, StandsAs, claim_counter, free_pages, pool_length, set_entries, words_of}
+use Rattle.yak_model.specs.Recorded.{IsRecorded, RecordedAs}
 use Rattle.remember_sets.specs.declared.TheConstants.{SET_ENTRIES}
+use Rattle.remember_sets.specs.Filed.{IsFiled}
 use Rattle.forwarding.specs.Crossing.{AreFiled}
 use Rattle.escape_closure.specs.Needs.{InOrder, pages_needed}
 use Rattle.escape_closure.specs.Targets.{TargetsWritten}
 use Rattle.escape_closure.specs.Ends.{EndPlanned, FallsShort, RegionEnded, RegionShort, TightEnded, region_word}
+use Rattle.escape_closure.specs.InTurn.{RunsOut, StandInTurn}
 use Rattle.escape_closure.specs.Leaving.{Begun, RegionReady, TightReady, records_of}
 use Rattle.region_pages.specs.Counts.{used_of}
 use Rattle.region_pages.proofs.Counting.{used_is}
+use Rattle.escape_closure.specs.Leaves.{IsLeftAs, RestKept, SlidInto}
+use Rattle.escape_closure.proofs.Anew.{pool_before}
 use Rattle.escape_closure.proofs.Costs.{few_words}
+use Rattle.escape_closure.proofs.InTurn.{out_before, stand_before}
 use Rattle.escape_closure.proofs.Readies.{entries_same, plan_frame, region_ready}
-use Rattle.escape_closure.proofs.Written.{region_is}
+use Rattle.escape_closure.proofs.RegionLeaves.{not_listed}
+use Rattle.escape_closure.proofs.Written.{none_filed, region_is}
 
 -- words of which only the scratch area has changed
 stands_scratch : (m : Areas) (c : Contents) (v : State) (l : Places) (x : List ℕ) → StandsAs m c v l → (let d : Contents = record c { scratch = x } in StandsAs m d v l)
@@ -70,24 +79,51 @@ module _ (m : Areas) (c : Contents) (s : SpaceState) (st : Stands m c s) (t esca
   needed_filing : (l : Places) (count : ℕ) (o : InOrder s l t count) → pages_needed m b.filing s l t count o ≡ pages_needed m c s l t count o
   needed_filing l count o = ap (λ (x : Contents). pages_needed m x s l t count o) b.frame
 
+  -- what was recorded before the buffers were filed
+  recorded_as : (a : ℕ) → IsRecorded b.filing.heads b.filing.sets b.filing.buffers a ↔ IsRecorded c.heads c.sets c.buffers a
+  recorded_as a = (
+    λ h. ⊎_elim
+        (λ (f : IsFiled b.filing a). (b.records a).0 f)
+        (λ (f : Contains (flat_map (λ (es : List ℕ). es) b.filing.buffers) a). absurd (not_listed (flat_map (λ (es : List ℕ). es) b.filing.buffers) a (none_filed b.filing.buffers b.filed) f))
+        h,
+    λ h. inl ((b.records a).1 h),
+  )
+
+  rest_from : (d : Contents) (after : SpaceState) (at : Name → ℕ) → RestKept m b.filing d s b.later.places t after at → RestKept m c d s st.places t after at
+  rest_from d after at k =
+      let page : (a : ℕ) → space_word b.filing.table (a / page_words m) ≡ space_word c.table (a / page_words m) = λ a. ap (λ (x : Contents). space_word x.table (a / page_words m)) b.frame in
+      record {
+        stays = λ n present far. subst (λ (l : Places). at n ≡ l.at n) b.places (k.stays n present far);
+        filed = λ a. (
+          λ h. ⊎_elim (λ w. inl ((recorded_as a).0 w.0, λ z. w.1 (page a ∙ z))) (λ w. inr w) ((k.filed a).0 h),
+          λ h. (k.filed a).1 (⊎_elim (λ w. inl ((recorded_as a).1 w.0, λ z. w.1 (sym (page a) ∙ z))) (λ w. inr w) h),
+        );
+        pool = pool_before m c b.filing d (set_entries b.filing.heads) (ap (λ (x : Contents). x.heads) b.frame) (ap (λ (x : Contents). x.pool) b.frame) k.pool;
+        frame = k.frame ∙ ap (λ (x : Contents). record (with_depth (with_readers x t (depth_of x t) 0) t (depth_of x t - 1)) { heads = d.heads; stacks = d.stacks; buffers = d.buffers; currents = d.currents; table = d.table; pool = d.pool; sets = d.sets; scratch = d.scratch; heap = d.heap }) b.frame;
+      }
+
   pub region_from : (d : Contents) (count : ℕ) → RegionEnded m b.filing d s b.later t count → RegionEnded m c d s st t count
   region_from d count r =
-      let told : (o : InOrder s st.places t count) × (pages_needed m b.filing s st.places t count o ≤ length (free_pages b.filing.heads b.filing.pool)) × (length r.claimed ≡ pages_needed m b.filing s st.places t count o) =
-      subst (λ (l : Places). (o : InOrder s l t count) × (pages_needed m b.filing s l t count o ≤ length (free_pages b.filing.heads b.filing.pool)) × (length r.claimed ≡ pages_needed m b.filing s l t count o)) b.places (r.order, r.enough, r.claims) in
+      let at : Name → ℕ = r.state.stands.places.at in
+      let told : (o : InOrder s st.places t count) × (pages_needed m b.filing s st.places t count o ≤ length (free_pages b.filing.heads b.filing.pool)) × (length r.claimed ≡ pages_needed m b.filing s st.places t count o) × StandInTurn m b.filing d s st.places t count o at =
+      subst (λ (l : Places). (o : InOrder s l t count) × (pages_needed m b.filing s l t count o ≤ length (free_pages b.filing.heads b.filing.pool)) × (length r.claimed ≡ pages_needed m b.filing s l t count o) × StandInTurn m b.filing d s l t count o at) b.places (r.order, r.enough, r.claims, r.in_turn) in
       record {
         state = r.state;
         order = told.0;
         enough = let size : length (free_pages b.filing.heads b.filing.pool) ≡ length (free_pages c.heads c.pool) = ap (λ (xs : List ℕ). length xs) free_filing in omega (arith, told.1, size, needed_filing st.places count told.0);
         claimed = r.claimed;
         left = r.left;
+        rest = rest_from d r.state.after r.state.stands.places.at r.rest;
         former = sym free_filing ∙ r.former;
         claims = told.2 ∙ needed_filing st.places count told.0;
         free = λ p. subst (λ (x : Contents). Contains (free_pages d.heads d.pool) p ↔ (Contains r.left p ⊎ ((p < m.pages) × (space_word x.table p ≡ region_word s t)))) b.frame (r.free p);
+        in_turn = stand_before m c b.filing d s st.places t count told.0 at (set_entries b.filing.heads) b.filing.sets b.filing.buffers b.frame told.3;
       }
 
   pub short_from : (shortage : Shortage) → FallsShort m mid s b.later.places t shortage → FallsShort m c s st.places t shortage
   short_from shortage f =
-      let told : (o : InOrder s st.places t f.count) × (shortage.needed ≡ pages_needed m mid s st.places t f.count o) = subst (λ (l : Places). (o : InOrder s l t f.count) × (shortage.needed ≡ pages_needed m mid s l t f.count o)) b.places (f.order, f.needed) in
+      let told : (o : InOrder s st.places t f.count) × (shortage.needed ≡ pages_needed m mid s st.places t f.count o) × RunsOut m t f.count o.target (λ k. size_by (object_of s) (o.name k)) mid =
+      subst (λ (l : Places). (o : InOrder s l t f.count) × (shortage.needed ≡ pages_needed m mid s l t f.count o) × RunsOut m t f.count o.target (λ k. size_by (object_of s) (o.name k)) mid) b.places (f.order, f.needed, f.runs_out) in
       let same : pages_needed m mid s st.places t f.count told.0 ≡ pages_needed m b.filing s st.places t f.count told.0 = ap (λ (x : Contents). pages_needed m x s st.places t f.count told.0) b.written.frame in
       let room : free_pages mid.heads mid.pool ≡ free_pages b.filing.heads b.filing.pool = ap (λ (x : Contents). free_pages x.heads x.pool) b.written.frame in
       record {
@@ -96,6 +132,7 @@ module _ (m : Areas) (c : Contents) (s : SpaceState) (st : Stands m c s) (t esca
         needed = told.1 ∙ same ∙ needed_filing st.places f.count told.0;
         free = f.free ∙ ap (λ (xs : List ℕ). length xs) (room ∙ free_filing);
         more = f.more;
+        runs_out = out_before m t f.count told.0.target (λ k. size_by (object_of s) (told.0.name k)) c b.filing mid (set_entries b.filing.heads) b.filing.sets b.filing.buffers b.frame b.written.frame told.2;
       }
 
   pub region_short : (d : Contents) (shortage : Shortage) → FallsShort m mid s b.later.places t shortage → d ≡ record b.filing { scratch = d.scratch } → RegionShort m c d s st t shortage
@@ -109,18 +146,16 @@ module _ (m : Areas) (c : Contents) (s : SpaceState) (st : Stands m c s) (t esca
     places = b.places;
     recorded = subst (λ (x : Contents). RecordedAs m x (view s) b.later.places.at) (sym cleared) (recorded_scratch m b.filing s b.later.places d.scratch b.recorded);
     filed = subst (λ (x : Contents). AreFiled x.buffers) (sym cleared) b.filed;
+    records = λ a. subst (λ (x : Contents). IsFiled x a ↔ IsRecorded c.heads c.sets c.buffers a) (sym cleared) (b.records a);
     frame =
-        let n : ℕ = set_entries b.filing.heads in
-        let one : d ≡ record c { heads = set c.heads SET_ENTRIES n; sets = b.filing.sets; buffers = b.filing.buffers; scratch = d.scratch } = cleared ∙ ap (λ (x : Contents). record x { scratch = d.scratch }) b.frame in
-        let heads : set c.heads SET_ENTRIES n ≡ d.heads = sym (ap (λ (x : Contents). x.heads) one) in
+        let entries : set_entries b.filing.heads ≡ set_entries d.heads = sym (ap (λ (x : Contents). set_entries x.heads) cleared) in
         let sets : b.filing.sets ≡ d.sets = sym (ap (λ (x : Contents). x.sets) cleared) in
         let buffers : b.filing.buffers ≡ d.buffers = sym (ap (λ (x : Contents). x.buffers) cleared) in
-        let heap : c.heap ≡ d.heap = sym (ap (λ (x : Contents). x.heap) one) in
-        one
-        ∙ ap (λ (hs : List ℕ). record c { heads = hs; sets = b.filing.sets; buffers = b.filing.buffers; scratch = d.scratch }) heads
-        ∙ ap (λ (xs : List ℕ). record c { heads = d.heads; sets = xs; buffers = b.filing.buffers; scratch = d.scratch }) sets
-        ∙ ap (λ (bs : List (List ℕ)). record c { heads = d.heads; sets = d.sets; buffers = bs; scratch = d.scratch }) buffers
-        ∙ ap (λ (hp : List ℕ). record c { heads = d.heads; sets = d.sets; buffers = d.buffers; scratch = d.scratch; heap = hp }) heap;
+        cleared
+        ∙ ap (λ (x : Contents). record x { scratch = d.scratch }) b.frame
+        ∙ ap (λ (n : ℕ). record c { heads = set c.heads SET_ENTRIES n; sets = b.filing.sets; buffers = b.filing.buffers; scratch = d.scratch }) entries
+        ∙ ap (λ (xs : List ℕ). record c { heads = set c.heads SET_ENTRIES (set_entries d.heads); sets = xs; buffers = b.filing.buffers; scratch = d.scratch }) sets
+        ∙ ap (λ (bs : List (List ℕ)). record c { heads = set c.heads SET_ENTRIES (set_entries d.heads); sets = d.sets; buffers = bs; scratch = d.scratch }) buffers;
     room = ap (λ (x : Contents). free_pages x.heads x.pool) cleared ∙ free_filing;
   }
 
@@ -132,13 +167,21 @@ module _ (m : Areas) (c : Contents) (s : SpaceState) (st : Stands m c s) (t esca
     planned = e;
   }
 
-  pub tight_from : (d : Contents) (count : ℕ) → TightEnded m b.filing d s t count → TightEnded m c d s t count
-  tight_from d count r = record {
-    state = r.state;
-    pages = subst (λ (x : Contents). (p : ℕ) → p < m.pages → space_word x.table p ≢ region_word s t → space_word d.table p ≡ space_word x.table p) b.frame r.pages;
-    region = subst (λ (x : Contents). (p : ℕ) → p < m.pages → space_word x.table p ≡ region_word s t → (space_word d.table p ≡ 0) ⊎ (space_word d.table p ≡ 1)) b.frame r.region;
-    control = subst (λ (x : Contents). (u : ℕ) → current d.currents u 0 ≡ current x.currents u 0) b.frame r.control;
-  }
+  pub tight_from : (d : Contents) (count : ℕ) → TightEnded m b.filing d s b.later t count → TightEnded m c d s st t count
+  tight_from d count r =
+      let at : Name → ℕ = r.state.stands.places.at in
+      let word : ℕ = region_word s t in
+      let told : (o : InOrder s st.places t count) × SlidInto m word b.filing.table count (λ k. size_by (object_of s) (o.name k)) (λ k. at (o.name k)) × ((p : ℕ) → p < m.pages → space_word b.filing.table p ≡ word → IsLeftAs m d.table count (λ k. at (o.name k)) p) =
+      subst (λ (l : Places). (o : InOrder s l t count) × SlidInto m word b.filing.table count (λ k. size_by (object_of s) (o.name k)) (λ k. at (o.name k)) × ((p : ℕ) → p < m.pages → space_word b.filing.table p ≡ word → IsLeftAs m d.table count (λ k. at (o.name k)) p)) b.places (r.order, r.slid, r.region) in
+      record {
+        state = r.state;
+        rest = rest_from d r.state.after at r.rest;
+        order = told.0;
+        slid = subst (λ (x : Contents). SlidInto m word x.table count (λ k. size_by (object_of s) (told.0.name k)) (λ k. at (told.0.name k))) b.frame told.1;
+        region = subst (λ (x : Contents). (p : ℕ) → p < m.pages → space_word x.table p ≡ word → IsLeftAs m d.table count (λ k. at (told.0.name k)) p) b.frame told.2;
+        pages = subst (λ (x : Contents). (p : ℕ) → p < m.pages → space_word x.table p ≢ word → row d.table p ≡ row x.table p) b.frame r.pages;
+        currents = subst (λ (x : Contents). d.currents ≡ (with_current x t (depth_of x t) 0).currents) b.frame r.currents;
+      }
 
   -- a plan of a tight end after its start
   pub tight_readied : HasThread m t → 1 ≤ depth_of c t → (planned : Contents) (count next room : ℕ) → ((slid : ℕ) → slid ≡ space_index (Region t (depth_of mid t)) + 1 → (runs : Runs m slid mid) → Sliding m slid mid runs planned count (move_at planned.scratch) next room (heap_length m)) → TightReady m b.filing mid planned s b.later t count next

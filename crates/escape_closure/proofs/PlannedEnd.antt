@@ -25,6 +25,7 @@ use Rattle.relocation.specs.Slide.{brought}
 use Rattle.relocation.proofs.Lawful.{kept}
 use Rattle.relocation.proofs.SlidLawful.{keep-case}
 use Rattle.escape_closure.specs.Ends.{DropsRest, EndPlanned}
+use Rattle.escape_closure.specs.InTurn.{EscapingInTurn}
 use Rattle.escape_closure.specs.Needs.{InOrder, RollWeighed, pages_needed}
 use Rattle.escape_closure.specs.Placing.{Filling, index_on, rooms_at, size_on}
 use Rattle.escape_closure.specs.Planning.{RollPlaced}
@@ -33,6 +34,7 @@ use Rattle.escape_closure.specs.Targets.{IsEscaping, TargetsWritten}
 use Rattle.escape_closure.proofs.Aims.{outer_target, space_of_heap}
 use Rattle.escape_closure.proofs.Brings.{brought_up_to, size_told}
 use Rattle.escape_closure.proofs.Counting.{count_unique, counts_listed}
+use Rattle.escape_closure.proofs.InTurn.{in_turn_beside, in_turn_between}
 use Rattle.escape_closure.proofs.Keeps.{closed_kept, not_dropped}
 use Rattle.escape_closure.proofs.Placing.{filling_rooms, rooms_scratch}
 use Rattle.escape_closure.proofs.Weighed.{aimed, needed_is, order}
@@ -182,6 +184,11 @@ module _ (m : Areas) (b c : Contents) (s : SpaceState) (st : Stands m b s) (t de
         omega (arith, p.underway.free, same, needed, lengths, split)
 
     module _ (numbered : Numbered m d.heap count (move_at d.scratch)) (pool : PoolStands m d.heads d.pool d.table) (currents : CurrentsStand m d.currents d.table) (long : length d.heap ≡ length c.heap) where
+      in_turn : EscapingInTurn m s st.places t n in_order (λ k. (move_at d.scratch k).new) c (record d { scratch = c.scratch; heap = c.heap })
+      in_turn = in_turn_between m t n in_order.target words (λ k. (move_at d.scratch k).new) (record mid { scratch = c.scratch; heap = c.heap }) c (record d { scratch = c.scratch; heap = c.heap }) (record d { scratch = c.scratch; heap = c.heap })
+          (ap (λ (x : Contents). record x { scratch = c.scratch; heap = c.heap }) frame) refl
+          (in_turn_beside m t n in_order.target words (λ k. (move_at d.scratch k).new) mid (record d { scratch = mid.scratch; heap = mid.heap }) c.scratch c.heap p.underway.in_turn)
+
       planned_first : EndPlanned m c d s st.places t n
       planned_first = record {
         order = in_order;
@@ -217,6 +224,7 @@ module _ (m : Areas) (b c : Contents) (s : SpaceState) (st : Stands m b s) (t de
         fits = fits;
         own = λ u e is. p.so_far.own u e (is ∙ region) ∙ ap (λ (x : Contents). current x.currents u e) frame;
         dense = λ u e hu lu he le other some. p.so_far.dense u e hu lu he le some;
+        in_turn = in_turn;
       }
 
       pub end_planned : EndPlanned m c d s st.places t count

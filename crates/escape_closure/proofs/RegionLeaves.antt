@@ -2,7 +2,7 @@
 use Rattle.std.proofs.Common.{◌≡◌, ◌≢◌, ◌⊎◌, ◌↔◌, ℕ, ◌+◌, ◌-◌, ◌/◌, ◌≤◌, ◌<◌, false, Option, List, [], length, get_or, set, drop, refl, sym, ap, subst, ◌∙◌, arith, inl, inr, get_or-set_other}
 use Rattle.std.specs.List.{Contains, flat_map}
 use Rattle.std.proofs.lemmas.Bool.{cases_eq}
-use Rattle.std.proofs.lemmas.List.{drop-set-lt}
+use Rattle.std.proofs.lemmas.List.{drop-set-lt, length-map}
 use Rattle.std.proofs.Math.Logic.{⊎_elim}
 use Rattle.object_layout.specs.declared.names.Name.{Name}
 use Rattle.heap_words.specs.declared.map.Areas.{Areas}
@@ -15,23 +15,29 @@ use Rattle.epoch_lattice.specs.declared.TheConstants.{MAX_DEPTH}
 use Rattle.epoch_lattice.specs.Lattice.{IsValid, space_index}
 use Rattle.yak_model.specs.Spaces.{SpaceState, innermost}
 use Rattle.escape_closure.specs.Needs.{pages_needed}
-use Rattle.yak_model.specs.State.{IsClosed, IsOpen, Thing, view}
-use Rattle.yak_model.specs.Placed.{HeapStands, Holds, Places, space_word}
+use Rattle.yak_model.specs.State.{IsClosed, IsOpen, Thing, object_of, view}
+use Rattle.yak_model.specs.Placed.{HeapStands, Holds, Places, size_by, space_word}
 use Rattle.yak_model.specs.Plans.{Move, cleared, forwarded, without}
 use Rattle.yak_model.specs.Stands.{CurrentsStand, PoolStands, RegionsDense, SetsStand, Stands, claim_counter, free_pages, pool_length, set_entries}
 use Rattle.yak_model.specs.Recorded.{IsRecorded}
 use Rattle.yak_model.proofs.Data.{in_heap}
-use Rattle.region_pages.specs.Freeing.{freed_table, free_below, with_released}
+use Rattle.region_pages.specs.Freeing.{freed as freed_row, freed_table, free_below, pool_with, with_released}
+use Rattle.region_pages.specs.declared.TheConstants.{CLAIM_COUNTER}
 use Rattle.region_pages.proofs.Shapes.{Shape}
 use Rattle.relocation.specs.Moves.{move_at}
+use Rattle.relocation.proofs.Lawful.{by_move-at}
 use Rattle.remember_sets.specs.declared.TheConstants.{SET_ENTRIES}
 use Rattle.remember_sets.specs.Filed.{IsFiled, LiesIn, SetsHold, with_sets}
 use Rattle.forwarding.specs.Crossing.{AreData, AreFiled, AreMoved, AreValid, IsCrossing}
-use Rattle.escape_closure.specs.Ends.{RegionEnded, region_word}
+use Rattle.escape_closure.specs.Ends.{RegionEnded, StateEnded, region_word}
+use Rattle.escape_closure.specs.InTurn.{StandInTurn}
+use Rattle.escape_closure.specs.Leaves.{PoolAnew, RestKept}
 use Rattle.escape_closure.specs.Leaving.{Carried, EndMoves, Leaves, RegionReady, left_behind, objects_left}
+use Rattle.escape_closure.proofs.Anew.{claims_again, pool_anew}
 use Rattle.escape_closure.proofs.Carries.{innermost_valid, rest}
 use Rattle.escape_closure.proofs.Fates.{OneEach, one_each}
-use Rattle.escape_closure.proofs.Leaves.{state_ended}
+use Rattle.escape_closure.proofs.InTurn.{in_turn_beside, in_turn_between, in_turn_same, released_free, released_table}
+use Rattle.escape_closure.proofs.Leaves.{ended_places, rest_kept, state_ended}
 use Rattle.escape_closure.proofs.Readies.{end_moves, entries_same, plan_frame, region_ready, sets_same}
 use Rattle.escape_closure.proofs.Records.{data_left, filed_as, iff_then, moved_left, valid_left}
 use Rattle.escape_closure.proofs.Releases.{later, other_word, region_dense, region_stands, space_of_valid, spaces_left}
@@ -265,6 +271,31 @@ module _ (m : Areas) (before mid c : Contents) (s : SpaceState) (st : Stands m b
               h,
         )
 
+    -- the pool afterwards
+    abbrev freed_words : List (List ℕ)
+    freed_words = freed_table (space_index (Region t depth) + 1) moved.table
+
+    d_words : d.table ≡ freed_words
+    d_words = d_table ∙ ap (λ (x : Contents). x.table) released
+
+    d_long : length d.table ≡ m.pages
+    d_long = ap (λ (ts : List (List ℕ)). length ts) d_words ∙ length-map moved.table (freed_row (space_index (Region t depth) + 1)) ∙ ap (λ (x : Contents). length x.table) carried.frame ∙ shape.table
+
+    d_free : free_below freed_words (length freed_words) ≡ free_below d.table m.pages
+    d_free = ap (λ (ts : List (List ℕ)). free_below ts (length ts)) (sym d_words) ∙ ap (free_below d.table) d_long
+
+    anew : PoolAnew m before d
+    anew = pool_anew m before d c.heads moved.heads moved.pool (set_entries moved.heads)
+        (ap (λ (hs : List ℕ). set hs CLAIM_COUNTER 0) (ap (λ (x : Contents). x.heads) r.planned.frame ∙ ap (λ (x : Contents). set x.heads CLAIM_COUNTER (claim_counter c.heads)) r.written.frame) ∙ claims_again before.heads (claim_counter c.heads))
+        shape.heads
+        (ap (λ (x : Contents). x.pool) carried.frame ∙ ap (λ (x : Contents). x.pool) base_frame)
+        (ap (λ (x : Contents). x.heads) carried.frame)
+        (ap (λ (x : Contents). x.heads) ends ∙ ap (λ (x : Contents). x.heads) others
+        ∙ ap (λ (hs : List ℕ). set hs SET_ENTRIES (set_entries filed.heads)) freed_heads
+        ∙ ap (λ (ps : List ℕ). set (set (set moved.heads 1 0) 2 (length ps)) SET_ENTRIES (set_entries filed.heads)) d_free
+        ∙ ap (λ n. set (set (set moved.heads 1 0) 2 (length (free_below d.table m.pages))) SET_ENTRIES n) (sym (ap (λ (x : Contents). set_entries x.heads) ends)))
+        (d_pool ∙ ap (λ (x : Contents). x.pool) released ∙ ap (λ (ps : List ℕ). pool_with ps moved.pool) d_free)
+
     pub leaves : Leaves m before d s l t count moves (later m before mid c s st t count areas has low r shape.table)
     leaves = record {
       at = refl;
@@ -280,18 +311,61 @@ module _ (m : Areas) (before mid c : Contents) (s : SpaceState) (st : Stands m b
       buffers = subst AreFiled (sym (ap (λ (x : Contents). x.buffers) ends ∙ ap (λ (x : Contents). x.buffers) others ∙ ap (λ (x : Contents). x.buffers) released ∙ ap (λ (x : Contents). x.buffers) carried.frame ∙ ap (λ (x : Contents). x.buffers) base_frame)) r.filed.filed;
       limits = limits;
       pool = subst (λ (ts : List (List ℕ)). PoolStands m d.heads d.pool ts) (sym d_table) (subst (λ (ps : List ℕ). PoolStands m d.heads ps freed.table) (sym d_pool) (pool_same m freed.heads d.heads freed.pool freed.table d_claims d_pooled pool));
+      anew = anew;
       currents = subst (λ (x : Contents). CurrentsStand m x.currents x.table) (sym ends) (subst (λ (x : Contents). CurrentsStand m x.currents x.table) (sym others) (currents (subst (λ (x : Contents). CurrentsStand m x.currents x.table) (sym carried.frame) r.planned.currents)));
       sets = subst (SetsHold m) (sym ends) sets;
       dense = subst (λ (ts : List (List ℕ)). RegionsDense m ts d.currents (later m before mid c s st t count areas has low r shape.table).pages left) (sym table_is) (region_dense m before mid c s st t count areas has low r shape.table d.currents depth is shape.currents shape.slots currents_is);
       filed = λ a. iff_then (d_filed a) (iff_then (filed_now a) (either (moved_filed a) (outside_filed a)));
     }
 
+    -- where the objects that escaped stand
+    state : StateEnded m d s t false count
+    state = state_ended m before s st r.filed.recorded areas t count has low moves false e d (later m before mid c s st t count areas has low r shape.table) leaves r.written.counted targets_valid
+
+    rest_left : RestKept m before d s l t state.after state.stands.places.at
+    unfolding state
+    rest_left = rest_kept m before s st r.filed.recorded areas t count has low moves false e d (later m before mid c s st t count areas has low r shape.table) leaves r.written.counted targets_valid
+
+    stands_at : (k : ℕ) → k < count → (moves k).new ≡ state.stands.places.at (r.planned.order.name k)
+    unfolding state
+    stands_at k lt =
+        let n : Name = r.planned.order.name k in
+        let leads = by_move-at count moves (λ v. v.new) (l.at n) (l.at n) k e.ascending lt (sym (r.planned.moves k lt).0) in
+        let places = ended_places m before s st r.filed.recorded areas t count has low moves false e d (later m before mid c s st t count areas has low r shape.table) leaves r.written.counted targets_valid in
+        sym leads ∙ ap (λ (p : Places). p.at n) (sym places)
+
+    stand_in_turn : StandInTurn m before d s l t count r.planned.order state.stands.places.at
+    stand_in_turn =
+        let last : Contents = record c { scratch = before.scratch; heap = before.heap } in
+        let to = r.planned.order.target in
+        let sizes : ℕ → ℕ = λ k. size_by (object_of s) (r.planned.order.name k) in
+        let first = in_turn_beside m t count to sizes (λ k. (moves k).new) mid (record c { scratch = mid.scratch; heap = mid.heap }) before.scratch before.heap r.planned.in_turn in
+        let turn = in_turn_between m t count to sizes (λ k. (moves k).new) (record mid { scratch = before.scratch; heap = before.heap }) before last last (ap (λ (x : Contents). record x { scratch = before.scratch; heap = before.heap }) r.written.frame) refl first in
+        record {
+          last = last;
+          placed = in_turn_same m t count to to sizes sizes (λ k. (moves k).new) (λ k. state.stands.places.at (r.planned.order.name k)) before last (λ k lt. refl) (λ k lt. refl) stands_at turn;
+          left = with_released last (innermost s.graph t);
+          released = refl;
+          table = table_is ∙ sym (released_table last (innermost s.graph t));
+          currents = currents_is ∙ ap (λ (y : Space). (with_released last y).currents) (sym region);
+          free =
+              let heads : moved.heads ≡ set c.heads SET_ENTRIES (set_entries moved.heads) = ap (λ (x : Contents). x.heads) carried.frame in
+              let pool_is : moved.pool ≡ c.pool = ap (λ (x : Contents). x.pool) carried.frame in
+              let table : moved.table ≡ c.table = ap (λ (x : Contents). x.table) carried.frame in
+              let free_same : free_pages d.heads d.pool ≡ free_pages freed.heads freed.pool = rw (d_claims, d_pooled, d_pool) refl in
+              free_same
+              ∙ ap (λ (x : Contents). free_pages x.heads x.pool) released
+              ∙ released_free moved last (set_entries moved.heads) (Region t depth) heads pool_is table
+              ∙ ap (λ (y : Space). free_pages (with_released last y).heads (with_released last y).pool) (sym region);
+        }
+
     pub region_ended : RegionEnded m before d s st t count
     region_ended =
         let free_same : free_pages d.heads d.pool ≡ free_pages freed.heads freed.pool = rw (d_claims, d_pooled, d_pool) refl in
         let was : free_pages mid.heads mid.pool ≡ free_pages before.heads before.pool = ap (λ (x : Contents). free_pages x.heads x.pool) r.written.frame in
         record {
-          state = state_ended m before s st r.filed.recorded areas t count has low moves false e d (later m before mid c s st t count areas has low r shape.table) leaves r.written.counted targets_valid;
+          state = state;
+          rest = rest_left;
           order = r.planned.order;
           enough = subst (λ (x : Contents). pages_needed m x s l t count r.planned.order ≤ length (free_pages x.heads x.pool)) r.written.frame r.planned.enough;
           claimed = r.planned.claimed;
@@ -299,4 +373,5 @@ module _ (m : Areas) (before mid c : Contents) (s : SpaceState) (st : Stands m b
           former = sym was ∙ r.planned.free;
           claims = r.planned.claims ∙ ap (λ (x : Contents). pages_needed m x s l t count r.planned.order) r.written.frame;
           free = λ p. subst (λ (xs : List ℕ). Contains xs p ↔ (Contains (free_pages c.heads c.pool) p ⊎ ((p < m.pages) × (space_word before.table p ≡ region_word s t)))) (sym free_same) (free_after p);
+          in_turn = stand_in_turn;
         }

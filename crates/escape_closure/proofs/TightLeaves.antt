@@ -1,5 +1,5 @@
 -- What a tight end leaves.
-use Rattle.std.proofs.Common.{◌≡◌, ◌≢◌, ◌⊎◌, ◌↔◌, ℕ, ◌+◌, ◌-◌, ◌*◌, ◌/◌, ◌≤◌, ◌<◌, ◌==◌, true, false, Option, Some, List, [], ◌∷◌, length, get_or, set, drop, zero, suc, refl, sym, ap, subst, ◌∙◌, arith, inl, inr, get_or-set_same, get_or-set_other}
+use Rattle.std.proofs.Common.{◌≡◌, ◌≢◌, ◌⊎◌, ◌↔◌, ℕ, ◌+◌, ◌-◌, ◌*◌, ◌/◌, ◌≤◌, ◌<◌, ◌==◌, true, false, Option, Some, List, length, get_or, set, drop, refl, sym, ap, subst, ◌∙◌, arith, inl, inr, get_or-set_other}
 use Rattle.std.specs.List.{Contains, flat_map}
 use Rattle.std.proofs.lemmas.Bool.{cases_eq, cases_lt, cases_order, ne_eqb}
 use Rattle.std.proofs.lemmas.List.{drop-set-lt}
@@ -16,11 +16,11 @@ use Rattle.epoch_lattice.specs.Lattice.{IsValid, inner_of, space_index}
 use Rattle.epoch_lattice.proofs.Numbers.{number-own}
 use Rattle.yak_model.specs.Spaces.{SpaceState, innermost}
 use Rattle.yak_model.specs.State.{IsClosed, IsOpen, Thing, object_of, view}
-use Rattle.yak_model.specs.Placed.{HeapStands, Holds, Places, names_of, size_by, space_word, used_mark}
+use Rattle.yak_model.specs.Placed.{HeapStands, Holds, Places, names_of, size_by, space_word, used_mark, words_by}
 use Rattle.yak_model.specs.Plans.{Move, cleared, forwarded, without}
 use Rattle.yak_model.specs.Stands.{CurrentsStand, PoolStands, RegionsDense, SetsStand, Stands, claim_counter, current, pages_of, pool_length, set_entries}
 use Rattle.yak_model.specs.Recorded.{IsRecorded}
-use Rattle.region_pages.specs.Freeing.{with_pool_rebuilt}
+use Rattle.region_pages.specs.Freeing.{free_below, pool_with, with_pool_rebuilt}
 use Rattle.region_pages.proofs.Entries.{current-cases}
 use Rattle.region_pages.proofs.Placing.{length-slots_set}
 use Rattle.region_pages.proofs.Released.{inner_region, inner_valid}
@@ -35,16 +35,19 @@ use Rattle.relocation.proofs.SlidLaid.{places_of}
 use Rattle.remember_sets.specs.declared.TheConstants.{SET_ENTRIES}
 use Rattle.remember_sets.specs.Filed.{IsFiled, LiesIn, SetsHold, with_sets}
 use Rattle.forwarding.specs.Crossing.{AreData, AreFiled, AreMoved, AreValid, IsCrossing}
-use Rattle.escape_closure.specs.Ends.{TightEnded, region_word}
+use Rattle.escape_closure.specs.Ends.{StateEnded, TightEnded, region_word}
+use Rattle.escape_closure.specs.Leaves.{HoldsOne, IsLeftAs, PoolAnew, SlidInto}
 use Rattle.escape_closure.specs.Leaving.{Carried, EndMoves, Leaves, TightReady, left_behind, objects_left}
+use Rattle.escape_closure.proofs.Anew.{pool_anew}
 use Rattle.escape_closure.proofs.Fates.{left_so, moves_so}
-use Rattle.escape_closure.proofs.Leaves.{state_ended}
+use Rattle.escape_closure.proofs.Leaves.{ended_places, rest_kept, state_ended}
+use Rattle.escape_closure.proofs.SlidPages.{holds_one, slid_same}
 use Rattle.escape_closure.proofs.Readies.{sets_same}
 use Rattle.escape_closure.proofs.Records.{data_left, filed_as, iff_then, moved_left, valid_left}
 use Rattle.escape_closure.proofs.RegionLeaves.{not_listed, pool_same}
 use Rattle.escape_closure.proofs.Releases.{inner_is, none_of}
 use Rattle.escape_closure.proofs.Sums.{pages_alike, words_into-none, words_left}
-use Rattle.escape_closure.proofs.TightReadies.{aimless, drops_of, known, laid, name_escapes, name_is, named, one, rest, slide, small, tight_counts, tight_frame, tight_lawful, tight_moves, valid}
+use Rattle.escape_closure.proofs.TightReadies.{aimless, drops_of, in_order, known, laid, name_escapes, name_is, named, one, rest, slide, small, tight_counts, tight_frame, tight_lawful, tight_moves, valid}
 use Rattle.escape_closure.proofs.Written.{none_filed, region_is}
 
 -- other work words, which are the same for the objects that there are
@@ -57,22 +60,6 @@ holds_work m heap lies leads w w' objects h same = record {
 
 no_region : (u d : ℕ) → Control ≡ Region u d → ⊥
 no_region u d h = cc
-
-set_past : {X : Type 0} (xs : List X) (i : ℕ) (x : X) → length xs ≤ i → set xs i x ≡ xs
-set_past [] i x le = refl
-set_past (y ∷ ys) zero x le = absurd (omega (arith, le))
-set_past (y ∷ ys) (suc i) x le = ap (λ zs. y ∷ zs) (set_past ys i x (omega (arith, le)))
-
--- the current pages in Control stay
-first_current : (currents : List (List ℕ)) (t depth u : ℕ) → 1 ≤ depth → current (row_set currents (t - 1) depth 0) u 0 ≡ current currents u 0
-first_current currents t depth u low = ⊎_elim
-    (λ (q : u - 1 ≡ t - 1). ⊎_elim
-    (λ (lt : t - 1 < length currents).
-    ap (λ i. get_or (row (set currents (t - 1) (set (row currents (t - 1)) depth 0)) i) 0 0) q ∙ ap (λ (x : List ℕ). get_or x 0 0) (get_or-set_same currents (t - 1) (set (row currents (t - 1)) depth 0) [] lt) ∙ get_or-set_other (row currents (t - 1)) depth 0 0 0 (omega (arith, low)) ∙ ap (λ i. get_or (row currents i) 0 0) (sym q))
-    (λ (past : length currents ≤ t - 1). ap (λ (x : List (List ℕ)). current x u 0) (set_past currents (t - 1) (set (row currents (t - 1)) depth 0) past))
-    (cases_lt (t - 1) (length currents)))
-    (λ (nq : u - 1 ≢ t - 1). ap (λ (x : List ℕ). get_or x 0 0) (get_or-set_other currents (t - 1) (u - 1) (set (row currents (t - 1)) depth 0) [] nq))
-    (cases_eq (u - 1) (t - 1))
 
 -- the lists of the words before a tight end are as long as those after its plan
 pub shape_before : (m : Areas) (before c : Contents) → c ≡ record before { scratch = c.scratch; heap = c.heap } → Shape m c → Shape m before
@@ -421,6 +408,22 @@ module _ (m : Areas) (before mid c : Contents) (s : SpaceState) (st : Stands m b
       λ h. ⊎_elim (λ a. inl (f.1 (g.1 a))) (λ x. inr x) h,
     )
 
+    -- the pool afterwards
+    d_free : free_below settled.table (length settled.table) ≡ free_below d.table m.pages
+    d_free = ap (free_below settled.table) long ∙ ap (λ (ts : List (List ℕ)). free_below ts m.pages) (sym d_table)
+
+    anew : PoolAnew m before d
+    anew = pool_anew m before d before.heads moved.heads moved.pool (set_entries moved.heads)
+        refl
+        shape.heads
+        (ap (λ (x : Contents). x.pool) carried.frame ∙ ap (λ (x : Contents). x.pool) base_frame)
+        (ap (λ (x : Contents). x.heads) carried.frame ∙ ap (λ (x : Contents). set x.heads SET_ENTRIES (set_entries moved.heads)) base_frame)
+        (ap (λ (x : Contents). x.heads) ends ∙ ap (λ (x : Contents). x.heads) others
+        ∙ ap (λ (x : Contents). set x.heads SET_ENTRIES (set_entries filed.heads)) frame
+        ∙ ap (λ (ps : List ℕ). set (set (set moved.heads 1 0) 2 (length ps)) SET_ENTRIES (set_entries filed.heads)) d_free
+        ∙ ap (λ n. set (set (set moved.heads 1 0) 2 (length (free_below d.table m.pages))) SET_ENTRIES n) (sym (ap (λ (x : Contents). set_entries x.heads) ends)))
+        (d_pool ∙ ap (λ (x : Contents). x.pool) frame ∙ ap (λ (ps : List ℕ). pool_with ps moved.pool) d_free)
+
     pub tight_leaves : Leaves m before d s st.places t count (move_at c.scratch) later
     tight_leaves = record {
       at = refl;
@@ -436,16 +439,74 @@ module _ (m : Areas) (before mid c : Contents) (s : SpaceState) (st : Stands m b
       buffers = subst AreFiled (sym (ap (λ (x : Contents). x.buffers) ends ∙ ap (λ (x : Contents). x.buffers) others ∙ ap (λ (x : Contents). x.buffers) frame ∙ ap (λ (x : Contents). x.buffers) carried.frame ∙ ap (λ (x : Contents). x.buffers) base_frame)) r.filed.filed;
       limits = limits;
       pool = subst (λ (ts : List (List ℕ)). PoolStands m d.heads d.pool ts) (sym d_table) (subst (λ (ps : List ℕ). PoolStands m d.heads ps settled.table) (sym d_pool) (pool_same m settled.heads d.heads settled.pool settled.table d_claims d_pooled pool));
+      anew = anew;
       currents = subst (λ (ts : List (List ℕ)). CurrentsStand m d.currents ts) (sym d_table) (currents_stand settled.table after freed long shape.table d.currents shape.currents shape.slots currents_is);
       sets = subst (SetsHold m) (sym ends) sets;
       dense = subst (λ (ts : List (List ℕ)). RegionsDense m ts d.currents later.pages left) (sym d_table) (tight_dense settled.table after freed long shape.table d.currents shape.currents shape.slots currents_is);
       filed = λ a. iff_then (d_filed a) (iff_then (filed_now a) (either (settled_filed a) (outside_filed a)));
     }
 
-    pub tight_ended : TightEnded m before d s t count
+    -- where the objects that escaped stand
+    abbrev state : StateEnded m d s t true count
+    state = state_ended m before s st r.filed.recorded areas t count has low moves true e d later tight_leaves (tight_counts m before mid c s st t count next areas has low r) targets_valid
+
+    stands_at : (k : ℕ) → k < count → (moves k).new ≡ state.stands.places.at (names k)
+    stands_at k lt =
+        let places = ended_places m before s st r.filed.recorded areas t count has low moves true e d later tight_leaves (tight_counts m before mid c s st t count next areas has low r) targets_valid in
+        sym (ap (λ (l' : Places). l'.at (names k)) places ∙ by_move-at count moves (λ v. v.new) (l.at (names k)) (l.at (names k)) k e.ascending lt (name_is m before mid c s st t count next areas has low r k lt))
+
+    sized : (k : ℕ) → k < count → size_at mid.heap (moves k).old ≡ size_by (object_of s) (names k)
+    sized k lt =
+        let x = (known m before mid c s st t count next areas has low r).object k lt in
+        x.3 ∙ sym (ap words_by (kept (view s) (left_behind s st.places t count moves) (names k) x.0 x.1))
+
+    planned_into : SlidInto m slid mid.table count (λ k. size_at mid.heap (moves k).old) (λ k. (moves k).new)
+    planned_into = let sl = slide m before mid c s st t count next areas has low r in record { begins = sl.begins; follows = sl.follows }
+
+    slid_into : SlidInto m slid before.table count (λ k. size_by (object_of s) (names k)) (λ k. state.stands.places.at (names k))
+    slid_into = slid_same m slid mid.table before.table count (λ k. size_at mid.heap (moves k).old) (λ k. size_by (object_of s) (names k)) (λ k. (moves k).new) (λ k. state.stands.places.at (names k)) mid_frame sized stands_at planned_into
+
+    -- the page of a move
+    page_at : (k p : ℕ) → k < count → state.stands.places.at (names k) / page_words m ≡ p → p < next
+    page_at k p lt at =
+        let w = target k lt in
+        let same = stands_at k lt in
+        let q : w.0 ≡ p = sym w.3 ∙ ap (λ a. a / page_words m) same ∙ at in
+        subst (λ i. i < next) q w.4
+
+    -- a page of the region before the last one that was filled holds one of the objects
+    filled_one : (p : ℕ) → IsPageOf slid before.table p → p < next → HoldsOne m count (λ k. state.stands.places.at (names k)) p
+    filled_one p own less =
+        let sl = slide m before mid c s st t count next areas has low r in
+        ⊎_elim
+        (λ (none : count ≡ 0). absurd (let z = sl.unused none in omega (arith, z.0, less)))
+        (λ (some : count ≢ 0).
+        let k : ℕ = count - 1 in
+        let lt : k < count = omega (arith, some) in
+        let end = sl.last k (omega (arith, some)) in
+        let same = ap (λ a. a / page_words m) (stands_at k lt) in
+        let upto : p ≤ state.stands.places.at (names k) / page_words m = omega (arith, end.1, same, less) in
+        holds_one m slid before.table count (λ i. size_by (object_of s) (names i)) (λ i. state.stands.places.at (names i)) slid_into
+        (λ i li.
+        let x = (known m before mid c s st t count next areas has low r).object i li in
+        let size : size_by (object_of s) (names i) ≡ length x.0.fields + 3 = sym (sized i li) ∙ x.3 in
+        omega (arith, size))
+        k p lt own upto)
+        (cases_eq count 0)
+
+    left_as : (p : ℕ) → p < m.pages → IsPageOf slid before.table p → IsLeftAs m d.table count (λ k. state.stands.places.at (names k)) p
+    left_as p lt own = ⊎_elim
+        (λ (less : p < next). inl (ap (λ (ts : List (List ℕ)). space_word ts p) d_table ∙ (after.filled p lt (subst (λ (ts : List (List ℕ)). IsPageOf slid ts p) (sym mid_frame) own) less).0, filled_one p own less))
+        (λ (le : next ≤ p). inr (ap (λ (ts : List (List ℕ)). space_word ts p) d_table ∙ freed p lt own le, λ w. let q = page_at w.0 p w.1 w.2 in omega (arith, q, le)))
+        (cases_lt p next)
+
+    pub tight_ended : TightEnded m before d s st t count
     tight_ended = record {
-      state = state_ended m before s st r.filed.recorded areas t count has low moves true e d later tight_leaves (tight_counts m before mid c s st t count next areas has low r) targets_valid;
-      pages = λ p lt other. ap (λ (ts : List (List ℕ)). space_word ts p) d_table ∙ other_page settled.table after freed long shape.table p other;
-      region = λ p lt own. subst (λ (ts : List (List ℕ)). (space_word ts p ≡ 0) ⊎ (space_word ts p ≡ 1)) (sym d_table) (own_page settled.table after freed long shape.table p lt own);
-      control = λ u. ap (λ (x : List (List ℕ)). current x u 0) currents_is ∙ first_current before.currents t depth u (omega (arith, is, low));
+      state = state;
+      rest = rest_kept m before s st r.filed.recorded areas t count has low moves true e d later tight_leaves (tight_counts m before mid c s st t count next areas has low r) targets_valid;
+      order = in_order m before mid c s st t count next areas has low r;
+      slid = slid_into;
+      region = left_as;
+      pages = λ p lt other. ap (λ (ts : List (List ℕ)). row ts p) d_table ∙ same_row settled.table after freed long shape.table p other;
+      currents = currents_is ∙ ap (λ k. row_set before.currents (t - 1) k 0) is;
     }

@@ -1,8 +1,9 @@
 -- The plan of a tight end that references can follow.
-use Rattle.std.proofs.Common.{◌≡◌, ◌≢◌, ℕ, ◌+◌, ◌≤◌, ◌<◌, Bool, true, false, Some, List, length, get_or, refl, sym, ap, subst, ◌∙◌, arith}
+use Rattle.std.proofs.Common.{◌≡◌, ◌≢◌, ℕ, ◌+◌, ◌-◌, ◌≤◌, ◌<◌, Bool, true, false, Option, Some, List, length, get_or, refl, sym, ap, subst, ◌∙◌, arith}
 use Rattle.std.proofs.lemmas.List.{get_or_default}
 use Rattle.std.proofs.Math.Logic.{∥∥₁_map}
 use Rattle.std.specs.FinSet as names
+use Rattle.std.specs.Prelude.{unwrap_or}
 use Rattle.object_layout.specs.declared.names.Name.{Name}
 use Rattle.object_layout.specs.declared.TheConstants.{MAX_SPACE, OBJECT_WORDS}
 use Rattle.heap_words.specs.declared.map.Areas.{Areas}
@@ -11,8 +12,8 @@ use Rattle.heap_words.specs.Contents.{Contents, depth_of}
 use Rattle.epoch_lattice.specs.declared.Space.{Space}
 use Rattle.epoch_lattice.specs.declared.Space.TheVariants.{Control}
 use Rattle.epoch_lattice.specs.declared.TheConstants.{MAX_DEPTH}
-use Rattle.epoch_lattice.specs.Lattice.{IsValid, space_index}
-use Rattle.epoch_lattice.proofs.Numbers.{number-most, number-own}
+use Rattle.epoch_lattice.specs.Lattice.{IsValid, space_index, space_of}
+use Rattle.epoch_lattice.proofs.Numbers.{number-most, number-own, number-reads_back}
 use Rattle.yak_model.specs.Graph.{Limits}
 use Rattle.yak_model.specs.Spaces.{Counts, SpaceState, innermost}
 use Rattle.yak_model.specs.State.{Thing, object_of, view}
@@ -26,6 +27,7 @@ use Rattle.relocation.specs.Slide.{Drops, IsPageOf, Runs, Sliding}
 use Rattle.relocation.proofs.Lawful.{kept}
 use Rattle.relocation.proofs.SlidLawful.{name_at, runs_of, slid_object, slide-lawful, slide-present, stands-at, walk-at}
 use Rattle.relocation.proofs.Slidden.{Slid, pick, slide-known}
+use Rattle.escape_closure.specs.Needs.{InOrder}
 use Rattle.escape_closure.specs.Targets.{IsEscaping, IsTargetAt, TargetsWritten}
 use Rattle.escape_closure.specs.Ends.{DropsRest, region_word}
 use Rattle.escape_closure.specs.Leaving.{EndMoves, ReadyToMove, TightReady, left_behind}
@@ -105,7 +107,7 @@ module _ (m : Areas) (before mid c : Contents) (s : SpaceState) (st : Stands m b
       (n, aimed n o.thing o.present (λ z. mark.1 (ap (λ i. get_or mid.heap (i + 2) 0) (sym place) ∙ z)), place)
 
   -- each escaping object moves
-  goes : (n : Name) → IsEscaping s t n → (k : ℕ) × (k < count) × (st.places.at n ≡ (move_at c.scratch k).old) × (x : Space) × IsTargetAt s t n x × ((move_at c.scratch k).space ≡ Control)
+  pub goes : (n : Name) → IsEscaping s t n → (k : ℕ) × (k < count) × (st.places.at n ≡ (move_at c.scratch k).old) × (x : Space) × IsTargetAt s t n x × ((move_at c.scratch k).space ≡ Control)
   goes n esc =
       let i = reached_here s st.whole t has.0 (innermost s.graph t) n esc.0 esc.1 in
       let at = laid.present n i.0 i.1 in
@@ -220,3 +222,31 @@ module _ (m : Areas) (before mid c : Contents) (s : SpaceState) (st : Stands m b
       let x = known.object w.0 w.1 in
       let i = reached_here s st.whole t has.0 (innermost s.graph t) n esc.0 esc.1 in
       (w.0, w.1, one (named w.0) n x.0 i.0 (kept (view s) (left_behind s st.places t count moves) (named w.0) x.0 x.1) i.1 (x.2 ∙ sym w.2)))
+
+  -- the escaping objects by ascending address, each with its target
+  abbrev pub target_of : ℕ → Space
+  target_of k = unwrap_or (space_of (get_or mid.heap (st.places.at (named k) + 2) 0 - 1)) Control
+
+  pub target_is : (k : ℕ) → k < count → IsValid MAX_DEPTH (target_of k) × IsTargetAt s t (named k) (target_of k)
+  target_is k lt =
+      let w = r.written.targets (named k) (name_escapes k lt) in
+      let back : space_of (space_index w.0 + 1 - 1) ≡ Some w.0 = ap space_of (let q : space_index w.0 + 1 - 1 ≡ space_index w.0 = omega arith in q) ∙ number-reads_back w.0 w.1 in
+      let is : target_of k ≡ w.0 = ap (λ i. unwrap_or (space_of (i - 1)) Control) w.3 ∙ ap (λ (x : Option Space). unwrap_or x Control) back in
+      subst (λ (x : Space). IsValid MAX_DEPTH x × IsTargetAt s t (named k) x) (sym is) (w.1, w.2)
+
+  abbrev pub in_order : InOrder s st.places t count
+  in_order = record {
+    name = named;
+    target = target_of;
+    escaping = name_escapes;
+    complete = λ n esc.
+        let w = goes n esc in
+        let x = known.object w.0 w.1 in
+        let i = reached_here s st.whole t has.0 (innermost s.graph t) n esc.0 esc.1 in
+        (w.0, w.1, one (named w.0) n x.0 i.0 (kept (view s) (left_behind s st.places t count moves) (named w.0) x.0 x.1) i.1 (x.2 ∙ sym w.2));
+    ascending = λ j k less lt.
+        let lj : j < count = omega (arith, less, lt) in
+        let up = tight_moves.ascending j k less lt in
+        omega (arith, up, name_is j lj, name_is k lt);
+    targets = target_is;
+  }

@@ -1,5 +1,6 @@
 -- Placing the objects of a roll, one after another.
 use Rattle.std.proofs.Common.{◌≡◌, ◌≢◌, ℕ, ◌+◌, ◌-◌, ◌*◌, ◌≤◌, ◌<◌, List, Some, set, get_or, length, refl, sym, ap, subst, ◌∙◌, arith, inl, inr, get_or-set_other, zero, suc}
+use Rattle.std.specs.Prelude.{unwrap_or}
 use Rattle.std.proofs.lemmas.Bool.{cases_eq}
 use Rattle.epoch_lattice.specs.declared.Space.{Space}
 use Rattle.epoch_lattice.specs.declared.Space.TheVariants.{Control, Region}
@@ -12,15 +13,18 @@ use Rattle.yak_model.specs.Packed.{IsSpaceOf}
 use Rattle.yak_model.specs.Stands.{CurrentsStand, PoolStands, free_pages}
 use Rattle.heap_walks.specs.Laid.{work_of}
 use Rattle.heap_walks.proofs.Objects.{kept_word}
+use Rattle.region_pages.specs.Placement.{IsPlaced}
 use Rattle.region_pages.proofs.Shapes.{Shape}
 use Rattle.relocation.specs.Moves.{move_at}
 use Rattle.relocation.specs.declared.plans.TheConstants.{MOVE_WORDS}
 use Rattle.escape_closure.specs.declared.needing.Entry.{Entry}
 use Rattle.escape_closure.specs.Rolls.{Aimed, AimsInside, Rolled}
-use Rattle.escape_closure.specs.Placing.{EntryAt, Filling, claims, filled, index_on, owner, room_in, rooms_at, size_on}
+use Rattle.escape_closure.specs.InTurn.{PlacedInTurn}
+use Rattle.escape_closure.specs.Placing.{EntryAt, Filling, claims, filled, index_on, owner, room_in, rooms_at, size_on, target_on}
 use Rattle.escape_closure.specs.Planning.{NotPlaced, PlacedNext, TargetsExist, Underway, filled_by}
 use Rattle.escape_closure.proofs.Placing.{claims_one, entry_of_roll, filling_more, filling_none}
 use Rattle.escape_closure.proofs.Follows.{free_follows, is_valid, placed_heap, room_is, rooms_follow}
+use Rattle.escape_closure.proofs.InTurn.{in_turn_between, in_turn_first, in_turn_more, in_turn_same, placed_beside}
 
 some_is : (a b : Space) → Some a ≡ Some b → a ≡ b
 some_is a b e = cc
@@ -81,6 +85,24 @@ module _ (m : Areas) (q : Aimed) (t : ℕ) (c : Contents) (count : ℕ) (r : Rol
         let ends : (filled_by m q t c count r (k + 1 + (count - (k + 1)))).claimed ≡ (filled_by m q t c count r count).claimed = ap (λ i. (filled_by m q t c count r i).claimed) (omega (arith, lt)) in
         omega (arith, u.free, nothing, one, more, grow, ends, enough)
 
+    -- and it is placed in turn
+    in_turn_on : (after : Contents) (entry : Entry) → entry.index ≡ index_on q c (heap_length m) count r k → entry.size ≡ size_on q c (heap_length m) count r k → PlacedNext m now after t k entry → PlacedInTurn m t (k + 1) (target_on q c (heap_length m) count r) (size_on q c (heap_length m) count r) (λ j. (move_at after.scratch j).new) c (record after { scratch = c.scratch; heap = c.heap })
+    in_turn_on after entry index size p =
+        let to : ℕ → Space = target_on q c (heap_length m) count r in
+        let sizes : ℕ → ℕ = size_on q c (heap_length m) count r in
+        let here : Contents = record now { scratch = c.scratch; heap = c.heap } in
+        let there : Contents = record p.between { scratch = c.scratch; heap = c.heap } in
+        let is : p.space ≡ to k = sym (ap (λ x. unwrap_or x Control) p.number) ∙ ap (λ i. unwrap_or (space_of i) Control) index in
+        let new : p.new ≡ (move_at after.scratch k).new = sym (ap (λ v. v.new) p.move) in
+        let step : IsPlaced m here (owner t p.space) p.space entry.size p.new there = placed_beside m now p.between c.scratch c.heap (owner t p.space) entry.size p.new p.space p.placed in
+        let next : IsPlaced m here (owner t (to k)) (to k) (sizes k) (move_at after.scratch k).new there =
+        subst (λ x. IsPlaced m here (owner t x) x (sizes k) (move_at after.scratch k).new there) is (subst (λ n. IsPlaced m here (owner t p.space) p.space n (move_at after.scratch k).new there) size (subst (λ a. IsPlaced m here (owner t p.space) p.space entry.size a there) new step))
+        in
+        let before : PlacedInTurn m t k to sizes (λ j. (move_at after.scratch j).new) c here =
+        in_turn_same m t k to to sizes sizes (λ j. (move_at now.scratch j).new) (λ j. (move_at after.scratch j).new) c here (λ j lt. refl) (λ j lt. refl) (λ j lt. sym (ap (λ v. v.new) (p.former j lt))) u.in_turn
+        in
+        in_turn_between m t (k + 1) to sizes (λ j. (move_at after.scratch j).new) c c there (record after { scratch = c.scratch; heap = c.heap }) refl (sym (ap (λ (z : Contents). record z { scratch = c.scratch; heap = c.heap }) p.marked)) (in_turn_more m t k to sizes (λ j. (move_at after.scratch j).new) c here there before next)
+
     pub goes_on : (after : Contents) (entry : Entry) → entry.old ≡ q.laid.places.at (r.name k) → entry.index ≡ index_on q c (heap_length m) count r k → entry.size ≡ size_on q c (heap_length m) count r k → 3 ≤ entry.size → Shape m now → CurrentsStand m now.currents now.table → PoolStands m now.heads now.pool now.table → PlacedNext m now after t k entry → Underway m q t c count r after (k + 1)
     goes_on after entry old index size least shape currents pool p =
         let x = target in
@@ -110,6 +132,7 @@ module _ (m : Areas) (q : Aimed) (t : ℕ) (c : Contents) (count : ℕ) (r : Rol
                 let w = u.moves j earlier in
                 (ap (λ v. v.old) (p.former j earlier) ∙ w.0, ap (λ v. space_index v.space) (p.former j earlier) ∙ w.1)
           ];
+          in_turn = in_turn_on after entry index size p;
         }
 
 pub starts : (m : Areas) (q : Aimed) (t : ℕ) (c : Contents) (count : ℕ) (r : Rolled q c (heap_length m) count) → IsAreas m → Underway m q t c count r c 0
@@ -121,4 +144,5 @@ starts m q t c count r areas =
       rooms = λ y oy. ap (room_in m c t) (sym (number-reads_back y (is_valid m y areas oy))) ∙ ap (λ (f : Filling). f.rooms (space_index y)) (sym none);
       free = let z : (filled_by m q t c count r 0).claimed ≡ 0 = ap (λ (f : Filling). f.claimed) none in omega (arith, z);
       moves = λ j lt. absurd (omega (arith, lt));
+      in_turn = in_turn_first m t (target_on q c (heap_length m) count r) (size_on q c (heap_length m) count r) (λ j. (move_at c.scratch j).new) c c refl;
     }

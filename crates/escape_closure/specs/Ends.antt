@@ -8,7 +8,8 @@ use Rattle.epoch_lattice.specs.declared.Space.TheVariants.{Region}
 use Rattle.epoch_lattice.specs.Lattice.{space_index}
 use Rattle.heap_words.specs.declared.map.Areas.{Areas}
 use Rattle.heap_words.specs.Map.{max_depth, page_words}
-use Rattle.heap_words.specs.Contents.{Contents}
+use Rattle.heap_words.specs.Cells.{row}
+use Rattle.heap_words.specs.Contents.{Contents, depth_of, with_current}
 use Rattle.yak_model.specs.Spaces.{EndsEpoch, SpaceState, home_of, innermost}
 use Rattle.yak_model.specs.State.{IsOpen, object_of, view}
 use Rattle.yak_model.specs.Placed.{Holds, Places, datum_word, size_by, space_word, used_mark}
@@ -20,9 +21,12 @@ use Rattle.region_pages.specs.Pages.{TableFits}
 use Rattle.region_pages.specs.declared.TheConstants.{CLAIM_COUNTER}
 use Rattle.relocation.specs.Moves.{Numbered, move_at}
 use Rattle.relocation.specs.Slide.{brought}
+use Rattle.remember_sets.specs.declared.TheConstants.{SET_ENTRIES}
 use Rattle.forwarding.specs.Crossing.{AreFiled}
+use Rattle.escape_closure.specs.Leaves.{FilesRecorded, IsLeftAs, RestKept, SlidInto}
 use Rattle.escape_closure.specs.Targets.{IsEscaping}
 use Rattle.escape_closure.specs.Needs.{InOrder, pages_needed}
+use Rattle.escape_closure.specs.InTurn.{EscapingInTurn, RunsOut, StandInTurn}
 
 -- The word in the page table of the pages of a thread's innermost region.
 abbrev pub region_word : SpaceState → ℕ → ℕ
@@ -71,14 +75,17 @@ pub record EndPlanned (m : Areas) (c d : Contents) (s : SpaceState) (l : Places)
   pub fits : TableFits m d.table
   pub own : (u e : ℕ) → Region u e ≡ innermost s.graph t → current d.currents u e ≡ current c.currents u e
   pub dense : (u e : ℕ) → 1 ≤ u → u ≤ m.threads → 1 ≤ e → e ≤ max_depth m → Region u e ≢ innermost s.graph t → 0 < pages_of d.table (Region u e) → (current d.currents u e ≢ 0) × (page_words m * (pages_of d.table (Region u e) - 1) + used_mark d.table (current d.currents u e - 1) ≤ 2 * (words_of l.pages (object_of s) (Region u e) + words_into order.target (λ k. size_by (object_of s) (order.name k)) (Region u e) count))
+  pub in_turn : EscapingInTurn m s l t count order (λ k. (move_at d.scratch k).new) c (record d { scratch = c.scratch; heap = c.heap })
 
--- The pages that the escaping objects need are more than the free ones, and these are both numbers.
+-- The pages that the escaping objects need are more than the free ones, and these are both numbers. Placed by ascending
+-- address they run out of room.
 pub record FallsShort (m : Areas) (c : Contents) (s : SpaceState) (l : Places) (t : ℕ) (shortage : Shortage) : Type 0 where
   pub count : ℕ
   pub order : InOrder s l t count
   pub needed : shortage.needed ≡ pages_needed m c s l t count order
   pub free : shortage.free ≡ length (free_pages c.heads c.pool)
   pub more : shortage.free < shortage.needed
+  pub runs_out : RunsOut m t count order.target (λ k. size_by (object_of s) (order.name k)) c
 
 -- Some order of the escaping objects needs no more pages than are free.
 pub record HasEnough (m : Areas) (c : Contents) (s : SpaceState) (l : Places) (t : ℕ) : Type 0 where
@@ -124,6 +131,7 @@ pub record StateEnded (m : Areas) (now : Contents) (s : SpaceState) (t : ℕ) (t
 -- are free.
 pub record RegionEnded (m : Areas) (c d : Contents) (s : SpaceState) (stands : Stands m c s) (t moved : ℕ) : Type 0 where
   pub state : StateEnded m d s t false moved
+  pub rest : RestKept m c d s stands.places t state.after state.stands.places.at
   pub order : InOrder s stands.places t moved
   pub enough : pages_needed m c s stands.places t moved order ≤ length (free_pages c.heads c.pool)
   pub claimed : List ℕ
@@ -131,21 +139,28 @@ pub record RegionEnded (m : Areas) (c d : Contents) (s : SpaceState) (stands : S
   pub former : free_pages c.heads c.pool ≡ claimed ++ left
   pub claims : length claimed ≡ pages_needed m c s stands.places t moved order
   pub free : (p : ℕ) → Contains (free_pages d.heads d.pool) p ↔ (Contains left p ⊎ ((p < m.pages) × (space_word c.table p ≡ region_word s t)))
+  pub in_turn : StandInTurn m c d s stands.places t moved order state.stands.places.at
 
--- An end that found the free pages too few: the buffers are filed, and nothing else has changed but words that have no
--- meaning between calls.
+-- An end that found the free pages too few: the buffers are filed, and nothing else has changed but the scratch area, which
+-- has no meaning between calls.
 pub record RegionShort (m : Areas) (c d : Contents) (s : SpaceState) (stands : Stands m c s) (t : ℕ) (shortage : Shortage) : Type 0 where
   pub short : FallsShort m c s stands.places t shortage
   pub later : Stands m d s
   pub places : later.places ≡ stands.places
   pub recorded : Recorded m d s later
   pub filed : AreFiled d.buffers
-  pub frame : d ≡ record c { heads = d.heads; sets = d.sets; buffers = d.buffers; scratch = d.scratch; heap = d.heap }
+  pub records : FilesRecorded c d
+  pub frame : d ≡ record c { heads = slice_set c.heads SET_ENTRIES (set_entries d.heads); sets = d.sets; buffers = d.buffers; scratch = d.scratch }
   pub room : free_pages d.heads d.pool ≡ free_pages c.heads c.pool
 
--- A tight end: the former free pages are free, and each page that was the region's is Control's or free.
-pub record TightEnded (m : Areas) (c d : Contents) (s : SpaceState) (t moved : ℕ) : Type 0 where
+-- A tight end: the objects that escape, in ascending order of address, are slid within the region's own pages. A page of the
+-- region in which one of them stands then is Control's, and each other one is free. No other page has changed, and no current
+-- page but the region's, which has none.
+pub record TightEnded (m : Areas) (c d : Contents) (s : SpaceState) (stands : Stands m c s) (t moved : ℕ) : Type 0 where
   pub state : StateEnded m d s t true moved
-  pub pages : (p : ℕ) → p < m.pages → space_word c.table p ≢ region_word s t → space_word d.table p ≡ space_word c.table p
-  pub region : (p : ℕ) → p < m.pages → space_word c.table p ≡ region_word s t → (space_word d.table p ≡ 0) ⊎ (space_word d.table p ≡ 1)
-  pub control : (u : ℕ) → current d.currents u 0 ≡ current c.currents u 0
+  pub rest : RestKept m c d s stands.places t state.after state.stands.places.at
+  pub order : InOrder s stands.places t moved
+  pub slid : SlidInto m (region_word s t) c.table moved (λ k. size_by (object_of s) (order.name k)) (λ k. state.stands.places.at (order.name k))
+  pub region : (p : ℕ) → p < m.pages → space_word c.table p ≡ region_word s t → IsLeftAs m d.table moved (λ k. state.stands.places.at (order.name k)) p
+  pub pages : (p : ℕ) → p < m.pages → space_word c.table p ≢ region_word s t → row d.table p ≡ row c.table p
+  pub currents : d.currents ≡ (with_current c t (depth_of c t) 0).currents

@@ -19,6 +19,7 @@ use Rattle.relocation.specs.Slide.{IsPageOf, Runs, Sliding, brought}
 use Rattle.remember_sets.specs.declared.TheConstants.{SET_ENTRIES}
 use Rattle.remember_sets.specs.Filed.{IsFiled, LiesIn, SetsHold, logged}
 use Rattle.forwarding.specs.Crossing.{AreFiled, IsCrossing}
+use Rattle.escape_closure.specs.Leaves.{FilesRecorded, PoolAnew}
 use Rattle.escape_closure.specs.Targets.{IsEscaping, IsTargetAt, TargetsWritten}
 use Rattle.escape_closure.specs.Ends.{DropsRest, EndPlanned, PlanReady, region_word}
 
@@ -75,6 +76,7 @@ pub record Leaves (m : Areas) (c d : Contents) (s : SpaceState) (l : Places) (t 
   pub buffers : AreFiled d.buffers
   pub limits : InLimits m d
   pub pool : PoolStands m d.heads d.pool d.table
+  pub anew : PoolAnew m c d
   pub currents : CurrentsStand m d.currents d.table
   pub sets : SetsHold m d
   pub dense : RegionsDense m d.table d.currents later.pages (objects_left s l t count moves)
@@ -110,6 +112,7 @@ pub record Begun (m : Areas) (c d : Contents) (s : SpaceState) (stands : Stands 
   pub filed : AreFiled filing.buffers
   pub written : TargetsWritten m s later.places t filing d escaping
   pub few : set_entries filing.heads ≤ records_of c
+  pub records : FilesRecorded c filing
   pub frame : filing ≡ record c { heads = slice_set c.heads SET_ENTRIES (set_entries filing.heads); sets = filing.sets; buffers = filing.buffers }
 
 -- The words after the targets of an end whose buffers were filed.

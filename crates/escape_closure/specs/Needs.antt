@@ -28,7 +28,9 @@ pub record InOrder (s : SpaceState) (l : Places) (t count : ℕ) : Type 0 where
   pub ascending : (j k : ℕ) → j < k → k < count → l.at (name j) < l.at (name k)
   pub targets : (k : ℕ) → k < count → IsValid MAX_DEPTH (target k) × IsTargetAt s t (name k) (target k)
 
--- The pages that placing them in that order claims, each object in its target.
+-- The pages that placing them in that order claims, each object in its target. They are counted from the words left in the
+-- current pages alone, so that they can be more than the free ones: then the rule of placement runs out of room (`runs_out` of
+-- `FallsShort`). Where they aren't, a plan places the objects and claims just so many (`claims` and `in_turn` of `EndPlanned`).
 abbrev pub pages_needed : (m : Areas) (c : Contents) (s : SpaceState) (l : Places) (t count : ℕ) → InOrder s l t count → ℕ
 pages_needed m c s l t count o = (filling m (rooms_at m c t) (λ k. space_index (o.target k)) (λ k. size_by (object_of s) (o.name k)) count).claimed
 

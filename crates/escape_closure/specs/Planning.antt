@@ -23,6 +23,7 @@ use Rattle.escape_closure.specs.Words.{settled_word}
 use Rattle.escape_closure.specs.Rolls.{Aimed, IsAimed, Rolled}
 use Rattle.escape_closure.specs.Placing.{Filling, filling, index_on, owner, room_in, rooms_at, size_on, target_on}
 use Rattle.escape_closure.specs.Needs.{RollWeighed}
+use Rattle.escape_closure.specs.InTurn.{PlacedInTurn}
 use Rattle.escape_closure.specs.Ends.{PlacedAt, words_into}
 
 -- The target is no space of the heap, or its current page has too few words left and no page is free.
@@ -58,6 +59,7 @@ pub record Underway (m : Areas) (q : Aimed) (t : ℕ) (c : Contents) (count : �
   pub rooms : (y : Space) → IsSpaceOf m y → room_in m now t (Some y) ≡ (filled_by m q t c count r k).rooms (space_index y)
   pub free : length (free_pages c.heads c.pool) ≡ length (free_pages now.heads now.pool) + (filled_by m q t c count r k).claimed
   pub moves : (j : ℕ) → j < k → ((move_at now.scratch j).old ≡ q.laid.places.at (r.name j)) × (space_index (move_at now.scratch j).space ≡ index_on q c (heap_length m) count r j)
+  pub in_turn : PlacedInTurn m t k (target_on q c (heap_length m) count r) (size_on q c (heap_length m) count r) (λ j. (move_at now.scratch j).new) c (record now { scratch = c.scratch; heap = c.heap })
 
 -- A region that has pages has a current page, and its pages but that one are half full, where its objects have so many words.
 abbrev pub DenseIn : Areas → List (List ℕ) → List (List ℕ) → (Space → ℕ) → Type 0

@@ -21,6 +21,7 @@ use crate::WORK_WORD;
 use epoch_lattice::{Space, index_of};
 use heap_words::{Areas, Words, get_heap, get_page, set_heap};
 use object_layout::{OBJECT_WORDS, field_count};
+use region_pages::{SPACE_WORD, USED_MARK};
 use thread_stacks::depth;
 
 /// Sets the work words of the objects of a page to 0.
@@ -35,7 +36,7 @@ fn clear_page<W: Words>(words: &mut W, map: Areas, page: u32)
     ensures base { W.base words.new ≡ W.base words.old }
 {
     let start = map.page_words() as usize * page as usize;
-    let used = get_page(words, map, page, 1) as usize;
+    let used = get_page(words, map, page, USED_MARK) as usize;
     let mut offset = 0;
     while offset < used {
         let fields = field_count(get_heap(words, map, start + offset));
@@ -55,7 +56,7 @@ fn clear_where_in<W: Words>(words: &mut W, map: Areas, page: u32, region: u8)
     ensures reads { (x : Space) → space_index x ≡ region → W.reads words.new ≤ W.reads words.old + (2 + used_by x (row (contents map (W.words words.old)).table page)) }
     ensures base { W.base words.new ≡ W.base words.old }
 {
-    let space = get_page(words, map, page, 0);
+    let space = get_page(words, map, page, SPACE_WORD);
     let own = region as u64 + 1;
     if space == own {
         clear_page(words, map, page);
@@ -79,7 +80,7 @@ fn clear_region<W: Words>(words: &mut W, map: Areas, region: u8)
 
 /// Clears the targets of the objects that escape from the innermost region of a thread, where the end isn't made because pages
 /// are short: the work words are 0 again, as they were before the targets were written.
-pub fn clear_targets<W: Words>(words: &mut W, map: Areas, thread: u8)
+pub(crate) fn clear_targets<W: Words>(words: &mut W, map: Areas, thread: u8)
     requires sound { Sound map (W.words words.old) }
     requires thread { HasThread map thread }
     requires depth { 1 ≤ depth_of (contents map (W.words words.old)) thread }

@@ -10,7 +10,7 @@ use remember_sets::clear_readers;
 use thread_stacks::{depth, set_depth};
 
 /// Closes the innermost region of a thread: it has no readers any more, and the thread is one epoch less deep.
-pub fn close_region<W: Words>(words: &mut W, map: Areas, thread: u8)
+pub(crate) fn close_region<W: Words>(words: &mut W, map: Areas, thread: u8)
     requires sound { Sound map (W.words words.old) }
     requires thread { HasThread map thread }
     requires depth { 1 ≤ depth_of (contents map (W.words words.old)) thread }

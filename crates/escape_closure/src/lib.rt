@@ -16,17 +16,12 @@ mod sources;
 mod tight;
 mod weighing;
 
-pub use clearing::clear_targets;
-pub use closing::close_region;
 pub use ending::targets;
 pub use planning::plan_moves;
-pub use references::correct_references;
 pub use regional::end_region;
 pub use tight::end_tight;
 
 /// What the work word of an object counts more while it waits on the list.
 const WAITING: u64 = 128;
-/// Where the number of the recorded slots stands in the heads.
-const SET_ENTRIES: usize = 3;
 /// Where the work word stands in an object.
 const WORK_WORD: usize = 2;

@@ -146,8 +146,8 @@ fn plan_region<W: Words>(
 }
 
 /// Plans the moves of the objects that escape from the innermost region of a thread, after `targets`: where the free pages are
-/// enough, each is placed in its target, by ascending address. The plan stands in the scratch area, and the work words of the
-/// planned objects tell their moves. All else but the page table, the claim counter and the current pages is as before.
+/// enough, each is placed in its target by the rule of placement, by ascending address. The plan stands in the scratch area,
+/// and the work words of the planned objects tell their moves. All else but the page table, the claim counter and the current pages is as before.
 ///
 /// # Errors
 ///

@@ -12,12 +12,13 @@ ghost use Rattle.relocation.specs.Moves.{Numbered, corrected_word, move_at};
 ghost use Rattle.escape_closure.specs.Ends.{PlanReady, References};
 ghost use Rattle.escape_closure.specs.Referring.{IsOutside, OutsideCorrected, ReadersCorrected, SlotsCorrected, SlotsReady, StackLeads, corrected_stack};
 
-use crate::SET_ENTRIES;
 use crate::sources::page_of;
 use epoch_lattice::{Space, index_of};
 use forwarding::correct_stack;
 use heap_words::{Areas, Words, get_head, get_page, get_readers, get_set};
+use region_pages::SPACE_WORD;
 use relocation::{Plan, correct_field, correct_moves};
+use remember_sets::SET_ENTRIES;
 use thread_stacks::depth;
 
 /// Corrects the stack of a thread that may read the region, which is not its own.
@@ -78,7 +79,7 @@ fn correct_slot<W: Words>(words: &mut W, map: Areas, plan: &Plan, region: u8, i:
     ensures base { W.base words.new ≡ W.base words.old }
 {
     let slot = get_set(words, map, i) as usize;
-    let space = get_page(words, map, page_of(map, slot), 0);
+    let space = get_page(words, map, page_of(map, slot), SPACE_WORD);
     let own = region as u64 + 1;
     if space == own {
         return;
@@ -125,7 +126,7 @@ fn correct_outside<W: Words>(words: &mut W, map: Areas, plan: &Plan, thread: u8,
 /// Corrects the references to the objects that a plan moves: on the stack of the thread whose region ends and on those of the
 /// region's readers, in the recorded slots outside the region, and in the fields of the moved objects. No other word refers to
 /// one of them, so that each word is corrected once and no other stack is read.
-pub fn correct_references<W: Words>(words: &mut W, map: Areas, plan: &Plan, thread: u8)
+pub(crate) fn correct_references<W: Words>(words: &mut W, map: Areas, plan: &Plan, thread: u8)
     requires sound { Sound map (W.words words.old) }
     requires thread { HasThread map thread }
     requires depth { 1 ≤ depth_of (contents map (W.words words.old)) thread }

@@ -48,12 +48,12 @@ fn finish_region<W: Words>(words: &mut W, map: Areas, plan: Plan, thread: u8)
 }
 
 /// Ends the innermost epoch of a thread: the objects that escape from its region go to their targets, the other ones are gone,
-/// and the region's pages are given back. Answers how many objects were moved.
+/// and the region's pages are given back. Objects outside the region stay where they are. Answers how many objects were moved.
 ///
 /// # Errors
 ///
 /// `Shortage` exactly where the free pages are too few to place the escaping objects, by ascending address, each in its target.
-/// Then the state is as before.
+/// Then the store buffers are filed, and nothing else has changed.
 pub fn end_region<W: Words>(words: &mut W, map: Areas, thread: u8) -> Result<u64, Shortage>
     requires sound { Sound map (W.words words.old) }
     requires thread { HasThread map thread }

@@ -17,6 +17,7 @@ ghost use Rattle.escape_closure.specs.Rolls.{Aimed, AimsInside, Rolled, IsOnRoll
 use crate::WORK_WORD;
 use heap_words::{Areas, Words, get_heap, get_page, set_scratch};
 use object_layout::{OBJECT_WORDS, field_count};
+use region_pages::{SPACE_WORD, USED_MARK};
 use relocation::MOVE_WORDS;
 
 /// Puts an object at the end of the roll, where it has a target.
@@ -49,7 +50,7 @@ fn roll_page<W: Words>(words: &mut W, map: Areas, count: usize, page: u32) -> us
     ensures base { W.base words.new ≡ W.base words.old }
 {
     let start = map.page_words() as usize * page as usize;
-    let used = get_page(words, map, page, 1) as usize;
+    let used = get_page(words, map, page, USED_MARK) as usize;
     let mut count = count;
     let mut offset = 0;
     while offset < used {
@@ -70,7 +71,7 @@ fn roll_where_in<W: Words>(words: &mut W, map: Areas, count: usize, page: u32, r
     ensures sound { Sound map (W.words words.new) }
     ensures base { W.base words.new ≡ W.base words.old }
 {
-    let space = get_page(words, map, page, 0);
+    let space = get_page(words, map, page, SPACE_WORD);
     let own = region as u64 + 1;
     if space == own {
         return roll_page(words, map, count, page);

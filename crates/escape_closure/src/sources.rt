@@ -12,10 +12,11 @@ ghost use Rattle.yak_model.specs.Stands.{set_entries};
 ghost use Rattle.yak_model.specs.Recorded.{RecordedAs};
 ghost use Rattle.escape_closure.specs.Raising.{Ended, Raising, RaisesOn, IsStackDue, IsStackPaid, IsSlotPaid, AreEntriesPaid};
 
-use crate::SET_ENTRIES;
 use crate::raising::{Tally, raise, target_of};
 use epoch_lattice::{Space, index_of};
 use heap_words::{Areas, Words, get_head, get_heap, get_page, get_set, get_stack, stack_length};
+use region_pages::SPACE_WORD;
+use remember_sets::SET_ENTRIES;
 
 /// Raises the targets of the objects of the region to which a thread's stack refers.
 pub(crate) fn raise_stack<W: Words>(
@@ -63,7 +64,7 @@ fn raise_slot<W: Words>(words: &mut W, map: Areas, tally: Tally, region: u8, i: 
     ensures base { W.base words.new ≡ W.base words.old }
 {
     let slot = get_set(words, map, i) as usize;
-    let told = get_page(words, map, page_of(map, slot), 0);
+    let told = get_page(words, map, page_of(map, slot), SPACE_WORD);
     let Some(space) = target_of(told) else {
         return tally;
     };

@@ -83,7 +83,7 @@ fn finish_tight<W: Words>(words: &mut W, map: Areas, packing: Packing, thread: u
     requires thread { HasThread map thread }
     requires depth { 1 ≤ depth_of (contents map (W.words words.old)) thread }
     requires ready { ∥ ((before : Contents) × (mid : Contents) × (s : SpaceState) × (stands : Stands map before s) × TightReady map before mid (contents map (W.words words.old)) s stands thread packing.plan.count packing.cursor.next) ∥₁ }
-    ensures ended { (before mid : Contents) (s : SpaceState) (stands : Stands map before s) → TightReady map before mid (contents map (W.words words.old)) s stands thread packing.plan.count packing.cursor.next → TightEnded map before (contents map (W.words words.new)) s thread packing.plan.count }
+    ensures ended { (before mid : Contents) (s : SpaceState) (stands : Stands map before s) → TightReady map before mid (contents map (W.words words.old)) s stands thread packing.plan.count packing.cursor.next → TightEnded map before (contents map (W.words words.new)) s stands thread packing.plan.count }
     ensures sound { Sound map (W.words words.new) }
     ensures base { W.base words.new ≡ W.base words.old }
 {
@@ -96,13 +96,14 @@ fn finish_tight<W: Words>(words: &mut W, map: Areas, packing: Packing, thread: u
 }
 
 /// Ends the innermost epoch of a thread without a free page: all objects that escape from its region go to the control space,
-/// packed into the region's own pages, and the other ones are gone. Answers how many objects were moved.
+/// slid in ascending order into the region's own pages, and the other ones are gone. The pages that they fill become control
+/// pages, and the others of the region are given back. Answers how many objects were moved.
 pub fn end_tight<W: Words>(words: &mut W, map: Areas, thread: u8) -> u64
     requires sound { Sound map (W.words words.old) }
     requires thread { HasThread map thread }
     requires depth { 1 ≤ depth_of (contents map (W.words words.old)) thread }
     requires recorded { ∥ ((s : SpaceState) × (h : Stands map (contents map (W.words words.old)) s) × Recorded map (contents map (W.words words.old)) s h) ∥₁ }
-    ensures ended { let c = contents map (W.words words.old) in let d = contents map (W.words words.new) in (s : SpaceState) (h : Stands map c s) → Recorded map c s h → TightEnded map c d s thread result }
+    ensures ended { let c = contents map (W.words words.old) in let d = contents map (W.words words.new) in (s : SpaceState) (h : Stands map c s) → Recorded map c s h → TightEnded map c d s h thread result }
     ensures sound { Sound map (W.words words.new) }
     ensures base { W.base words.new ≡ W.base words.old }
 {

@@ -1,5 +1,5 @@
 -- What steps do that end an epoch.
-use Rattle.std.proofs.Common.{◌≡◌, ◌≢◌, ℕ, ◌+◌, ◌*◌, ◌<◌, Bool, true, false, cond, Option, None, Some, List, [], ◌∷◌, leb, refl, sym, subst, arith, inl, inr}
+use Rattle.std.proofs.Common.{◌≡◌, ◌≢◌, ◌⊎◌, ℕ, ◌+◌, ◌-◌, ◌*◌, ◌≤◌, ◌<◌, Bool, true, false, cond, Option, None, Some, List, [], ◌∷◌, ◌++◌, leb, length, get_or, map, refl, sym, ap, subst, ◌∙◌, arith, inl, inr}
 use Rattle.std.proofs.Props.{props}
 use Rattle.std.proofs.Math.Logic.{⊎_elim, ∥∥₁_elim}
 use Rattle.object_layout.specs.declared.calls.Call.TheVariants as call
@@ -10,11 +10,12 @@ use Rattle.object_layout.specs.declared.replies.Refusal.TheVariants as refusal
 use Rattle.object_layout.specs.declared.replies.Shortage.{Shortage}
 use Rattle.heap_words.specs.declared.map.Areas.{Areas}
 use Rattle.heap_words.specs.Map.{HasThread, IsAreas}
-use Rattle.heap_words.specs.Contents.{Contents, depth_of}
-use Rattle.yak_model.specs.Graph.{thread_of}
+use Rattle.heap_words.specs.Cells.{row_set}
+use Rattle.heap_words.specs.Contents.{Contents, depth_of, with_readers}
+use Rattle.yak_model.specs.Graph.{Thread, thread_of}
 use Rattle.yak_model.specs.History.{Entry, Said, Collected}
 use Rattle.yak_model.specs.Lawful.{HasWords, open_regions, present_words}
-use Rattle.yak_model.specs.Spaces.{Escapes, SpaceState, innermost}
+use Rattle.yak_model.specs.Spaces.{Collects, Escapes, SpaceState, innermost}
 use Rattle.yak_model.specs.Stands.{Stands}
 use Rattle.yak_model.specs.Recorded.{Recorded}
 use Rattle.escape_closure.specs.Ends.{RegionEnded, RegionShort}
@@ -27,6 +28,7 @@ use Rattle.heap_core.specs.Records.{SomeRecorded}
 use Rattle.heap_core.specs.Steps.{Turned, TurnsTo, plain}
 use Rattle.heap_core.proofs.Bounds.{tight-bound}
 use Rattle.heap_core.proofs.Begins.{depth_words}
+use Rattle.heap_core.proofs.Gathered.{kept-threads}
 use Rattle.heap_core.proofs.Recorded.{same_records}
 use Rattle.heap_core.proofs.Steps.{beyond, not-idle, same_room, thread_in}
 use Rattle.heap_core.proofs.StepsMade.{only-collected}
@@ -76,9 +78,17 @@ pub record Ending (m : Areas) (was now : Contents) (s : SpaceState) (h : Stands 
   pub lawful : (before : List Entry) → AreLawful m.pages before s (ending t said collected)
   pub makes : CollectsForEnd m was s h t said collected
   pub tells : TellsShortage m was s h t said shortage
-  pub records : RecordsEnd was now said
+  pub records : RecordsEnd m s was now t said collected
   pub no_fault : said ≢ reply.OutOfHeap
   pub not_refused : (why : Refusal) → said ≢ reply.Refused why
+
+-- the readers after an end that stands behind a collection
+closed-readers : (m : Areas) (was between tried now : Contents) (s : SpaceState) (h : Stands m was s) (t : ℕ) (after : SpaceState) → Collects s after → Stands m between after → between.readers ≡ was.readers → tried.readers ≡ between.readers → depth_of tried t ≡ depth_of between t → now.readers ≡ (with_readers tried t (depth_of tried t) 0).readers → now.readers ≡ (with_readers was t (depth_of was t) 0).readers
+closed-readers m was between tried now s h t after collects later first then deep last =
+    let depth : depth_of between t ≡ depth_of was t = ap (λ (is : List ℕ). get_or is (t - 1) 0) (later.stands.depths ∙ ap (λ (ts : List Thread). map (λ (th : Thread). th.depth) ts) (kept-threads s after collects) ∙ sym h.stands.depths) in
+    last
+    ∙ ap (λ i. row_set tried.readers (t - 1) (i - 1) 0) (deep ∙ depth)
+    ∙ ap (λ (rs : List (List ℕ)). row_set rs (t - 1) (depth_of was t - 1) 0) (then ∙ first)
 
 ended-once : (m : Areas) (was now : Contents) (s : SpaceState) (h : Stands m was s) (t moved : ℕ) → HasThread m t → RegionEnded m was now s h t moved → Ending m was now s h t (reply.Ended moved false) false None
 ended-once m was now s h t moved ht e = record {
@@ -86,7 +96,10 @@ ended-once m was now s h t moved ht e = record {
   lawful = λ before. (tt, λ mid turned. tt);
   makes = record { count = moved; order = e.order; enough = e.enough };
   tells = λ other same. cc;
-  records = e.state.filed;
+  records = (
+    record { filed = e.state.filed; readers = ap (λ (x : Contents). x.readers) e.rest.frame },
+    record { after = e.state.after; ends = e.state.ends; stands = e.state.stands; filed = e.rest.filed },
+  );
   no_fault = λ same. cc;
   not_refused = λ why same. cc;
 }
@@ -97,7 +110,7 @@ ended-after m was first now s h t moved ht found short e = record {
   lawful = λ before. (inr (moved, false, [], refl), λ mid turned. (tt, λ last more. tt));
   makes = (found, short.short);
   tells = λ other same. cc;
-  records = e.ended.state.filed;
+  records = record { filed = e.ended.state.filed; readers = closed-readers m was e.between e.between now s h t e.state.after e.state.collects e.state.stands (e.room.readers ∙ ap (λ (x : Contents). x.readers) short.frame) refl refl (ap (λ (x : Contents). x.readers) e.ended.rest.frame) };
   no_fault = λ same. cc;
   not_refused = λ why same. cc;
 }
@@ -114,7 +127,7 @@ tight-after m was first now s h t moved shortage areas ht found short e = record
   );
   makes = (found, short.short);
   tells = ((moved, refl), e.short.short.more, record { first = first; found = found; tried = short; between = e.between; room = e.room; state = e.state; short = e.short.short });
-  records = e.ended.state.filed;
+  records = record { filed = e.ended.state.filed; readers = closed-readers m was e.between e.tried now s h t e.state.after e.state.collects e.state.stands (e.room.readers ∙ ap (λ (x : Contents). x.readers) short.frame) (ap (λ (x : Contents). x.readers) e.short.frame) (ap (λ (x : Contents). depth_of x t) e.short.frame) (ap (λ (x : Contents). x.readers) e.ended.rest.frame) };
   no_fault = λ same. cc;
   not_refused = λ why same. cc;
 }

@@ -10,16 +10,18 @@ use Rattle.object_layout.specs.declared.replies.Census as layout
 use Rattle.object_layout.specs.declared.TheConstants.{OBJECT_WORDS}
 use Rattle.heap_words.specs.declared.map.Areas.{Areas}
 use Rattle.heap_words.specs.Map.{HasRegion}
-use Rattle.heap_words.specs.Contents.{Contents}
+use Rattle.heap_words.specs.Contents.{Contents, depth_of, with_readers}
 use Rattle.epoch_lattice.specs.declared.Space.TheVariants.{Control, Region}
 use Rattle.yak_model.specs.History.{Entry}
-use Rattle.yak_model.specs.Spaces.{SpaceState}
+use Rattle.yak_model.specs.Spaces.{EndsEpoch, SpaceState}
+use Rattle.yak_model.specs.State.{object_of}
 use Rattle.yak_model.specs.Stands.{Stands}
 use Rattle.yak_model.specs.Recorded.{Recorded}
 use Rattle.yak_model.specs.Packed.{IsFull, IsPacked}
 use Rattle.mark_compact.specs.Collected.{RoomCollected, StateCollected}
 use Rattle.forwarding.specs.Crossing.{AreFiled}
 use Rattle.escape_closure.specs.Ends.{FallsShort, HasEnough, RegionShort}
+use Rattle.escape_closure.specs.Leaves.{FilesEnded}
 use Rattle.heap_core.specs.declared.owned.Stepped.{Stepped}
 use Rattle.heap_core.specs.Collecting.{CountsFull, IsCollected, counted}
 use Rattle.heap_core.specs.EpochEnds.{IsEnd, IsShort}
@@ -91,15 +93,29 @@ abbrev pub RecordsNew : Contents → Contents → Bool → Type 0
 RecordsNew was now false = SameRecords was now
 RecordsNew was now true = Files was now
 
--- An end files it too.
-abbrev pub RecordsEnd : Contents → Contents → Reply → Type 0
-RecordsEnd was now (Ended moved tight) = AreFiled now.buffers
-RecordsEnd was now said = SameRecords was now
+-- All store buffers are empty, the region that ended has no readers, and the readers of all others are as they were.
+pub record FilesAtEnd (was now : Contents) (t : ℕ) : Type 0 where
+  pub filed : AreFiled now.buffers
+  pub readers : now.readers ≡ (with_readers was t (depth_of was t) 0).readers
+
+-- In the state after the end exactly these slots are recorded: those that were recorded before and don't lie in the region, and
+-- the fields of the objects that escaped whose references enter a region other than the object's new space.
+pub record RecordsEscaped (m : Areas) (was now : Contents) (s : SpaceState) (t moved : ℕ) : Type 0 where
+  pub after : SpaceState
+  pub ends : EndsEpoch s t moved false after
+  pub stands : Stands m now after
+  pub filed : FilesEnded m was now s t (object_of after) stands.places.at
+
+-- An end files what the buffers hold. What is recorded after a collection is told with how the end goes.
+abbrev pub RecordsEnd : Areas → SpaceState → Contents → Contents → ℕ → Reply → Bool → Type 0
+RecordsEnd m s was now t (Ended moved tight) false = FilesAtEnd was now t × RecordsEscaped m was now s t moved
+RecordsEnd m s was now t (Ended moved tight) true = FilesAtEnd was now t
+RecordsEnd m s was now t said collected = SameRecords was now
 
 -- What a step records, where `at` gives the address of each name. No call but a store makes a buffer longer.
 abbrev pub StepRecords : Areas → SpaceState → (Name → ℕ) → Contents → Contents → ℕ → Call → Reply → Bool → Type 0
 StepRecords m s at was now t (New k) said collected = RecordsNew was now collected
-StepRecords m s at was now t End said collected = RecordsEnd was now said
+StepRecords m s at was now t End said collected = RecordsEnd m s was now t said collected
 StepRecords m s at was now t Collect said collected = Files was now
 StepRecords m s at was now t asked said collected = Records m s at was now t asked said
 

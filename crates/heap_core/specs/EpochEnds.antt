@@ -37,7 +37,7 @@ pub record TightAfter (m : Areas) (was now : Contents) (s : SpaceState) (stands 
   pub state : StateCollected m was between s stands
   pub tried : Contents
   pub short : RegionShort m between tried state.after state.stands t shortage
-  pub ended : TightEnded m tried now state.after t moved
+  pub ended : TightEnded m tried now state.after short.later t moved
 
 -- An end after a collection says that it made one, and the shortage exactly where it is tight.
 abbrev pub CollectedAs : (m : Areas) (was now : Contents) (s : SpaceState) → Stands m was s → ℕ → Reply → Option Shortage → Type 0

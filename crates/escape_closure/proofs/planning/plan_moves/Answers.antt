@@ -10,9 +10,13 @@ use Rattle.heap_words.specs.Map.{HasThread, IsAreas}
 use Rattle.heap_words.specs.Contents.{Contents, contents, depth_of}
 use Rattle.heap_words.proofs.Contents.{length-heap, length-scratch}
 use Rattle.yak_model.specs.Spaces.{Counts, SpaceState, innermost}
+use Rattle.yak_model.specs.State.{object_of}
+use Rattle.yak_model.specs.Placed.{size_by}
 use Rattle.yak_model.specs.Stands.{CurrentsStand, PoolStands, Stands}
 use Rattle.region_pages.specs.Counts.{used_of}
 use Rattle.region_pages.specs.Pages.{TableFits}
+use Rattle.region_pages.proofs.Shapes.{Shape, shape}
+use Rattle.heap_walks.proofs.Objects.{size_is}
 use Rattle.relocation.specs.declared.plans.Plan.{Plan}
 use Rattle.relocation.specs.Moves.{Numbered, move_at}
 use Rattle.escape_closure.specs.Ends.{EndPlanned, FallsShort}
@@ -20,8 +24,9 @@ use Rattle.escape_closure.specs.Needs.{RollWeighed}
 use Rattle.escape_closure.specs.Planning.{RollPlaced}
 use Rattle.escape_closure.specs.Rolls.{AimsInside, OnlyScratch}
 use Rattle.escape_closure.specs.Targets.{IsEscaping, TargetsWritten}
-use Rattle.escape_closure.proofs.Aims.{targets_exist}
+use Rattle.escape_closure.proofs.Aims.{outer_target, space_of_heap, targets_exist}
 use Rattle.escape_closure.proofs.PlannedEnd.{as_many, end_planned}
+use Rattle.escape_closure.proofs.RunsOut.{run_out}
 use Rattle.escape_closure.proofs.Told.{SomeAimed, currents_told, pool_told, table_told}
 use Rattle.escape_closure.proofs.Weighed.{aimed, aims_inside, needed_is, order}
 use Rattle.escape_closure.proofs.Written.{region_is}
@@ -35,18 +40,23 @@ module _ (m : Areas) (b c : Contents) (s : SpaceState) (st : Stands m b s) (t de
   counts_ok : (count : ℕ) → RollPlaced m (aimed m b c s st t depth) t before d after count → count ≡ escaping
   counts_ok count p = p.weighed.weighed.0 ∙ as_many m b c s st t depth escaping areas has low high written region depth_is ready p.weighed.count (order m b c s st t depth escaping areas has low high written region p.between before p.read (Ok count) p.weighed)
 
-  short : (shortage : Shortage) → RollWeighed m (aimed m b c s st t depth) t before d after (Err shortage) → FallsShort m c s st.places t shortage
-  short shortage w = record {
+  short : Shape m c → PoolStands m c.heads c.pool c.table → CurrentsStand m c.currents c.table → (shortage : Shortage) → RollWeighed m (aimed m b c s st t depth) t before d after (Err shortage) → FallsShort m c s st.places t shortage
+  short shape pool currents shortage w = record {
     count = w.count;
     order = order m b c s st t depth escaping areas has low high written region d before after (Err shortage) w;
     needed = w.weighed.0 ∙ needed_is m b c s st t depth escaping areas has low high written region d before after (Err shortage) w;
     free = w.weighed.1;
     more = omega (arith, w.weighed.0, w.weighed.1, w.weighed.2);
+    runs_out =
+        let o = order m b c s st t depth escaping areas has low high written region d before after (Err shortage) w in
+        run_out m t areas has o.target (λ k. size_by (object_of s) (o.name k)) c w.count
+        (λ k lt. let x = o.targets k lt in space_of_heap m b c s st t depth escaping areas has low high written region depth_is (o.target k) (outer_target m b c s st t depth escaping areas has low high written region depth_is (o.name k) (o.target k) (o.escaping k lt) x.1 x.0).0)
+        (λ k lt. let a = w.roll.aimed k lt in let is = size_is (aimed m b c s st t depth).laid (w.roll.name k) a.0 a.1 in omega (arith, is)) shape pool currents (let needed = needed_is m b c s st t depth escaping areas has low high written region d before after (Err shortage) w in omega (arith, needed, w.weighed.2));
   }
 
-  outcome_planned : (result : Result Plan Shortage) → Outcome result → IfErr result (λ _. OnlyScratch c d) → IfOk result (λ plan. Numbered m d.heap plan.count (move_at d.scratch)) → TableFits m d.table → PoolStands m d.heads d.pool d.table → CurrentsStand m d.currents d.table → length d.heap ≡ length c.heap → MatchResult result (λ plan. (plan.count ≡ escaping) × EndPlanned m c d s st.places t plan.count) (λ shortage. FallsShort m c s st.places t shortage × OnlyScratch c d)
-  outcome_planned (Ok plan) p only numbered fits pool currents long = (counts_ok plan.count p, end_planned m b c s st t depth escaping areas has low high written region depth_is ready d before after plan.count p fits numbered pool currents long)
-  outcome_planned (Err shortage) w only numbered fits pool currents long = (short shortage w, only)
+  outcome_planned : Shape m c → PoolStands m c.heads c.pool c.table → CurrentsStand m c.currents c.table → (result : Result Plan Shortage) → Outcome result → IfErr result (λ _. OnlyScratch c d) → IfOk result (λ plan. Numbered m d.heap plan.count (move_at d.scratch)) → TableFits m d.table → PoolStands m d.heads d.pool d.table → CurrentsStand m d.currents d.table → length d.heap ≡ length c.heap → MatchResult result (λ plan. (plan.count ≡ escaping) × EndPlanned m c d s st.places t plan.count) (λ shortage. FallsShort m c s st.places t shortage × OnlyScratch c d)
+  outcome_planned shape former was (Ok plan) p only numbered fits pool currents long = (counts_ok plan.count p, end_planned m b c s st t depth escaping areas has low high written region depth_is ready d before after plan.count p fits numbered pool currents long)
+  outcome_planned shape former was (Err shortage) w only numbered fits pool currents long = (short shape former was shortage w, only)
 
   outcome_counted : (result : Result Plan Shortage) → Outcome result → IfOk result (λ plan. Counts (IsEscaping s t) plan.count)
   outcome_counted (Ok plan) p = subst (Counts (IsEscaping s t)) (sym (counts_ok plan.count p)) written.counted
@@ -110,7 +120,7 @@ returns-clause-planned g c s before st escaping written =
     let e = c.plan_region.ensures in
     let outcome = e.planned (aimed m before old s st t depth) (sym c.index_of-region.ensures.index) inside exist (ap (contents m) (sym same)) in
     let only = subst (λ x. IfErr c.plan_region.result (λ _. OnlyScratch (contents m x) new)) same e.short in
-    outcome_planned m before old s st t depth escaping areas c.requires.thread low high written region depth_is inside new (g.W.Words.reads c.args.words.now) (g.W.Words.reads c.depth-innermost.new.words) (g.W.Words.reads c.plan_region.new.words) c.depth-innermost.ensures.reads c.plan_region.result outcome only e.plan e.table e.pool e.currents (length-heap m _ e.sound.whole ∙ sym (length-heap m ws c.requires.sound.whole))
+    outcome_planned m before old s st t depth escaping areas c.requires.thread low high written region depth_is inside new (g.W.Words.reads c.args.words.now) (g.W.Words.reads c.depth-innermost.new.words) (g.W.Words.reads c.plan_region.new.words) c.depth-innermost.ensures.reads (shape m ws c.requires.sound) (pool_told m old (some_aimed m old t c.requires.aimed)) (currents_told m old (some_aimed m old t c.requires.aimed)) c.plan_region.result outcome only e.plan e.table e.pool e.currents (length-heap m _ e.sound.whole ∙ sym (length-heap m ws c.requires.sound.whole))
 
 pub returns-clause-counted : goal.returns-clause-counted
 returns-clause-counted g c s before st escaping written =

@@ -54,4 +54,4 @@ returns-clause-ended g c s h recorded =
     let b = c.begin_end.ensures.begun s h recorded in
     let ready = tight_readied m old s h t c.begin_end.result mid b c.requires.thread c.requires.depth planned c.plan_tight-packing.result.plan.count c.plan_tight-packing.result.cursor.next c.plan_tight-packing.result.cursor.room c.plan_tight-packing.ensures.sliding in
     let same : c.plan_tight-packing.result.plan.count ≡ c.from.result = omega (arith, c.from.ensures) in
-    subst (λ i. TightEnded m old d s t i) same (tight_from m old s h t c.begin_end.result mid b d c.plan_tight-packing.result.plan.count (c.finish_tight.ensures.ended b.filing mid s b.later ready))
+    subst (λ i. TightEnded m old d s h t i) same (tight_from m old s h t c.begin_end.result mid b d c.plan_tight-packing.result.plan.count (c.finish_tight.ensures.ended b.filing mid s b.later ready))
