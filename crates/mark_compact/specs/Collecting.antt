@@ -9,7 +9,7 @@ use Rattle.epoch_lattice.specs.declared.Space.TheVariants.{Control}
 use Rattle.epoch_lattice.specs.Lattice.{space_index}
 use Rattle.yak_model.specs.Spaces.{IsLive, SpaceState, home_of}
 use Rattle.yak_model.specs.State.{IsClosed, State, Thing, object_of, view}
-use Rattle.yak_model.specs.Placed.{HeapStands, Holds, Places, datum_word, space_word}
+use Rattle.yak_model.specs.Placed.{HeapStands, Holds, Places, datum_word, space_word, used_mark}
 use Rattle.yak_model.specs.Plans.{IsLawfulPlan, Move, forward, forwarded, without}
 use Rattle.yak_model.specs.Packed.{PackedAs}
 use Rattle.yak_model.specs.Stands.{current}
@@ -67,6 +67,7 @@ pub record Lain (m : Areas) (was : Contents) (s : SpaceState) (l : Places) (now 
   pub packed : PackedAs m now.table places.pages (without (view s) dropped).objects Control
   pub others : (p : ℕ) → (IsPageOf CONTROL_WORD was.table p → ⊥) → row now.table p ≡ row was.table p
   pub control : (p : ℕ) → p < m.pages → IsPageOf CONTROL_WORD was.table p → (space_word now.table p ≡ CONTROL_WORD) ⊎ (space_word now.table p ≡ 0)
+  pub held : (p : ℕ) → p < m.pages → IsPageOf CONTROL_WORD now.table p → used_mark now.table p ≢ 0
   pub still : (n : Name) (o : Thing) → object_of s n ≡ Some o → o.home ≢ Control → places.at n ≡ l.at n
   pub moved : (n : Name) (o : Thing) → (without (view s) dropped).objects n ≡ Some o → o.home ≡ Control → (k : ℕ) × (k < count) × (places.at n ≡ (moves k).new)
   pub slid : AreSlid m was.table l.at (without (view s) dropped).objects places.at
