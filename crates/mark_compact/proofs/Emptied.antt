@@ -13,14 +13,14 @@ use Rattle.heap_words.specs.Cells.{row}
 use Rattle.heap_words.specs.Contents.{Contents}
 use Rattle.region_pages.specs.declared.TheConstants.{CLAIM_COUNTER, POOL_LENGTH}
 use Rattle.region_pages.specs.Freeing.{free_below, pool_with, with_pool_rebuilt}
-use Rattle.yak_model.specs.Placed.{space_word, used_mark}
+use Rattle.yak_model.specs.Placed.{space_word}
 use Rattle.yak_model.specs.Stands.{current, set_entries}
 use Rattle.remember_sets.specs.declared.TheConstants.{SET_ENTRIES}
 use Rattle.remember_sets.specs.Filed.{with_sets}
 use Rattle.relocation.specs.Slide.{IsPageOf}
 use Rattle.forwarding.specs.Pool.{PoolAnew}
 use Rattle.forwarding.proofs.Anew.{pool_anew}
-use Rattle.mark_compact.specs.Collected.{CurrentsCollected, RoomCollected}
+use Rattle.mark_compact.specs.Collected.{CurrentsCollected, IsFilledOrFree, RoomCollected}
 use Rattle.mark_compact.specs.Collecting.{Cleared, ControlPages, IsLast}
 use Rattle.mark_compact.specs.declared.sliding.TheConstants.{CONTROL_WORD}
 use Rattle.mark_compact.proofs.Logged.{none-long}
@@ -29,8 +29,7 @@ use Rattle.mark_compact.proofs.Logged.{none-long}
 pub record Left (m : Areas) (c1 c2 : Contents) : Type 0 where
   pub frame : c2 ≡ record c1 { stacks = c2.stacks; table = c2.table; scratch = c2.scratch; heap = c2.heap }
   pub others : (p : ℕ) → (IsPageOf CONTROL_WORD c1.table p → ⊥) → row c2.table p ≡ row c1.table p
-  pub control : (p : ℕ) → p < m.pages → IsPageOf CONTROL_WORD c1.table p → (space_word c2.table p ≡ CONTROL_WORD) ⊎ (space_word c2.table p ≡ 0)
-  pub held : (p : ℕ) → p < m.pages → IsPageOf CONTROL_WORD c2.table p → used_mark c2.table p ≢ 0
+  pub control : (p : ℕ) → p < m.pages → IsPageOf CONTROL_WORD c1.table p → IsFilledOrFree c2.table p
 
 module _ (m : Areas) (c0 c1 c2 c3 c4 : Contents) (t last : ℕ) (ht : HasThread m t) (cleared : Cleared m c0 c1) (some : ∥ Left m c1 c2 ∥₁) (ends : IsLast (with_pool_rebuilt c2).table m.pages last) (pages : ControlPages (with_pool_rebuilt c2) c3 t last m.threads) (others : c4 ≡ with_sets c3 c4) (heads : length c0.heads ≡ HEAD_WORDS) (long : length c2.table ≡ m.pages) (threads : length c3.currents ≡ m.threads) where
   table4 : c4.table ≡ c2.table
@@ -82,23 +81,19 @@ module _ (m : Areas) (c0 c1 c2 c3 c4 : Contents) (t last : ℕ) (ht : HasThread 
         ∙ ap (λ (x : Contents). current x.currents u d) cleared.others;
   }
 
-  pages-collected : (p : ℕ) → p < m.pages → (space_word c4.table p ≡ space_word c0.table p) ⊎ ((space_word c0.table p ≡ CONTROL_WORD) × (space_word c4.table p ≡ 0))
-  pages-collected p lt =
-      let now : space_word c4.table p ≡ space_word c2.table p = ap (λ (tb : List (List ℕ)). space_word tb p) table4 in
-      let was : space_word c1.table p ≡ space_word c0.table p = ap (λ (tb : List (List ℕ)). space_word tb p) table1 in
+  control2 : (p : ℕ) → p < m.pages → space_word c0.table p ≡ CONTROL_WORD → IsFilledOrFree c2.table p
+  control2 p lt own =
+      let was : space_word c1.table p ≡ CONTROL_WORD = ap (λ (tb : List (List ℕ)). space_word tb p) table1 ∙ own in
       ⊎_elim
-      (λ (c : space_word c0.table p ≡ CONTROL_WORD). ⊎_elim
-      (λ (same : space_word c4.table p ≡ CONTROL_WORD). inl (same ∙ sym c))
-      (λ (ne : space_word c4.table p ≡ CONTROL_WORD → ⊥). inr (
-        c,
-        ∥∥₁_elim some (hlevel props) (λ f. elim (f.control p lt (was ∙ c)) [
-          | inl one ↦ absurd (ne (now ∙ one))
-          | inr none ↦ now ∙ none
-        ]),
+      (λ (same : space_word c2.table p ≡ CONTROL_WORD). inl (
+        same,
+        λ none. ∥∥₁_elim some (hlevel props) (λ f. ⊎_elim (λ filled. filled.1 none) (λ free. (let z = free.0 in omega (arith, z, same))) (f.control p lt was)),
       ))
-      (cases_eq (space_word c4.table p) CONTROL_WORD))
-      (λ (o : space_word c0.table p ≡ CONTROL_WORD → ⊥). inl (now ∙ ∥∥₁_elim some (hlevel props) (λ f. ap (λ (r : List ℕ). get_or r 0 0) (f.others p (λ e. o (sym was ∙ e)))) ∙ was))
-      (cases_eq (space_word c0.table p) CONTROL_WORD)
+      (λ (ne : space_word c2.table p ≡ CONTROL_WORD → ⊥). inr (
+        ∥∥₁_elim some (hlevel props) (λ f. ⊎_elim (λ filled. absurd (ne filled.0)) (λ free. free.0) (f.control p lt was)),
+        ∥∥₁_elim some (hlevel props) (λ f. ⊎_elim (λ filled. absurd (ne filled.0)) (λ free. free.1) (f.control p lt was)),
+      ))
+      (cases_eq (space_word c2.table p) CONTROL_WORD)
 
   -- the free pages
   free4 : free_below c2.table (length c2.table) ≡ free_below c4.table m.pages
@@ -137,8 +132,7 @@ module _ (m : Areas) (c0 c1 c2 c3 c4 : Contents) (t last : ℕ) (ht : HasThread 
         filed = subst (All (λ (es : List ℕ). es ≡ [])) (sym buffers) (none-long m.threads);
         readers = ap (λ (x : Contents). x.readers) others ∙ ap (λ (x : Contents). x.readers) pages.frame ∙ ∥∥₁_elim some (hlevel props) (λ f. ap (λ (x : Contents). x.readers) f.frame) ∙ ap (λ (x : Contents). x.readers) cleared.others;
         currents = currents-collected;
-        pages = pages-collected;
-        held = λ p lt own none. ∥∥₁_elim some (hlevel props) (λ f. f.held p lt (ap (λ (tb : List (List ℕ)). space_word tb p) (sym table4) ∙ own) (ap (λ (tb : List (List ℕ)). used_mark tb p) (sym table4) ∙ none));
+        control = λ p lt own. subst (λ (tb : List (List ℕ)). IsFilledOrFree tb p) (sym table4) (control2 p lt own);
         others = λ p ne.
             ap (λ (tb : List (List ℕ)). row tb p) table4
             ∙ ∥∥₁_elim some (hlevel props) (λ f. f.others p (λ own. ne (ap (λ (tb : List (List ℕ)). space_word tb p) (sym table1) ∙ own)))

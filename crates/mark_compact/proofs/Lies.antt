@@ -16,7 +16,7 @@ use Rattle.epoch_lattice.specs.declared.Space.TheVariants.{Control, Region}
 use Rattle.epoch_lattice.specs.Lattice.{IsValid, space_index}
 use Rattle.yak_model.specs.Spaces.{SpaceState}
 use Rattle.yak_model.specs.State.{Thing, object_of, view}
-use Rattle.yak_model.specs.Placed.{HeapStands, Holds, Places, datum_word, names_of, space_word, used_mark}
+use Rattle.yak_model.specs.Placed.{HeapStands, Holds, Places, datum_word, names_of, space_word}
 use Rattle.yak_model.specs.Plans.{Move, after_moves, by_move, cleared, forward, forwarded, rehomed, without}
 use Rattle.yak_model.specs.Packed.{PackedAs}
 use Rattle.yak_model.specs.Stands.{Stands, pages_of}
@@ -280,17 +280,6 @@ module _ (m : Areas) (was : Contents) (s : SpaceState) (h : Stands m was s) (d :
           (λ (other : space_word was.table q ≡ CONTROL_WORD → ⊥). other (ap (λ (r : List ℕ). get_or r 0 0) (sym (other-row q other)) ∙ e))
           (cases_eq (space_word was.table q) CONTROL_WORD)
 
-      -- the pages that were taken hold something
-      held-now : (q : ℕ) → q < m.pages → IsPageOf CONTROL_WORD table q → used_mark table q ≢ 0
-      held-now q lt e z = ⊎_elim
-          (λ (le : (Slides.slid m was s h d count moves p areas).next ≤ q). gap q le lt e)
-          (λ (less : q < (Slides.slid m was s h d count moves p areas).next).
-          let own : IsPageOf CONTROL_WORD p.marked.table q = sym (word-before q less) ∙ e in
-          let mark = (after.filled q lt own less).1 in
-          let one = some-came q own less in
-          omega (arith, z, mark, one))
-          (⊎_elim (λ (less : q < (Slides.slid m was s h d count moves p areas).next). inr less) (λ (le : (Slides.slid m was s h d count moves p areas).next ≤ q). inl le) (cases_lt q (Slides.slid m was s h d count moves p areas).next))
-
       pages-now : pages_of table Control ≡ pages_before CONTROL_WORD p.marked.table (Slides.slid m was s h d count moves p areas).next
       pages-now =
           pages_of-before table
@@ -327,10 +316,15 @@ module _ (m : Areas) (was : Contents) (s : SpaceState) (h : Stands m was s) (d :
         packed = subst (λ (f : Name → Option Thing). PackedAs m table new_places.pages f Control) same-objects packed-now;
         others = other-row;
         control = λ q lt e. ⊎_elim
-            (λ (less : q < (Slides.slid m was s h d count moves p areas).next). inl (settled.filled q lt (control-after q less e) lt).0)
-            (λ (le : (Slides.slid m was s h d count moves p areas).next ≤ q). inr (ap (λ (r : List ℕ). get_or r 0 0) (freed-row q le lt e) ∙ (Slides.row-free m was s h d count moves p areas q le lt e).0))
+            (λ (less : q < (Slides.slid m was s h d count moves p areas).next).
+            let own : IsPageOf CONTROL_WORD p.marked.table q = ap (λ (t : List (List ℕ)). space_word t q) (Slides.table-marked m was s h d count moves p areas) ∙ e in
+            let filled = after.filled q lt own less in
+            inl (filled.0, λ z. (let mark = filled.1 in let one = some-came q own less in omega (arith, z, mark, one))))
+            (λ (le : (Slides.slid m was s h d count moves p areas).next ≤ q).
+            let free = Slides.row-free m was s h d count moves p areas q le lt e in
+            let same = freed-row q le lt e in
+            inr (ap (λ (r : List ℕ). get_or r 0 0) same ∙ free.0, ap (λ (r : List ℕ). get_or r 1 0) same ∙ free.1))
             (cases_lt q (Slides.slid m was s h d count moves p areas).next);
-        held = held-now;
         still = still;
         moved = λ n o e control. let y = Slides.found m was s h d count moves p areas n o e control in (y.0, y.1, brought-to n y.0 y.1 (sym y.2));
         slid = are-slid;

@@ -52,17 +52,20 @@ pub record CurrentsCollected (was now : Contents) (t : ℕ) : Type 0 where
   pub others : (u : ℕ) → 1 ≤ u → u ≢ t → current now.currents u 0 ≡ 0
   pub regions : (u d : ℕ) → 1 ≤ d → current now.currents u d ≡ current was.currents u d
 
--- Control pages were given back, and each that is left holds something (`held`), so those given back are the ones that the
--- slide left empty. Pages of regions and free pages have their entries still, and the pool is made anew of the free pages. The
--- buffers are filed, and no depth, number made, reader or unused word has changed.
+-- A page is Control's and holds something, or it is free and holds nothing.
+abbrev pub IsFilledOrFree : List (List ℕ) → ℕ → Type 0
+IsFilledOrFree table p = ((space_word table p ≡ CONTROL_WORD) × (used_mark table p ≢ 0)) ⊎ ((space_word table p ≡ 0) × (used_mark table p ≡ 0))
+
+-- Exactly the control pages that the slide left empty were given back: each of the others holds something. Pages of regions and
+-- free pages have their entries still, and the pool is made anew of the free pages. The buffers are filed, and no depth, number
+-- made, reader or unused word of a block has changed.
 pub record RoomCollected (m : Areas) (was now : Contents) (t : ℕ) : Type 0 where
   pub filed : AreFiled now.buffers
-  pub readers : now.readers ≡ was.readers
-  pub currents : CurrentsCollected was now t
-  pub pages : (p : ℕ) → p < m.pages → (space_word now.table p ≡ space_word was.table p) ⊎ ((space_word was.table p ≡ CONTROL_WORD) × (space_word now.table p ≡ 0))
-  pub held : (p : ℕ) → p < m.pages → space_word now.table p ≡ CONTROL_WORD → used_mark now.table p ≢ 0
+  pub control : (p : ℕ) → p < m.pages → space_word was.table p ≡ CONTROL_WORD → IsFilledOrFree now.table p
   pub others : (p : ℕ) → space_word was.table p ≢ CONTROL_WORD → row now.table p ≡ row was.table p
   pub pool : PoolAnew m was now
+  pub currents : CurrentsCollected was now t
   pub depths : now.depths ≡ was.depths
   pub made : now.made ≡ was.made
+  pub readers : now.readers ≡ was.readers
   pub rests : now.rests ≡ was.rests

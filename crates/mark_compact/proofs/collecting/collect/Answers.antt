@@ -118,6 +118,6 @@ returns-clause-room g c =
     room-collected m old mid slid last now c.args.thread c.reset_pages.ensures.pages.0 c.requires.thread c.clear_slots.ensures.cleared
     (∥∥₁_map c.requires.recorded (λ q.
     let lain = c.slide-plan.ensures.lain q.0 (cleared-stands m old mid q.0 q.1 c.clear_slots.ensures.cleared) in
-    record { frame = lain.frame; others = lain.others; control = lain.control; held = lain.held }))
+    record { frame = lain.frame; others = lain.others; control = lain.control }))
     c.reset_pages.ensures.pages.1 c.reset_pages.ensures.pages.2 c.record_moved.ensures.others
     (shape m (g.W.Words.words c.args.words.now) c.requires.sound).heads (length-table m (g.W.Words.words c.slide-plan.new.words)) (length-currents m (g.W.Words.words c.reset_pages.new.words))
