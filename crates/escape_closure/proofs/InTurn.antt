@@ -17,7 +17,7 @@ use Rattle.region_pages.specs.Freeing.{freed_table, free_below, pool_with, with_
 use Rattle.region_pages.specs.Placement.{IsPlaced, depth_in, with_used}
 use Rattle.region_pages.specs.declared.TheConstants.{CLAIM_COUNTER, POOL_LENGTH}
 use Rattle.remember_sets.specs.declared.TheConstants.{SET_ENTRIES}
-use Rattle.escape_closure.specs.InTurn.{PlacedInTurn, RunsOut, StandInTurn}
+use Rattle.escape_closure.specs.InTurn.{PlacedInTurn, FindsNoPlace, StandInTurn}
 use Rattle.escape_closure.specs.Needs.{InOrder}
 use Rattle.escape_closure.specs.Placing.{owner}
 
@@ -122,7 +122,7 @@ before_filing : (c filing : Contents) (n : ℕ) (sets : List ℕ) (buffers : Lis
 before_filing c filing n sets buffers frame =
     ap (recording (set_entries c.heads) c.sets c.buffers) frame ∙ ap (λ (hs : List ℕ). record c { heads = hs }) (set-set c.heads SET_ENTRIES n (set_entries c.heads) ∙ set-get_or c.heads SET_ENTRIES 0)
 
-pub out_before : (m : Areas) (t count : ℕ) (space : ℕ → Space) (size : ℕ → ℕ) (c filing mid : Contents) (n : ℕ) (sets : List ℕ) (buffers : List (List ℕ)) → filing ≡ record c { heads = set c.heads SET_ENTRIES n; sets = sets; buffers = buffers } → mid ≡ record filing { scratch = mid.scratch; heap = mid.heap } → RunsOut m t count space size mid → RunsOut m t count space size c
+pub out_before : (m : Areas) (t count : ℕ) (space : ℕ → Space) (size : ℕ → ℕ) (c filing mid : Contents) (n : ℕ) (sets : List ℕ) (buffers : List (List ℕ)) → filing ≡ record c { heads = set c.heads SET_ENTRIES n; sets = sets; buffers = buffers } → mid ≡ record filing { scratch = mid.scratch; heap = mid.heap } → FindsNoPlace m t count space size mid → FindsNoPlace m t count space size c
 out_before m t count space size c filing mid n sets buffers frame beside h =
     let k : ℕ = set_entries c.heads in
     let still : Contents = record h.last { scratch = filing.scratch; heap = filing.heap } in

@@ -15,13 +15,12 @@ pub mod Placing
 pub mod Weighed
 pub mod Follows
 pub mod InTurn
-pub mod RunsOut
+pub mod FindsNoPlace
 pub mod Underway
 pub mod Fates
 pub mod Afters
 pub mod LaidPages
 pub mod Regrouped
-pub mod Anew
 pub mod Leaves
 pub mod Sums
 pub mod Corrects

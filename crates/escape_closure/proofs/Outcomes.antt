@@ -21,15 +21,15 @@ use Rattle.yak_model.specs.Recorded.{IsRecorded, RecordedAs}
 use Rattle.remember_sets.specs.declared.TheConstants.{SET_ENTRIES}
 use Rattle.remember_sets.specs.Filed.{IsFiled}
 use Rattle.forwarding.specs.Crossing.{AreFiled}
+use Rattle.forwarding.proofs.Anew.{pool_before}
 use Rattle.escape_closure.specs.Needs.{InOrder, pages_needed}
 use Rattle.escape_closure.specs.Targets.{TargetsWritten}
 use Rattle.escape_closure.specs.Ends.{EndPlanned, FallsShort, RegionEnded, RegionShort, TightEnded, region_word}
-use Rattle.escape_closure.specs.InTurn.{RunsOut, StandInTurn}
+use Rattle.escape_closure.specs.InTurn.{FindsNoPlace, StandInTurn}
 use Rattle.escape_closure.specs.Leaving.{Begun, RegionReady, TightReady, records_of}
 use Rattle.region_pages.specs.Counts.{used_of}
 use Rattle.region_pages.proofs.Counting.{used_is}
 use Rattle.escape_closure.specs.Leaves.{IsLeftAs, RestKept, SlidInto}
-use Rattle.escape_closure.proofs.Anew.{pool_before}
 use Rattle.escape_closure.proofs.Costs.{few_words}
 use Rattle.escape_closure.proofs.InTurn.{out_before, stand_before}
 use Rattle.escape_closure.proofs.Readies.{entries_same, plan_frame, region_ready}
@@ -122,8 +122,8 @@ module _ (m : Areas) (c : Contents) (s : SpaceState) (st : Stands m c s) (t esca
 
   pub short_from : (shortage : Shortage) → FallsShort m mid s b.later.places t shortage → FallsShort m c s st.places t shortage
   short_from shortage f =
-      let told : (o : InOrder s st.places t f.count) × (shortage.needed ≡ pages_needed m mid s st.places t f.count o) × RunsOut m t f.count o.target (λ k. size_by (object_of s) (o.name k)) mid =
-      subst (λ (l : Places). (o : InOrder s l t f.count) × (shortage.needed ≡ pages_needed m mid s l t f.count o) × RunsOut m t f.count o.target (λ k. size_by (object_of s) (o.name k)) mid) b.places (f.order, f.needed, f.runs_out) in
+      let told : (o : InOrder s st.places t f.count) × (shortage.needed ≡ pages_needed m mid s st.places t f.count o) × FindsNoPlace m t f.count o.target (λ k. size_by (object_of s) (o.name k)) mid =
+      subst (λ (l : Places). (o : InOrder s l t f.count) × (shortage.needed ≡ pages_needed m mid s l t f.count o) × FindsNoPlace m t f.count o.target (λ k. size_by (object_of s) (o.name k)) mid) b.places (f.order, f.needed, f.runs_out) in
       let same : pages_needed m mid s st.places t f.count told.0 ≡ pages_needed m b.filing s st.places t f.count told.0 = ap (λ (x : Contents). pages_needed m x s st.places t f.count told.0) b.written.frame in
       let room : free_pages mid.heads mid.pool ≡ free_pages b.filing.heads b.filing.pool = ap (λ (x : Contents). free_pages x.heads x.pool) b.written.frame in
       record {

@@ -14,6 +14,8 @@ use Rattle.epoch_lattice.specs.declared.Space.TheVariants.{Region}
 use Rattle.epoch_lattice.specs.declared.TheConstants.{MAX_DEPTH}
 use Rattle.epoch_lattice.specs.Lattice.{IsValid, space_index}
 use Rattle.yak_model.specs.Spaces.{SpaceState, innermost}
+use Rattle.forwarding.specs.Pool.{PoolAnew}
+use Rattle.forwarding.proofs.Anew.{claims_again, pool_anew}
 use Rattle.escape_closure.specs.Needs.{pages_needed}
 use Rattle.yak_model.specs.State.{IsClosed, IsOpen, Thing, object_of, view}
 use Rattle.yak_model.specs.Placed.{HeapStands, Holds, Places, size_by, space_word}
@@ -22,7 +24,7 @@ use Rattle.yak_model.specs.Stands.{CurrentsStand, PoolStands, RegionsDense, Sets
 use Rattle.yak_model.specs.Recorded.{IsRecorded}
 use Rattle.yak_model.proofs.Data.{in_heap}
 use Rattle.region_pages.specs.Freeing.{freed as freed_row, freed_table, free_below, pool_with, with_released}
-use Rattle.region_pages.specs.declared.TheConstants.{CLAIM_COUNTER}
+use Rattle.region_pages.specs.declared.TheConstants.{CLAIM_COUNTER, POOL_LENGTH}
 use Rattle.region_pages.proofs.Shapes.{Shape}
 use Rattle.relocation.specs.Moves.{move_at}
 use Rattle.relocation.proofs.Lawful.{by_move-at}
@@ -31,9 +33,8 @@ use Rattle.remember_sets.specs.Filed.{IsFiled, LiesIn, SetsHold, with_sets}
 use Rattle.forwarding.specs.Crossing.{AreData, AreFiled, AreMoved, AreValid, IsCrossing}
 use Rattle.escape_closure.specs.Ends.{RegionEnded, StateEnded, region_word}
 use Rattle.escape_closure.specs.InTurn.{StandInTurn}
-use Rattle.escape_closure.specs.Leaves.{PoolAnew, RestKept}
+use Rattle.escape_closure.specs.Leaves.{RestKept}
 use Rattle.escape_closure.specs.Leaving.{Carried, EndMoves, Leaves, RegionReady, left_behind, objects_left}
-use Rattle.escape_closure.proofs.Anew.{claims_again, pool_anew}
 use Rattle.escape_closure.proofs.Carries.{innermost_valid, rest}
 use Rattle.escape_closure.proofs.Fates.{OneEach, one_each}
 use Rattle.escape_closure.proofs.InTurn.{in_turn_beside, in_turn_between, in_turn_same, released_free, released_table}
@@ -60,7 +61,7 @@ not_listed xs a e h = let none : Contains [] a = subst (λ (ys : List ℕ). Cont
 -- a space that gives its pages back keeps the sets
 pub released_entries : (moved freed : Contents) (t depth : ℕ) → freed ≡ with_released moved (Region t depth) → set_entries freed.heads ≡ set_entries moved.heads
 released_entries moved freed t depth released =
-    ap (λ (x : Contents). set_entries x.heads) released ∙ get_or-set_other (set moved.heads 1 0) 2 3 _ 0 (omega arith) ∙ get_or-set_other moved.heads 1 3 0 0 (omega arith)
+    ap (λ (x : Contents). set_entries x.heads) released ∙ get_or-set_other (set moved.heads CLAIM_COUNTER 0) POOL_LENGTH SET_ENTRIES _ 0 (omega arith) ∙ get_or-set_other moved.heads CLAIM_COUNTER SET_ENTRIES 0 0 (omega arith)
 
 pub released_sets : (m : Areas) (moved freed : Contents) (t depth : ℕ) → freed ≡ with_released moved (Region t depth) → SetsHold m moved → SetsHold m freed
 released_sets m moved freed t depth released h = subst (λ xs. SetsStand m freed.heads xs) (sym (ap (λ (x : Contents). x.sets) released)) (sets_same m moved.heads freed.heads moved.sets (released_entries moved freed t depth released) h)
@@ -153,7 +154,7 @@ module _ (m : Areas) (before mid c : Contents) (s : SpaceState) (st : Stands m b
         ap (λ (x : Contents). x.readers) ends ∙ ap (λ i. row_set filed.readers (t - 1) (i - 1) 0) depth_filed
         ∙ ap (λ (rs : List (List ℕ)). row_set rs (t - 1) (depth_of before t - 1) 0) (ap (λ (x : Contents). x.readers) others ∙ ap (λ (x : Contents). x.readers) released ∙ ap (λ (x : Contents). x.readers) carried.frame ∙ ap (λ (x : Contents). x.readers) base_frame)
 
-    freed_heads : freed.heads ≡ set (set moved.heads 1 0) 2 (length (free_below (freed_table (space_index (Region t depth) + 1) moved.table) (length (freed_table (space_index (Region t depth) + 1) moved.table))))
+    freed_heads : freed.heads ≡ set (set moved.heads CLAIM_COUNTER 0) POOL_LENGTH (length (free_below (freed_table (space_index (Region t depth) + 1) moved.table) (length (freed_table (space_index (Region t depth) + 1) moved.table))))
     freed_heads = ap (λ (x : Contents). x.heads) released
 
     plan_unused : drop 4 c.heads ≡ drop 4 before.heads
@@ -164,12 +165,12 @@ module _ (m : Areas) (before mid c : Contents) (s : SpaceState) (st : Stands m b
         ap (λ (x : Contents). drop 4 x.heads) ends ∙ ap (λ (x : Contents). drop 4 x.heads) others
         ∙ drop-set-lt 4 freed.heads SET_ENTRIES (set_entries filed.heads) (omega arith)
         ∙ ap (drop 4) freed_heads
-        ∙ drop-set-lt 4 (set moved.heads 1 0) 2 _ (omega arith) ∙ drop-set-lt 4 moved.heads 1 0 (omega arith)
+        ∙ drop-set-lt 4 (set moved.heads CLAIM_COUNTER 0) POOL_LENGTH _ (omega arith) ∙ drop-set-lt 4 moved.heads CLAIM_COUNTER 0 (omega arith)
         ∙ ap (λ (x : Contents). drop 4 x.heads) carried.frame ∙ drop-set-lt 4 c.heads SET_ENTRIES (set_entries moved.heads) (omega arith)
         ∙ plan_unused
 
     freed_entries : set_entries freed.heads ≡ set_entries moved.heads
-    freed_entries = ap set_entries freed_heads ∙ get_or-set_other (set moved.heads 1 0) 2 3 _ 0 (omega arith) ∙ get_or-set_other moved.heads 1 3 0 0 (omega arith)
+    freed_entries = ap set_entries freed_heads ∙ get_or-set_other (set moved.heads CLAIM_COUNTER 0) POOL_LENGTH SET_ENTRIES _ 0 (omega arith) ∙ get_or-set_other moved.heads CLAIM_COUNTER SET_ENTRIES 0 0 (omega arith)
 
     d_claims : claim_counter d.heads ≡ claim_counter freed.heads
     d_claims = ap (λ (x : Contents). claim_counter x.heads) ends ∙ ap (λ (x : Contents). claim_counter x.heads) others ∙ get_or-set_other freed.heads SET_ENTRIES 1 (set_entries filed.heads) 0 (omega arith)
@@ -292,8 +293,8 @@ module _ (m : Areas) (before mid c : Contents) (s : SpaceState) (st : Stands m b
         (ap (λ (x : Contents). x.heads) carried.frame)
         (ap (λ (x : Contents). x.heads) ends ∙ ap (λ (x : Contents). x.heads) others
         ∙ ap (λ (hs : List ℕ). set hs SET_ENTRIES (set_entries filed.heads)) freed_heads
-        ∙ ap (λ (ps : List ℕ). set (set (set moved.heads 1 0) 2 (length ps)) SET_ENTRIES (set_entries filed.heads)) d_free
-        ∙ ap (λ n. set (set (set moved.heads 1 0) 2 (length (free_below d.table m.pages))) SET_ENTRIES n) (sym (ap (λ (x : Contents). set_entries x.heads) ends)))
+        ∙ ap (λ (ps : List ℕ). set (set (set moved.heads CLAIM_COUNTER 0) POOL_LENGTH (length ps)) SET_ENTRIES (set_entries filed.heads)) d_free
+        ∙ ap (λ n. set (set (set moved.heads CLAIM_COUNTER 0) POOL_LENGTH (length (free_below d.table m.pages))) SET_ENTRIES n) (sym (ap (λ (x : Contents). set_entries x.heads) ends)))
         (d_pool ∙ ap (λ (x : Contents). x.pool) released ∙ ap (λ (ps : List ℕ). pool_with ps moved.pool) d_free)
 
     pub leaves : Leaves m before d s l t count moves (later m before mid c s st t count areas has low r shape.table)

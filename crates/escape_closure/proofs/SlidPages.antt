@@ -1,10 +1,9 @@
 -- The pages in which objects stand that are slid.
-use Rattle.std.proofs.Common.{◌≡◌, ◌⊎◌, ℕ, zero, suc, ◌+◌, ◌/◌, ◌≤◌, ◌<◌, List, sym, ap, subst, ◌∙◌, arith}
-use Rattle.std.proofs.lemmas.Bool.{cases_lt}
-use Rattle.std.proofs.Math.Logic.{⊎_elim}
+use Rattle.std.proofs.Common.{◌≡◌, ◌⊎◌, ℕ, ◌+◌, ◌/◌, ◌≤◌, ◌<◌, List, sym, subst, ◌∙◌, arith}
 use Rattle.heap_words.specs.declared.map.Areas.{Areas}
 use Rattle.heap_words.specs.Map.{page_words}
 use Rattle.relocation.specs.Slide.{GoesBehind, GoesOn, IsFirstPage, IsPageOf}
+use Rattle.forwarding.proofs.Filled.{page_holds}
 use Rattle.escape_closure.specs.Leaves.{HoldsOne, SlidInto}
 
 -- where an object goes that isn't the first
@@ -26,26 +25,4 @@ slid_same m slid table table' count size size' at at' tables sizes places s = re
 
 -- a page of the space between the first one and that of an object holds one of the objects up to it
 pub holds_one : (m : Areas) (slid : ℕ) (table : List (List ℕ)) (count : ℕ) (size at : ℕ → ℕ) → SlidInto m slid table count size at → ((k : ℕ) → k < count → 1 ≤ size k) → (k p : ℕ) → k < count → IsPageOf slid table p → p ≤ at k / page_words m → HoldsOne m count at p
-holds_one m slid table count size at s some zero p lt own le =
-    let w = s.begins lt in
-    ⊎_elim
-    (λ (before : p < w.0). absurd (w.1.none_between p (omega arith) before own))
-    (λ (beyond : w.0 ≤ p). let place = w.2 in (0, lt, omega (arith, place, beyond, le)))
-    (cases_lt p w.0)
-holds_one m slid table count size at s some (suc k) p lt own le =
-    let more : k + 1 ≡ suc k = omega arith in
-    let next : k + 1 < count = omega (arith, lt) in
-    let at_next : at (k + 1) ≡ at (suc k) = ap at more in
-    ⊎_elim
-    (λ (beyond : at k / page_words m < p). ⊎_elim
-    (λ (g : GoesBehind m (at k) (size k) (at (k + 1)) (size (k + 1))).
-    absurd (let one = some (k + 1) next in let fits = g.0 in let place = g.1 in omega (arith, one, fits, place, at_next, le, beyond)))
-    (λ (g : GoesOn m slid table (at k) (size k) (at (k + 1)) (size (k + 1))).
-    let w = g.1 in
-    ⊎_elim
-    (λ (less : p < w.0). absurd (w.1.none_between p (omega (arith, beyond)) less own))
-    (λ (least : w.0 ≤ p). let place = w.2 in (suc k, lt, omega (arith, place, at_next, least, le)))
-    (cases_lt p w.0))
-    (s.follows k next))
-    (λ (before : p ≤ at k / page_words m). holds_one m slid table count size at s some k p (omega (arith, lt)) own before)
-    (cases_lt (at k / page_words m) p)
+holds_one m slid table count size at s some k p lt own le = page_holds m slid table count size at s.begins s.follows some k p lt own le

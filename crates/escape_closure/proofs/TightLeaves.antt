@@ -21,6 +21,7 @@ use Rattle.yak_model.specs.Plans.{Move, cleared, forwarded, without}
 use Rattle.yak_model.specs.Stands.{CurrentsStand, PoolStands, RegionsDense, SetsStand, Stands, claim_counter, current, pages_of, pool_length, set_entries}
 use Rattle.yak_model.specs.Recorded.{IsRecorded}
 use Rattle.region_pages.specs.Freeing.{free_below, pool_with, with_pool_rebuilt}
+use Rattle.region_pages.specs.declared.TheConstants.{CLAIM_COUNTER, POOL_LENGTH}
 use Rattle.region_pages.proofs.Entries.{current-cases}
 use Rattle.region_pages.proofs.Placing.{length-slots_set}
 use Rattle.region_pages.proofs.Released.{inner_region, inner_valid}
@@ -35,10 +36,11 @@ use Rattle.relocation.proofs.SlidLaid.{places_of}
 use Rattle.remember_sets.specs.declared.TheConstants.{SET_ENTRIES}
 use Rattle.remember_sets.specs.Filed.{IsFiled, LiesIn, SetsHold, with_sets}
 use Rattle.forwarding.specs.Crossing.{AreData, AreFiled, AreMoved, AreValid, IsCrossing}
+use Rattle.forwarding.specs.Pool.{PoolAnew}
+use Rattle.forwarding.proofs.Anew.{pool_anew}
 use Rattle.escape_closure.specs.Ends.{StateEnded, TightEnded, region_word}
-use Rattle.escape_closure.specs.Leaves.{HoldsOne, IsLeftAs, PoolAnew, SlidInto}
+use Rattle.escape_closure.specs.Leaves.{HoldsOne, IsLeftAs, SlidInto}
 use Rattle.escape_closure.specs.Leaving.{Carried, EndMoves, Leaves, TightReady, left_behind, objects_left}
-use Rattle.escape_closure.proofs.Anew.{pool_anew}
 use Rattle.escape_closure.proofs.Fates.{left_so, moves_so}
 use Rattle.escape_closure.proofs.Leaves.{ended_places, rest_kept, state_ended}
 use Rattle.escape_closure.proofs.SlidPages.{holds_one, slid_same}
@@ -71,7 +73,7 @@ shape_before m before c frame h =
 -- settling the pages keeps the sets
 pub settled_sets : (m : Areas) (moved settled : Contents) (t depth : ℕ) → settled ≡ with_pool_rebuilt (with_current (record moved { table = settled.table }) t depth 0) → SetsHold m moved → SetsHold m settled
 settled_sets m moved settled t depth frame h =
-    let entries : set_entries settled.heads ≡ set_entries moved.heads = ap (λ (x : Contents). set_entries x.heads) frame ∙ get_or-set_other (set moved.heads 1 0) 2 3 _ 0 (omega arith) ∙ get_or-set_other moved.heads 1 3 0 0 (omega arith) in
+    let entries : set_entries settled.heads ≡ set_entries moved.heads = ap (λ (x : Contents). set_entries x.heads) frame ∙ get_or-set_other (set moved.heads CLAIM_COUNTER 0) POOL_LENGTH SET_ENTRIES _ 0 (omega arith) ∙ get_or-set_other moved.heads CLAIM_COUNTER SET_ENTRIES 0 0 (omega arith) in
     subst (λ xs. SetsStand m settled.heads xs) (sym (ap (λ (x : Contents). x.sets) frame)) (sets_same m moved.heads settled.heads moved.sets entries h)
 
 module _ (m : Areas) (before mid c : Contents) (s : SpaceState) (st : Stands m before s) (t count next : ℕ) (areas : IsAreas m) (has : HasThread m t) (low : 1 ≤ depth_of before t) (r : TightReady m before mid c s st t count next) (depth : ℕ) (is : depth ≡ depth_of before t) (moved : Contents) (carried : Carried m c moved s st.places t count) where
@@ -353,12 +355,12 @@ module _ (m : Areas) (before mid c : Contents) (s : SpaceState) (st : Stands m b
         ap (λ (x : Contents). drop 4 x.heads) ends ∙ ap (λ (x : Contents). drop 4 x.heads) others
         ∙ drop-set-lt 4 settled.heads SET_ENTRIES (set_entries filed.heads) (omega arith)
         ∙ ap (λ (x : Contents). drop 4 x.heads) frame
-        ∙ drop-set-lt 4 (set moved.heads 1 0) 2 _ (omega arith) ∙ drop-set-lt 4 moved.heads 1 0 (omega arith)
+        ∙ drop-set-lt 4 (set moved.heads CLAIM_COUNTER 0) POOL_LENGTH _ (omega arith) ∙ drop-set-lt 4 moved.heads CLAIM_COUNTER 0 (omega arith)
         ∙ ap (λ (x : Contents). drop 4 x.heads) carried.frame ∙ drop-set-lt 4 c.heads SET_ENTRIES (set_entries moved.heads) (omega arith)
         ∙ ap (λ (x : Contents). drop 4 x.heads) base_frame
 
     settled_entries : set_entries settled.heads ≡ set_entries moved.heads
-    settled_entries = ap (λ (x : Contents). set_entries x.heads) frame ∙ get_or-set_other (set moved.heads 1 0) 2 3 _ 0 (omega arith) ∙ get_or-set_other moved.heads 1 3 0 0 (omega arith)
+    settled_entries = ap (λ (x : Contents). set_entries x.heads) frame ∙ get_or-set_other (set moved.heads CLAIM_COUNTER 0) POOL_LENGTH SET_ENTRIES _ 0 (omega arith) ∙ get_or-set_other moved.heads CLAIM_COUNTER SET_ENTRIES 0 0 (omega arith)
 
     d_claims : claim_counter d.heads ≡ claim_counter settled.heads
     d_claims = ap (λ (x : Contents). claim_counter x.heads) ends ∙ ap (λ (x : Contents). claim_counter x.heads) others ∙ get_or-set_other settled.heads SET_ENTRIES 1 (set_entries filed.heads) 0 (omega arith)
@@ -420,8 +422,8 @@ module _ (m : Areas) (before mid c : Contents) (s : SpaceState) (st : Stands m b
         (ap (λ (x : Contents). x.heads) carried.frame ∙ ap (λ (x : Contents). set x.heads SET_ENTRIES (set_entries moved.heads)) base_frame)
         (ap (λ (x : Contents). x.heads) ends ∙ ap (λ (x : Contents). x.heads) others
         ∙ ap (λ (x : Contents). set x.heads SET_ENTRIES (set_entries filed.heads)) frame
-        ∙ ap (λ (ps : List ℕ). set (set (set moved.heads 1 0) 2 (length ps)) SET_ENTRIES (set_entries filed.heads)) d_free
-        ∙ ap (λ n. set (set (set moved.heads 1 0) 2 (length (free_below d.table m.pages))) SET_ENTRIES n) (sym (ap (λ (x : Contents). set_entries x.heads) ends)))
+        ∙ ap (λ (ps : List ℕ). set (set (set moved.heads CLAIM_COUNTER 0) POOL_LENGTH (length ps)) SET_ENTRIES (set_entries filed.heads)) d_free
+        ∙ ap (λ n. set (set (set moved.heads CLAIM_COUNTER 0) POOL_LENGTH (length (free_below d.table m.pages))) SET_ENTRIES n) (sym (ap (λ (x : Contents). set_entries x.heads) ends)))
         (d_pool ∙ ap (λ (x : Contents). x.pool) frame ∙ ap (λ (ps : List ℕ). pool_with ps moved.pool) d_free)
 
     pub tight_leaves : Leaves m before d s st.places t count (move_at c.scratch) later

@@ -26,7 +26,7 @@ use Rattle.forwarding.specs.Crossing.{AreFiled}
 use Rattle.escape_closure.specs.Leaves.{FilesRecorded, IsLeftAs, RestKept, SlidInto}
 use Rattle.escape_closure.specs.Targets.{IsEscaping}
 use Rattle.escape_closure.specs.Needs.{InOrder, pages_needed}
-use Rattle.escape_closure.specs.InTurn.{EscapingInTurn, RunsOut, StandInTurn}
+use Rattle.escape_closure.specs.InTurn.{EscapingInTurn, FindsNoPlace, StandInTurn}
 
 -- The word in the page table of the pages of a thread's innermost region.
 abbrev pub region_word : SpaceState → ℕ → ℕ
@@ -85,7 +85,7 @@ pub record FallsShort (m : Areas) (c : Contents) (s : SpaceState) (l : Places) (
   pub needed : shortage.needed ≡ pages_needed m c s l t count order
   pub free : shortage.free ≡ length (free_pages c.heads c.pool)
   pub more : shortage.free < shortage.needed
-  pub runs_out : RunsOut m t count order.target (λ k. size_by (object_of s) (order.name k)) c
+  pub runs_out : FindsNoPlace m t count order.target (λ k. size_by (object_of s) (order.name k)) c
 
 -- Some order of the escaping objects needs no more pages than are free.
 pub record HasEnough (m : Areas) (c : Contents) (s : SpaceState) (l : Places) (t : ℕ) : Type 0 where
@@ -128,7 +128,7 @@ pub record StateEnded (m : Areas) (now : Contents) (s : SpaceState) (t : ℕ) (t
   pub gone : (p : ℕ) → p < m.pages → space_word now.table p ≢ region_word s t
 
 -- An end for which the free pages were enough: those that the plan claimed are free no longer, and all that were the region's
--- are free.
+-- are free. Objects outside stay (`rest`); those that escaped stand where the rule of placement puts them (`in_turn`).
 pub record RegionEnded (m : Areas) (c d : Contents) (s : SpaceState) (stands : Stands m c s) (t moved : ℕ) : Type 0 where
   pub state : StateEnded m d s t false moved
   pub rest : RestKept m c d s stands.places t state.after state.stands.places.at

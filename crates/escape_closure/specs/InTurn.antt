@@ -23,7 +23,7 @@ pub record PlacedInTurn (m : Areas) (t count : ℕ) (space : ℕ → Space) (siz
 
 -- The rule of placement comes to an object for which there is no place: in the words after the objects before it, the current
 -- page of its space has too few words left, and no page is free.
-pub record RunsOut (m : Areas) (t count : ℕ) (space : ℕ → Space) (size : ℕ → ℕ) (c : Contents) : Type 0 where
+pub record FindsNoPlace (m : Areas) (t count : ℕ) (space : ℕ → Space) (size : ℕ → ℕ) (c : Contents) : Type 0 where
   pub reached : ℕ
   pub fewer : reached < count
   pub address : ℕ → ℕ

@@ -1,5 +1,5 @@
 -- What an end leaves beside the state: addresses, records, the pool and the words that it doesn't name.
-use Rattle.std.specs.Prelude.{◌≡◌, ◌≢◌, ◌⊎◌, ◌↔◌, ℕ, ◌+◌, ◌-◌, ◌*◌, ◌/◌, ◌<◌, List, length, slice_index_or, slice_set, Option, Some}
+use Rattle.std.specs.Prelude.{◌≡◌, ◌≢◌, ◌⊎◌, ◌↔◌, ℕ, ◌+◌, ◌-◌, ◌*◌, ◌/◌, ◌<◌, List, length, slice_index_or, Option, Some}
 use Rattle.object_layout.specs.declared.names.Name.{Name}
 use Rattle.object_layout.specs.declared.TheConstants.{OBJECT_WORDS}
 use Rattle.epoch_lattice.specs.declared.Space.TheVariants.{Control}
@@ -11,13 +11,10 @@ use Rattle.yak_model.specs.declared.datum.Datum.TheVariants.{Null, Object}
 use Rattle.yak_model.specs.Spaces.{IsPresent, SpaceState, home_of, innermost}
 use Rattle.yak_model.specs.State.{Thing, object_of}
 use Rattle.yak_model.specs.Placed.{Places, space_word}
-use Rattle.yak_model.specs.Stands.{free_pages, set_entries}
 use Rattle.yak_model.specs.Recorded.{Enters, IsRecorded}
-use Rattle.region_pages.specs.declared.TheConstants.{CLAIM_COUNTER, POOL_LENGTH}
-use Rattle.region_pages.specs.Freeing.{free_below, pool_with}
 use Rattle.relocation.specs.Slide.{GoesBehind, GoesOn, IsFirstPage}
-use Rattle.remember_sets.specs.declared.TheConstants.{SET_ENTRIES}
 use Rattle.remember_sets.specs.Filed.{IsFiled, LiesIn}
+use Rattle.forwarding.specs.Pool.{PoolAnew}
 use Rattle.escape_closure.specs.Targets.{IsEscaping}
 
 -- Exactly the slots are filed that were recorded before, in the sets or in a store buffer.
@@ -45,13 +42,6 @@ pub record IsMovedCrossing (s : SpaceState) (t : ℕ) (objects : Name → Option
 abbrev pub FilesEnded : Areas → Contents → Contents → SpaceState → ℕ → (Name → Option Thing) → (Name → ℕ) → Type 0
 FilesEnded m c d s t objects at =
     (a : ℕ) → IsFiled d a ↔ ((IsRecorded c.heads c.sets c.buffers a × (LiesIn m c (innermost s.graph t) a → ⊥)) ⊎ IsMovedCrossing s t objects at a)
-
--- The pool begins with the free pages, all of them in ascending order, and none is claimed. Of the first words only these two
--- numbers and the number of the filed slots have changed.
-pub record PoolAnew (m : Areas) (c d : Contents) : Type 0 where
-  pub free : free_pages d.heads d.pool ≡ free_below d.table m.pages
-  pub heads : d.heads ≡ slice_set (slice_set (slice_set c.heads CLAIM_COUNTER 0) POOL_LENGTH (length (free_below d.table m.pages))) SET_ENTRIES (set_entries d.heads)
-  pub pool : d.pool ≡ pool_with (free_below d.table m.pages) c.pool
 
 -- The objects outside the region stand where they stood, exactly the slots told above are filed, and the pool is made anew. The
 -- region has no readers, and the readers of all others are as they were; the thread is one epoch less deep, and no other depth

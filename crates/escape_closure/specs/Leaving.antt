@@ -19,7 +19,8 @@ use Rattle.relocation.specs.Slide.{IsPageOf, Runs, Sliding, brought}
 use Rattle.remember_sets.specs.declared.TheConstants.{SET_ENTRIES}
 use Rattle.remember_sets.specs.Filed.{IsFiled, LiesIn, SetsHold, logged}
 use Rattle.forwarding.specs.Crossing.{AreFiled, IsCrossing}
-use Rattle.escape_closure.specs.Leaves.{FilesRecorded, PoolAnew}
+use Rattle.forwarding.specs.Pool.{PoolAnew}
+use Rattle.escape_closure.specs.Leaves.{FilesRecorded}
 use Rattle.escape_closure.specs.Targets.{IsEscaping, IsTargetAt, TargetsWritten}
 use Rattle.escape_closure.specs.Ends.{DropsRest, EndPlanned, PlanReady, region_word}
 

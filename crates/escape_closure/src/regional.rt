@@ -53,7 +53,7 @@ fn finish_region<W: Words>(words: &mut W, map: Areas, plan: Plan, thread: u8)
 /// # Errors
 ///
 /// `Shortage` exactly where the free pages are too few to place the escaping objects, by ascending address, each in its target.
-/// Then the store buffers are filed, and nothing else has changed.
+/// Then the store buffers are filed, and nothing else but the scratch area has changed.
 pub fn end_region<W: Words>(words: &mut W, map: Areas, thread: u8) -> Result<u64, Shortage>
     requires sound { Sound map (W.words words.old) }
     requires thread { HasThread map thread }

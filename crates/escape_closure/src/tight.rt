@@ -95,9 +95,9 @@ fn finish_tight<W: Words>(words: &mut W, map: Areas, packing: Packing, thread: u
     close_region(words, map, thread);
 }
 
-/// Ends the innermost epoch of a thread without a free page: all objects that escape from its region go to the control space,
-/// slid in ascending order into the region's own pages, and the other ones are gone. The pages that they fill become control
-/// pages, and the others of the region are given back. Answers how many objects were moved.
+/// Ends the innermost epoch of a thread without claiming a page: all objects that escape from its region go to the control
+/// space, slid in ascending order into the region's own pages, and the other ones are gone. The pages that they fill become
+/// control pages, and the others of the region are given back. Answers how many objects were moved.
 pub fn end_tight<W: Words>(words: &mut W, map: Areas, thread: u8) -> u64
     requires sound { Sound map (W.words words.old) }
     requires thread { HasThread map thread }

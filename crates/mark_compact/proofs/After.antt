@@ -170,7 +170,7 @@ module _ (m : Areas) (c0 c1 c2 c3 c4 : Contents) (s : SpaceState) (h : Stands m 
       ap (λ n. take n c3.sets) entries ∙ ap (take (set_entries c1.heads)) sets
 
   pub same-regions : SameRegions m c1.table c2.table
-  same-regions = record { long = st.long; long_now = st.long_now; others = st.lain.others; control = st.lain.control }
+  same-regions = record { long = st.long; long_now = st.long_now; others = st.lain.others; control = λ p lt own. ⊎_elim (λ filled. inl filled.0) (λ free. inr free.0) (st.lain.control p lt own) }
 
   stand2 : CurrentsStand m c2.currents c1.table
   stand2 = subst (λ (cs : List (List ℕ)). CurrentsStand m cs c1.table) (sym currents2) h1.stands.currents

@@ -1,5 +1,5 @@
 -- What the moves of a collection leave.
-use Rattle.std.proofs.Common.{◌≡◌, ◌≢◌, ◌⊎◌, ℕ, ◌+◌, ◌*◌, ◌/◌, ◌≤◌, ◌<◌, Option, Some, None, List, [], ◌∷◌, length, map, get_or, zero, suc, refl, sym, ap, subst, ◌∙◌, arith, inl, inr}
+use Rattle.std.proofs.Common.{◌≡◌, ◌≢◌, ◌⊎◌, ℕ, ◌+◌, ◌-◌, ◌*◌, ◌/◌, ◌≤◌, ◌<◌, Option, Some, None, List, [], ◌∷◌, length, map, get_or, zero, suc, refl, sym, ap, subst, ◌∙◌, arith, inl, inr}
 use Rattle.std.proofs.Math.Path.{fun_ext}
 use Rattle.std.proofs.lemmas.Bool.{cases_eq, cases_lt}
 use Rattle.std.proofs.Math.Logic.{⊎_elim, ∥∥₁_map}
@@ -31,6 +31,7 @@ use Rattle.relocation.proofs.SlidLaid.{places_of}
 use Rattle.relocation.proofs.SlidPages.{pages_before-gap}
 use Rattle.relocation.proofs.Slidden.{pick, slide-packed}
 use Rattle.relocation.proofs.SlidLawful.{slide-present}
+use Rattle.forwarding.proofs.Filled.{page_holds, some_brought}
 use Rattle.mark_compact.specs.Collected.{AreSlid, IsNext, IsOfControl}
 use Rattle.mark_compact.specs.Collecting.{Lain, Led, Planned}
 use Rattle.mark_compact.specs.declared.sliding.TheConstants.{CONTROL_WORD}
@@ -184,6 +185,20 @@ module _ (m : Areas) (was : Contents) (s : SpaceState) (h : Stands m was s) (d :
     still = λ n o e ne. still n o (kept (view s) p.dropped n o e) ne;
   }
 
+  -- a page that was taken got words
+  some-came : (q : ℕ) → IsPageOf CONTROL_WORD p.marked.table q → q < (Slides.slid m was s h d count moves p areas).next → 1 ≤ brought m p.marked.heap count moves q
+  some-came q own less =
+      let sl = (Slides.slid m was s h d count moves p areas).sliding in
+      let some : 0 < count = ⊎_elim
+      (λ (none : count ≡ 0). absurd (let z = (sl.unused none).0 in omega (arith, z, less)))
+      (λ (ne : count ≡ 0 → ⊥). omega (arith, ne))
+      (cases_eq count 0)
+      in
+      let k : ℕ = count - 1 in
+      let ends = (sl.last k (omega (arith, some))).1 in
+      let w = page_holds m CONTROL_WORD p.marked.table count (λ j. size_at p.marked.heap (moves j).old) (λ j. (moves j).new) sl.begins sl.follows (λ j lt. omega arith) k q (omega (arith, some)) own (omega (arith, ends, less)) in
+      some_brought m p.marked.heap count moves w.0 q w.1 w.2
+
   module _ (c : Contents) (led : Led m (view s) h.places p.dropped d c count moves) (movable : AllMovable m c.heap count moves) (heap : List ℕ) (done : Moved c.heap heap count moves) where
     size-led : (k : ℕ) → k < count → size_at c.heap (moves k).old ≡ size_at p.marked.heap (moves k).old
     size-led k lt =
@@ -301,8 +316,14 @@ module _ (m : Areas) (was : Contents) (s : SpaceState) (h : Stands m was s) (d :
         packed = subst (λ (f : Name → Option Thing). PackedAs m table new_places.pages f Control) same-objects packed-now;
         others = other-row;
         control = λ q lt e. ⊎_elim
-            (λ (less : q < (Slides.slid m was s h d count moves p areas).next). inl (settled.filled q lt (control-after q less e) lt).0)
-            (λ (le : (Slides.slid m was s h d count moves p areas).next ≤ q). inr (ap (λ (r : List ℕ). get_or r 0 0) (freed-row q le lt e) ∙ (Slides.row-free m was s h d count moves p areas q le lt e).0))
+            (λ (less : q < (Slides.slid m was s h d count moves p areas).next).
+            let own : IsPageOf CONTROL_WORD p.marked.table q = ap (λ (t : List (List ℕ)). space_word t q) (Slides.table-marked m was s h d count moves p areas) ∙ e in
+            let filled = after.filled q lt own less in
+            inl (filled.0, λ z. (let mark = filled.1 in let one = some-came q own less in omega (arith, z, mark, one))))
+            (λ (le : (Slides.slid m was s h d count moves p areas).next ≤ q).
+            let free = Slides.row-free m was s h d count moves p areas q le lt e in
+            let same = freed-row q le lt e in
+            inr (ap (λ (r : List ℕ). get_or r 0 0) same ∙ free.0, ap (λ (r : List ℕ). get_or r 1 0) same ∙ free.1))
             (cases_lt q (Slides.slid m was s h d count moves p areas).next);
         still = still;
         moved = λ n o e control. let y = Slides.found m was s h d count moves p areas n o e control in (y.0, y.1, brought-to n y.0 y.1 (sym y.2));

@@ -1,19 +1,20 @@
 -- What a collection of the control space leaves.
-use Rattle.std.specs.Prelude.{◌≡◌, ◌≢◌, ◌⊎◌, ◌↔◌, ℕ, ◌+◌, ◌-◌, ◌*◌, ◌≤◌, ◌<◌, List, length, Option, Some}
-use Rattle.std.specs.List.{Contains}
+use Rattle.std.specs.Prelude.{◌≡◌, ◌≢◌, ◌⊎◌, ℕ, ◌+◌, ◌-◌, ◌*◌, ◌≤◌, ◌<◌, List, length, Option, Some}
 use Rattle.object_layout.specs.declared.names.Name.{Name}
 use Rattle.object_layout.specs.declared.TheConstants.{OBJECT_WORDS}
 use Rattle.heap_words.specs.declared.map.Areas.{Areas}
 use Rattle.heap_words.specs.Map.{page_words}
+use Rattle.heap_words.specs.Cells.{row}
 use Rattle.heap_words.specs.Contents.{Contents}
 use Rattle.epoch_lattice.specs.declared.Space.TheVariants.{Control}
 use Rattle.yak_model.specs.Spaces.{Collects, SpaceState}
 use Rattle.yak_model.specs.State.{Thing, object_of}
-use Rattle.yak_model.specs.Placed.{space_word}
+use Rattle.yak_model.specs.Placed.{space_word, used_mark}
 use Rattle.yak_model.specs.Packed.{IsPacked}
-use Rattle.yak_model.specs.Stands.{Stands, current, free_pages}
+use Rattle.yak_model.specs.Stands.{Stands, current}
 use Rattle.yak_model.specs.Recorded.{Recorded}
 use Rattle.forwarding.specs.Crossing.{AreFiled}
+use Rattle.forwarding.specs.Pool.{PoolAnew}
 use Rattle.relocation.specs.Slide.{GoesBehind, GoesOn, IsFirstPage}
 use Rattle.mark_compact.specs.declared.sliding.TheConstants.{CONTROL_WORD}
 
@@ -21,7 +22,7 @@ use Rattle.mark_compact.specs.declared.sliding.TheConstants.{CONTROL_WORD}
 abbrev pub IsOfControl : (Name → Option Thing) → Name → Thing → Type 0
 IsOfControl objects n o = (objects n ≡ Some o) × (o.home ≡ Control)
 
--- Of the objects of Control the one is the next behind the other, where `at` gives the address of each name.
+-- Of the objects of Control `b` is the next one behind `a`, where `at` gives the address of each name.
 pub record IsNext (objects : Name → Option Thing) (at : Name → ℕ) (a b : Name) : Type 0 where
   pub behind : at a < at b
   pub none_between : (n : Name) (o : Thing) → IsOfControl objects n o → at a < at n → at n < at b → ⊥
@@ -51,11 +52,20 @@ pub record CurrentsCollected (was now : Contents) (t : ℕ) : Type 0 where
   pub others : (u : ℕ) → 1 ≤ u → u ≢ t → current now.currents u 0 ≡ 0
   pub regions : (u d : ℕ) → 1 ≤ d → current now.currents u d ≡ current was.currents u d
 
--- The pages of regions are as they were, and control pages that hold nothing were given back: the free pages are the former
--- ones and these. The buffers are filed.
+-- A page is Control's and holds something, or it is free and holds nothing.
+abbrev pub IsFilledOrFree : List (List ℕ) → ℕ → Type 0
+IsFilledOrFree table p = ((space_word table p ≡ CONTROL_WORD) × (used_mark table p ≢ 0)) ⊎ ((space_word table p ≡ 0) × (used_mark table p ≡ 0))
+
+-- Exactly the control pages that the slide left empty were given back: each of the others holds something. Pages of regions and
+-- free pages have their entries still, and the pool is made anew of the free pages. The buffers are filed, and no depth, number
+-- made, reader or unused word of a block has changed.
 pub record RoomCollected (m : Areas) (was now : Contents) (t : ℕ) : Type 0 where
   pub filed : AreFiled now.buffers
-  pub readers : now.readers ≡ was.readers
+  pub control : (p : ℕ) → p < m.pages → space_word was.table p ≡ CONTROL_WORD → IsFilledOrFree now.table p
+  pub others : (p : ℕ) → space_word was.table p ≢ CONTROL_WORD → row now.table p ≡ row was.table p
+  pub pool : PoolAnew m was now
   pub currents : CurrentsCollected was now t
-  pub pages : (p : ℕ) → p < m.pages → (space_word now.table p ≡ space_word was.table p) ⊎ ((space_word was.table p ≡ CONTROL_WORD) × (space_word now.table p ≡ 0))
-  pub free : (p : ℕ) → Contains (free_pages now.heads now.pool) p ↔ ((p < m.pages) × (space_word now.table p ≡ 0))
+  pub depths : now.depths ≡ was.depths
+  pub made : now.made ≡ was.made
+  pub readers : now.readers ≡ was.readers
+  pub rests : now.rests ≡ was.rests

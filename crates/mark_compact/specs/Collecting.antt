@@ -1,5 +1,5 @@
 -- How the words stand between the steps of a collection.
-use Rattle.std.specs.Prelude.{◌≡◌, ◌≢◌, ◌⊎◌, ◌↔◌, ℕ, ◌+◌, ◌-◌, ◌*◌, ◌≤◌, ◌<◌, Bool, true, false, List, map, length, slice_index, Some}
+use Rattle.std.specs.Prelude.{◌≡◌, ◌≢◌, ◌↔◌, ℕ, ◌+◌, ◌-◌, ◌*◌, ◌≤◌, ◌<◌, Bool, true, false, List, map, length, slice_index, Some}
 use Rattle.object_layout.specs.declared.names.Name.{Name}
 use Rattle.heap_words.specs.declared.map.Areas.{Areas}
 use Rattle.heap_words.specs.Map.{heap_length}
@@ -19,7 +19,7 @@ use Rattle.relocation.specs.Slide.{Drops, IsPageOf, Runs}
 use Rattle.relocation.specs.declared.plans.TheConstants.{MOVE_WORDS}
 use Rattle.forwarding.specs.Corrected.{corrected_stacks}
 use Rattle.forwarding.specs.Crossing.{AreMoved}
-use Rattle.mark_compact.specs.Collected.{AreSlid}
+use Rattle.mark_compact.specs.Collected.{AreSlid, IsFilledOrFree}
 use Rattle.mark_compact.specs.Given.{IsSlid}
 use Rattle.mark_compact.specs.declared.sliding.TheConstants.{CONTROL_WORD}
 
@@ -66,7 +66,7 @@ pub record Lain (m : Areas) (was : Contents) (s : SpaceState) (l : Places) (now 
   pub heap : HeapStands m now.table now.heap (without (view s) dropped).objects places (λ _. 0)
   pub packed : PackedAs m now.table places.pages (without (view s) dropped).objects Control
   pub others : (p : ℕ) → (IsPageOf CONTROL_WORD was.table p → ⊥) → row now.table p ≡ row was.table p
-  pub control : (p : ℕ) → p < m.pages → IsPageOf CONTROL_WORD was.table p → (space_word now.table p ≡ CONTROL_WORD) ⊎ (space_word now.table p ≡ 0)
+  pub control : (p : ℕ) → p < m.pages → IsPageOf CONTROL_WORD was.table p → IsFilledOrFree now.table p
   pub still : (n : Name) (o : Thing) → object_of s n ≡ Some o → o.home ≢ Control → places.at n ≡ l.at n
   pub moved : (n : Name) (o : Thing) → (without (view s) dropped).objects n ≡ Some o → o.home ≡ Control → (k : ℕ) × (k < count) × (places.at n ≡ (moves k).new)
   pub slid : AreSlid m was.table l.at (without (view s) dropped).objects places.at

@@ -26,7 +26,7 @@ use Rattle.escape_closure.specs.Rolls.{AimsInside, OnlyScratch}
 use Rattle.escape_closure.specs.Targets.{IsEscaping, TargetsWritten}
 use Rattle.escape_closure.proofs.Aims.{outer_target, space_of_heap, targets_exist}
 use Rattle.escape_closure.proofs.PlannedEnd.{as_many, end_planned}
-use Rattle.escape_closure.proofs.RunsOut.{run_out}
+use Rattle.escape_closure.proofs.FindsNoPlace.{run_out}
 use Rattle.escape_closure.proofs.Told.{SomeAimed, currents_told, pool_told, table_told}
 use Rattle.escape_closure.proofs.Weighed.{aimed, aims_inside, needed_is, order}
 use Rattle.escape_closure.proofs.Written.{region_is}

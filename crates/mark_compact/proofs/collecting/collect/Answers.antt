@@ -8,6 +8,7 @@ use Rattle.yak_model.specs.Plans.{without}
 use Rattle.relocation.specs.Moves.{move_at}
 use Rattle.remember_sets.specs.Filed.{IsFiled}
 use Rattle.forwarding.specs.Crossing.{AreMoved, IsCrossing}
+use Rattle.region_pages.proofs.Shapes.{shape}
 use Rattle.mark_compact.proofs.Tables.{length-table}
 use Rattle.mark_compact.proofs.Logged.{buffers-told, cleared-stands, sets-rebuilt, sets-told}
 use Rattle.mark_compact.proofs.After.{collected, data-after, holds-after, valid-after}
@@ -118,5 +119,5 @@ returns-clause-room g c =
     (∥∥₁_map c.requires.recorded (λ q.
     let lain = c.slide-plan.ensures.lain q.0 (cleared-stands m old mid q.0 q.1 c.clear_slots.ensures.cleared) in
     record { frame = lain.frame; others = lain.others; control = lain.control }))
-    c.reset_pages.ensures.pages.1 c.reset_pages.ensures.pages.2 c.reset_pages.ensures.pool c.record_moved.ensures.others
-    (length-table m (g.W.Words.words c.slide-plan.new.words)) (length-currents m (g.W.Words.words c.reset_pages.new.words))
+    c.reset_pages.ensures.pages.1 c.reset_pages.ensures.pages.2 c.record_moved.ensures.others
+    (shape m (g.W.Words.words c.args.words.now) c.requires.sound).heads (length-table m (g.W.Words.words c.slide-plan.new.words)) (length-currents m (g.W.Words.words c.reset_pages.new.words))

@@ -1,4 +1,4 @@
--- The pool made anew, and what an end leaves over the words before the buffers were filed.
+-- The pool made anew.
 use Rattle.std.proofs.Common.{◌≡◌, ℕ, List, [], ◌∷◌, length, set, refl, ap, ◌∙◌, arith, get_or-set_other, length-set}
 use Rattle.std.proofs.lemmas.List.{set-set}
 use Rattle.heap_words.specs.declared.map.Areas.{Areas}
@@ -9,7 +9,7 @@ use Rattle.region_pages.specs.Freeing.{free_below, pool_with}
 use Rattle.region_pages.specs.declared.TheConstants.{CLAIM_COUNTER, POOL_LENGTH}
 use Rattle.region_pages.proofs.Freed.{rebuilt_free}
 use Rattle.remember_sets.specs.declared.TheConstants.{SET_ENTRIES}
-use Rattle.escape_closure.specs.Leaves.{PoolAnew}
+use Rattle.forwarding.specs.Pool.{PoolAnew}
 
 -- the number of the filed slots is set last
 pub last_entries : (h : List ℕ) (n k e : ℕ) → set (set (set (set h SET_ENTRIES n) CLAIM_COUNTER 0) POOL_LENGTH k) SET_ENTRIES e ≡ set (set (set h CLAIM_COUNTER 0) POOL_LENGTH k) SET_ENTRIES e

@@ -20,7 +20,7 @@ use Rattle.region_pages.proofs.Shapes.{Shape}
 use Rattle.region_pages.proofs.Entries.{entry-other, entry-same, space-with_used}
 use Rattle.region_pages.proofs.Claims.{currents-claimed, entry, first_free, free_page, none_free, pool-claimed}
 use Rattle.region_pages.proofs.Placing.{currents-placed, currents-spaces, pool-spaces}
-use Rattle.escape_closure.specs.InTurn.{PlacedInTurn, RunsOut}
+use Rattle.escape_closure.specs.InTurn.{PlacedInTurn, FindsNoPlace}
 use Rattle.escape_closure.specs.Placing.{Filling, filling, owner, room_in, rooms_at}
 use Rattle.escape_closure.proofs.Follows.{free_follows, has_owner, is_valid, left_none, rooms_follow}
 use Rattle.escape_closure.proofs.InTurn.{in_turn_first, in_turn_more, in_turn_same}
@@ -164,7 +164,7 @@ module _ (m : Areas) (t : ℕ) (areas : IsAreas m) (has : HasThread m t) (space 
     ]
 
   module _ (count : ℕ) (spaces : (k : ℕ) → k < count → IsSpaceOf m (space k)) (sizes : (k : ℕ) → k < count → 3 ≤ size k) where
-    run : (rest : ℕ) (now : Contents) (k : ℕ) → rest + k ≡ count → Reached m t space size c now k → RunsOut m t count space size c ⊎ ((after : Contents) × Reached m t space size c after count)
+    run : (rest : ℕ) (now : Contents) (k : ℕ) → rest + k ≡ count → Reached m t space size c now k → FindsNoPlace m t count space size c ⊎ ((after : Contents) × Reached m t space size c after count)
     run zero now k e r = inr (now, subst (Reached m t space size c now) (omega (arith, e)) r)
     run (suc rest) now k e r =
         let lt : k < count = omega (arith, e) in
@@ -173,7 +173,7 @@ module _ (m : Areas) (t : ℕ) (areas : IsAreas m) (has : HasThread m t) (space 
           | inr w ↦ inl (record { reached = k; fewer = lt; address = r.address; last = now; placed = r.placed; little = w.0; none = w.1 })
         ]
 
-    pub run_out : Shape m c → PoolStands m c.heads c.pool c.table → CurrentsStand m c.currents c.table → length (free_pages c.heads c.pool) < (filling m (rooms_at m c t) (λ j. space_index (space j)) size count).claimed → RunsOut m t count space size c
+    pub run_out : Shape m c → PoolStands m c.heads c.pool c.table → CurrentsStand m c.currents c.table → length (free_pages c.heads c.pool) < (filling m (rooms_at m c t) (λ j. space_index (space j)) size count).claimed → FindsNoPlace m t count space size c
     run_out shape pool currents few = elim (run count c 0 (omega arith) (first shape pool currents)) [
       | inl w ↦ w
       | inr w ↦ absurd (let f = w.1.free in omega (arith, f, few))
