@@ -1,8 +1,7 @@
 -- The start of an end: what is recorded is filed.
-use Rattle.std.proofs.Props.{props}
-use Rattle.std.proofs.Math.Logic.{∥∥₁_elim, ⊎_elim}
-use Rattle.std.proofs.Common.{◌≡◌, ◌⊎◌, ◌↔◌, ℕ, ◌+◌, ◌-◌, ◌*◌, ◌≤◌, ◌<◌, List, [], ◌∷◌, ◌++◌, zero, suc, length, get_or, drop, take, replicate, set, refl, sym, ap, subst, ◌∙◌, arith, inl, inr, get_or-set_other, length-append, length-take}
-use Rattle.std.specs.List.{All, Contains, flat_map}
+use Rattle.std.proofs.Math.Logic.{⊎_elim}
+use Rattle.std.proofs.Common.{◌≡◌, ◌⊎◌, ◌↔◌, ℕ, ◌+◌, ◌-◌, ◌*◌, ◌≤◌, ◌<◌, List, [], ◌++◌, length, get_or, take, set, refl, sym, ap, subst, ◌∙◌, arith, inl, inr, length-append, length-take}
+use Rattle.std.specs.List.{Contains}
 use Rattle.std.proofs.lemmas.Bool.{cases_lt}
 use Rattle.heap_walks.proofs.Lists.{distinct_fit}
 use Rattle.relocation.specs.Slidden.{table_of}
@@ -11,91 +10,21 @@ use Rattle.remember_sets.proofs.Sets.{contains_at}
 use Rattle.std.proofs.lemmas.List.Elements.{Contains-append_left, Contains-append_right}
 use Rattle.std.proofs.lemmas.List.{get_or_default, get_or-replicate, length-replicate}
 use Rattle.heap_words.specs.declared.map.Areas.{Areas}
-use Rattle.heap_words.specs.declared.TheConstants.{BUFFER_ENTRIES}
 use Rattle.heap_words.specs.Map.{heap_length}
 use Rattle.heap_words.specs.Contents.{Contents, InLimits}
 use Rattle.yak_model.specs.Spaces.{SpaceState}
-use Rattle.yak_model.specs.State.{State, view}
-use Rattle.yak_model.specs.Placed.{Places}
-use Rattle.yak_model.specs.Stands.{SetsStand, Stands, StandsAs, claim_counter, free_pages, pool_length, set_entries, unused_heads}
+use Rattle.yak_model.specs.State.{view}
+use Rattle.yak_model.specs.Stands.{SetsStand, Stands, StandsAs, set_entries}
 use Rattle.yak_model.specs.Recorded.{IsReader, IsRecorded, Recorded}
-use Rattle.yak_model.proofs.Data.{in_heap}
-use Rattle.region_pages.specs.declared.TheConstants.{CLAIM_COUNTER, POOL_LENGTH}
 use Rattle.remember_sets.specs.declared.TheConstants.{SET_ENTRIES}
-use Rattle.remember_sets.specs.Filed.{BuffersHold, IsFiled, SetsHold, logged, with_no_logs, with_sets}
+use Rattle.remember_sets.specs.Filed.{IsFiled, SetsHold, logged, with_no_logs, with_sets}
 use Rattle.forwarding.specs.Crossing.{AreFiled}
+use Rattle.forwarding.proofs.Logs.{entries_of, no_entry, stands-with_logs}
 use Rattle.escape_closure.specs.Targets.{TargetsWritten}
 use Rattle.escape_closure.specs.Leaving.{Begun}
 
 abbrev nil : List ℕ
 nil = []
-
-abbrev entries_of : List (List ℕ) → List ℕ
-entries_of bs = flat_map (λ (b : List ℕ). b) bs
-
-none_left : (n x : ℕ) → Contains (entries_of (replicate n [])) x → ⊥
-none_left zero x h = let lt : h.0 < 0 = h.1 in absurd (omega (arith, lt))
-none_left (suc n) x h = none_left n x h
-
-member : (bs : List (List ℕ)) (k j : ℕ) (d : ℕ) → k < length bs → j < length (get_or bs k []) → Contains (entries_of bs) (get_or (get_or bs k []) j d)
-member [] k j d lt lj = absurd (omega (arith, lt))
-member (b ∷ bs) zero j d lt lj = Contains-append_left b (entries_of bs) (get_or b j d) (j, lj, get_or_default b j (get_or b j d) d lj)
-member (b ∷ bs) (suc k) j d lt lj = Contains-append_right b (entries_of bs) (get_or (get_or bs k []) j d) (member bs k j d (omega (arith, lt)) lj)
-
--- the words stand for some state whose crossing references are recorded
-abbrev pub SomeRecorded : Areas → Contents → Type 0
-SomeRecorded m c = ∥ ((s : SpaceState) × (h : Stands m c s) × Recorded m c s h) ∥₁
-
-pub sets_told : (m : Areas) (c : Contents) → SomeRecorded m c → SetsHold m c
-sets_told m c some = record {
-  within = ∥∥₁_elim some (hlevel props) (λ q. q.1.stands.sets.within);
-  listed = λ k lt. ∥∥₁_elim some (hlevel props) (λ q. q.1.stands.sets.listed k lt);
-  placed = λ a lt ne. ∥∥₁_elim some (hlevel props) (λ q. q.1.stands.sets.placed a lt ne);
-}
-
-pub buffers_told : (m : Areas) (c : Contents) → SomeRecorded m c → BuffersHold m c
-buffers_told m c some k es lk j d lj = ∥∥₁_elim some (hlevel props) (λ q.
-    let here : get_or c.buffers k es ≡ get_or c.buffers k [] = get_or_default c.buffers k es [] lk in
-    let lj' : j < length (get_or c.buffers k []) = subst (λ (l : List ℕ). j < length l) here lj in
-    let f = q.2.fields (get_or (get_or c.buffers k []) j d) (inr (member c.buffers k j d lk lj')) in
-    let a : get_or (get_or c.buffers k []) j d < heap_length m = omega (arith, f.4, f.5, in_heap m c (view q.0) q.1.places f.0 f.1 q.1.stands f.3) in
-    subst (λ (l : List ℕ). get_or l j d < heap_length m) (sym here) a)
-
-drop-set-lt : (n : ℕ) (xs : List ℕ) (i v : ℕ) → i < n → drop n (set xs i v) ≡ drop n xs
-drop-set-lt zero xs i v lt = absurd (omega (arith, lt))
-drop-set-lt (suc n) [] i v lt = refl
-drop-set-lt (suc n) (x ∷ xs) zero v lt = refl
-drop-set-lt (suc n) (x ∷ xs) (suc i) v lt = drop-set-lt n xs i v (omega (arith, lt))
-
--- other filed slots and store buffers
-pub stands_logged : (m : Areas) (c : Contents) (s : State) (l : Places) (n : ℕ) (sets : List ℕ) (buffers : List (List ℕ)) → StandsAs m c s l → SetsStand m (set c.heads SET_ENTRIES n) sets → All (λ (es : List ℕ). length es ≤ BUFFER_ENTRIES) buffers → (let x : Contents = record c { heads = set c.heads SET_ENTRIES n; sets = sets; buffers = buffers } in StandsAs m x s l)
-stands_logged m c s l n sets buffers h stand few =
-    let claims : claim_counter (set c.heads SET_ENTRIES n) ≡ claim_counter c.heads = get_or-set_other c.heads SET_ENTRIES CLAIM_COUNTER n 0 (λ e. omega (arith, e)) in
-    let count : pool_length (set c.heads SET_ENTRIES n) ≡ pool_length c.heads = get_or-set_other c.heads SET_ENTRIES POOL_LENGTH n 0 (λ e. omega (arith, e)) in
-    let unused : unused_heads (set c.heads SET_ENTRIES n) ≡ unused_heads c.heads = drop-set-lt 4 c.heads SET_ENTRIES n (omega arith) in
-    let free : free_pages (set c.heads SET_ENTRIES n) c.pool ≡ free_pages c.heads c.pool = rw (claims, count) refl in
-    record {
-      heap = h.heap;
-      open_spaces = h.open_spaces;
-      closed = h.closed;
-      stacks = h.stacks;
-      depths = h.depths;
-      made = h.made;
-      serials = h.serials;
-      threads = h.threads;
-      names = h.names;
-      limits = record { depths = h.limits.depths; stacks = h.limits.stacks; buffers = few };
-      zero = record { heads = subst (All (λ w. w ≡ 0)) (sym unused) h.zero.heads; blocks = h.zero.blocks };
-      pool = record {
-        within = rw count h.pool.within;
-        passed = rw (claims, count) h.pool.passed;
-        free = rw free h.pool.free;
-        once = rw free h.pool.once;
-      };
-      currents = h.currents;
-      sets = stand;
-      dense = h.dense;
-    }
 
 pub none_logged : (m : Areas) (c filing : Contents) → filing ≡ with_no_logs m (with_sets c filing) → AreFiled filing.buffers
 none_logged m c filing others = subst AreFiled (sym (ap (λ (x : Contents). x.buffers) others)) (λ k d lt. get_or-replicate m.threads k nil d (omega (arith, lt, length-replicate m.threads nil)))
@@ -158,7 +87,7 @@ module _ (m : Areas) (c filing : Contents) (s : SpaceState) (st : Stands m c s) 
   forth : (a : ℕ) → IsRecorded filing.heads filing.sets filing.buffers a → IsRecorded c.heads c.sets c.buffers a
   forth a h = ⊎_elim
       (λ (f : IsFiled filing a). (filed a).0 f)
-      (λ (f : Contains (entries_of filing.buffers) a). absurd (none_left m.threads a (subst (λ (bs : List (List ℕ)). Contains (entries_of bs) a) (ap (λ (x : Contents). x.buffers) others) f)))
+      (λ (f : Contains (entries_of filing.buffers) a). absurd (no_entry m.threads a (subst (λ (bs : List (List ℕ)). Contains (entries_of bs) a) (ap (λ (x : Contents). x.buffers) others) f)))
       h
 
   back : (a : ℕ) → IsRecorded c.heads c.sets c.buffers a → IsRecorded filing.heads filing.sets filing.buffers a
@@ -171,7 +100,7 @@ module _ (m : Areas) (c filing : Contents) (s : SpaceState) (st : Stands m c s) 
     stands =
         let same_heads : filing.heads ≡ set c.heads SET_ENTRIES (set_entries filing.heads) = ap (λ (x : Contents). x.heads) others in
         let whole : filing ≡ record c { heads = set c.heads SET_ENTRIES (set_entries filing.heads); sets = filing.sets; buffers = filing.buffers } = others ∙ ap (λ bs. record c { heads = set c.heads SET_ENTRIES (set_entries filing.heads); sets = filing.sets; buffers = bs }) (sym (ap (λ (x : Contents). x.buffers) others)) in
-        subst (λ (x : Contents). StandsAs m x (view s) st.places) (sym whole) (stands_logged m c (view s) st.places (set_entries filing.heads) filing.sets filing.buffers st.stands (subst (λ (hs : List ℕ). SetsStand m hs filing.sets) same_heads sets) limits.buffers);
+        subst (λ (x : Contents). StandsAs m x (view s) st.places) (sym whole) (stands-with_logs m c (view s) st.places (set_entries filing.heads) filing.sets filing.buffers st.stands (subst (λ (hs : List ℕ). SetsStand m hs filing.sets) same_heads sets) limits.buffers);
   }
 
   pub filed_recorded : Recorded m filing s filed_stands

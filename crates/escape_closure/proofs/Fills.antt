@@ -1,18 +1,14 @@
 -- Regions stay half full where objects are placed, for any count of the words of their objects.
-use Rattle.std.proofs.Common.{◌≡◌, ◌≢◌, ◌==◌, ℕ, zero, suc, ◌+◌, ◌-◌, ◌≤◌, ◌<◌, cond, List, [], length, get_or, set, slice_index, refl, sym, ap, ◌∙◌, subst, arith, inl, inr, ◌⊎◌, ⊎_elim}
+use Rattle.std.proofs.Common.{◌≡◌, ◌≢◌, ℕ, ◌+◌, ◌-◌, ◌≤◌, ◌<◌, List, length, get_or, set, refl, sym, ap, ◌∙◌, subst, arith, ⊎_elim}
 use Rattle.std.proofs.lemmas.Bool.{cases_eq}
-use Rattle.std.proofs.lemmas.Bool.Decides.{nat_tests}
-use Rattle.std.proofs.lemmas.List.{get_or-set_other, length-set}
-use Rattle.std.proofs.lemmas.List.Sums.{sum_by-set}
+use Rattle.std.proofs.lemmas.List.{length-set}
 use Rattle.heap_words.specs.declared.map.Areas.{Areas}
-use Rattle.heap_words.specs.Map.{IsAreas, HasThread, max_depth, page_words}
+use Rattle.heap_words.specs.Map.{IsAreas, HasThread, max_depth}
 use Rattle.heap_words.specs.Cells.{row, row_set}
 use Rattle.heap_words.specs.Contents.{Contents}
-use Rattle.epoch_lattice.specs.declared.TheConstants.{MAX_DEPTH}
 use Rattle.epoch_lattice.specs.declared.Space.{Space}
 use Rattle.epoch_lattice.specs.declared.Space.TheVariants.{Region}
-use Rattle.epoch_lattice.specs.Lattice.{IsValid, space_index, inner_of}
-use Rattle.epoch_lattice.proofs.Numbers.{number-own}
+use Rattle.epoch_lattice.specs.Lattice.{space_index, inner_of}
 use Rattle.yak_model.specs.Placed.{space_word, used_mark}
 use Rattle.yak_model.specs.Stands.{current, free_pages, PoolStands, CurrentsStand, pages_of}
 use Rattle.yak_model.specs.Packed.{IsSpaceOf}
@@ -21,48 +17,8 @@ use Rattle.region_pages.proofs.Shapes.{Shape}
 use Rattle.region_pages.proofs.Entries.{used-with_used, used-with_used_other, entry-same, entry-other, current-cases}
 use Rattle.region_pages.proofs.Claims.{entry, free_page}
 use Rattle.region_pages.proofs.Placing.{current_within, depth_fits, inner_is, not_current}
-use Rattle.region_pages.proofs.Released.{inner_region, inner_valid}
+use Rattle.region_pages.proofs.Dense.{left_some, other_region, own_region, pages-entered_other, pages-entered_own, pages-used, same_region, some_left}
 use Rattle.escape_closure.specs.Planning.{DenseIn}
-
--- the pages of a space after a used mark is written, and after a free page is entered
-pages-used : (table : List (List ℕ)) (p u : ℕ) (y : Space) → p < length table → pages_of (row_set table p 1 u) y ≡ pages_of table y
-pages-used table p u y lt =
-    let f : List ℕ → ℕ = λ r. cond (slice_index r 0 == space_index y + 1) 1 0 in
-    let changed = sum_by-set f table p (set (row table p) 1 u) [] lt in
-    let same : f (set (row table p) 1 u) ≡ f (row table p) = ap (λ (w : ℕ). cond (w == space_index y + 1) 1 0) (get_or-set_other (row table p) 1 0 u 0 (omega arith)) in
-    omega (arith, changed, same)
-
-abbrev hit : ℕ → ℕ → ℕ
-hit a b = cond (a == b) 1 0
-
-tests_apart : (a b : ℕ) → a ≢ b → hit a b ≡ 0
-tests_apart a b ne = grind (arith, nat_tests)
-
-tests_same : (a b : ℕ) → a ≡ b → hit a b ≡ 1
-tests_same a b e = grind (arith, nat_tests)
-
-pages-entered_own : (table : List (List ℕ)) (p : ℕ) (x : Space) → p < length table → space_word table p ≡ 0 → pages_of (set table p (entry x)) x ≡ pages_of table x + 1
-pages-entered_own table p x lt free =
-    let f : List ℕ → ℕ = λ r. cond (slice_index r 0 == space_index x + 1) 1 0 in
-    let changed = sum_by-set f table p (entry x) [] lt in
-    let before : f (row table p) ≡ 0 = tests_apart (space_word table p) (space_index x + 1) (omega arith) in
-    let after : f (entry x) ≡ 1 = tests_same (space_index x + 1) (space_index x + 1) refl in
-    omega (arith, changed, before, after)
-
-pages-entered_other : (table : List (List ℕ)) (p : ℕ) (x y : Space) → p < length table → space_word table p ≡ 0 → space_index x ≢ space_index y → pages_of (set table p (entry x)) y ≡ pages_of table y
-pages-entered_other table p x y lt free ne =
-    let f : List ℕ → ℕ = λ r. cond (slice_index r 0 == space_index y + 1) 1 0 in
-    let changed = sum_by-set f table p (entry x) [] lt in
-    let before : f (row table p) ≡ 0 = tests_apart (space_word table p) (space_index y + 1) (omega arith) in
-    let after : f (entry x) ≡ 0 = tests_apart (space_index x + 1) (space_index y + 1) (omega arith) in
-    omega (arith, changed, before, after)
-
--- whether a region is the one of a thread at a depth
-same_region : (v e t d : ℕ) → ((v ≡ t) × (e ≡ d)) ⊎ ((v ≡ t) × (e ≡ d) → ⊥)
-same_region v e t d =
-    ⊎_elim (λ (p : v ≡ t). ⊎_elim (λ (q : e ≡ d). inl (p, q)) (λ (ne : e ≢ d). inr (λ h. ne h.1)) (cases_eq e d))
-    (λ (ne : v ≢ t). inr (λ h. ne h.0))
-    (cases_eq v t)
 
 -- an object was placed in the current page
 pub dense-in_current : (m : Areas) (c : Contents) (words words' : Space → ℕ) (t d page size : ℕ) → Shape m c → HasThread m t → page < m.pages → current c.currents t d ≡ page + 1 → CurrentsStand m c.currents c.table → ((y : Space) → words y ≤ words' y) → (1 ≤ d → words (Region t d) + size ≤ words' (Region t d)) → DenseIn m c.table c.currents words → DenseIn m (row_set c.table page 1 (used_mark c.table page + size)) c.currents words'
@@ -85,19 +41,6 @@ dense-in_current m c words words' t d page size s ht lt at stands more own dense
     let mark = used-with_used_other c.table page (current c.currents v e - 1) u apart in
     (old.0, omega (arith, old.1, count, mark, more y)))
     (same_region v e t d)
-
-own_region : (t d v e : ℕ) → 1 ≤ e → t ≡ v → d ≡ e → inner_of t d ≡ Region v e
-own_region t zero v e he p q = absurd (omega arith)
-own_region t (suc d) v e he p q = ap (λ (k : ℕ). Region k (suc d)) p ∙ ap (λ (k : ℕ). Region v k) q
-
-other_region : (m : Areas) (v e t d : ℕ) → IsAreas m → HasThread m t → d ≤ max_depth m → 1 ≤ v → v ≤ m.threads → 1 ≤ e → e ≤ max_depth m → ((v ≡ t) × (e ≡ d) → ⊥) → space_index (inner_of t d) ≡ space_index (Region v e) → ⊥
-other_region m v e t d areas ht hd hv lv he le apart same =
-    let region : IsValid MAX_DEPTH (Region v e) = (hv, omega (arith, areas.3, lv), he, omega (arith, le)) in
-    let is = inner_region t d v e (number-own (inner_of t d) (Region v e) (inner_valid m t d areas ht hd) region same) in
-    apart (sym is.0, sym is.1)
-
-left_some : (m : Areas) (c : Contents) (t d : ℕ) → current c.currents t d ≢ 0 → words_left_at m c t d ≡ page_words m - used_mark c.table (current c.currents t d - 1)
-left_some m c t d some = grind (arith, nat_tests)
 
 -- an object was placed on a claimed page
 pub dense-on_claimed : (m : Areas) (c : Contents) (words words' : Space → ℕ) (t d page size : ℕ) → Shape m c → IsAreas m → HasThread m t → d ≤ max_depth m → page < m.pages → space_word c.table page ≡ 0 → words_left_at m c t d < size → CurrentsStand m c.currents c.table → ((y : Space) → words y ≤ words' y) → (1 ≤ d → words (Region t d) + size ≤ words' (Region t d)) → DenseIn m c.table c.currents words → DenseIn m (row_set (set c.table page (entry (inner_of t d))) page 1 size) (row_set c.currents (t - 1) d (page + 1)) words'
@@ -137,9 +80,6 @@ dense-on_claimed m c words words' t d page size s areas ht hd lt free few stands
     let mark' = ap (λ (k : ℕ). used_mark (row_set entered page 1 size) (k - 1)) w.1 in
     (λ z. old.0 (sym w.1 ∙ z), omega (arith, old.1, count, kept, mark, mark', more y)))
     (current-cases c.currents t d v e (page + 1) ht.0 hv inside slot)
-
-some_left : (m : Areas) (c : Contents) (t d size : ℕ) → 1 ≤ size → size ≤ words_left_at m c t d → current c.currents t d ≢ 0
-some_left m c t d size least fits = grind (arith, nat_tests)
 
 -- an object was placed, and its words count for its region
 pub dense-placed : (m : Areas) (c after : Contents) (words words' : Space → ℕ) (t : ℕ) (x : Space) (size a : ℕ) → Shape m c → IsAreas m → HasThread m t → IsSpaceOf m x → IsOwn t x → 1 ≤ size → PoolStands m c.heads c.pool c.table → CurrentsStand m c.currents c.table → ((y : Space) → words y ≤ words' y) → (1 ≤ depth_in x → words x + size ≤ words' x) → IsPlaced m c t x size a after → DenseIn m c.table c.currents words → DenseIn m after.table after.currents words'

@@ -42,7 +42,6 @@ pub mod Releases
 pub mod Records
 pub mod RegionLeaves
 pub mod Outcomes
-pub mod RunsTold
 pub mod TightReadies
 pub mod SlidPages
 pub mod TightLeaves

@@ -36,7 +36,7 @@ use Rattle.escape_closure.proofs.Counting.{counts_listed}
 use Rattle.escape_closure.proofs.Fates.{OneEach, drops_rest, one_each}
 use Rattle.escape_closure.proofs.Keeps.{closed_kept}
 use Rattle.escape_closure.proofs.Reaches.{reached_here}
-use Rattle.escape_closure.proofs.RunsTold.{runs-told}
+use Rattle.relocation.proofs.RunsTold.{runs-told}
 use Rattle.escape_closure.proofs.Readies.{still_holds}
 
 same_space : (a b : Space) → Some a ≡ Some b → a ≡ b

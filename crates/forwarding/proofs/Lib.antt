@@ -4,4 +4,5 @@ pub mod Reshaping
 pub mod StackSteps
 pub mod TableSteps
 pub mod Anew
+pub mod Logs
 pub mod Filled

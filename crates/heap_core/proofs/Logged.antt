@@ -1,35 +1,28 @@
 -- Slots that are recorded, over what is shown of states.
-use Rattle.std.proofs.Common.{◌≡◌, ◌⊎◌, ◌↔◌, inl, inr, ℕ, zero, suc, ◌+◌, ◌-◌, ◌≤◌, ◌<◌, Result, Ok, Err, List, [], ◌∷◌, ◌++◌, take, length, get_or, set, replicate, refl, sym, ap, subst, ◌∙◌, arith, get_or-set_other}
+use Rattle.std.proofs.Common.{◌≡◌, ◌⊎◌, ◌↔◌, inl, inr, ℕ, zero, suc, ◌+◌, ◌-◌, ◌<◌, Result, Ok, Err, List, [], ◌∷◌, ◌++◌, take, length, get_or, set, replicate, refl, sym, ap, subst, ◌∙◌, arith}
 use Rattle.std.specs.Prelude.{MatchResult}
-use Rattle.std.specs.List.{All, Contains, flat_map}
-use Rattle.std.proofs.Props.{props}
-use Rattle.std.proofs.Math.Logic.{⊎_elim, ∥∥₁_elim}
-use Rattle.std.proofs.lemmas.List.{drop-set-lt, get_or_default, get_or-replicate, length-replicate}
+use Rattle.std.specs.List.{Contains}
+use Rattle.std.proofs.Math.Logic.{⊎_elim}
+use Rattle.std.proofs.lemmas.List.{get_or-replicate, length-replicate}
 use Rattle.std.proofs.lemmas.List.Elements.{Contains-append_left, Contains-append_right, Contains-append_cases}
 use Rattle.object_layout.specs.declared.names.Name.{Name}
 use Rattle.object_layout.specs.declared.TheConstants.{OBJECT_WORDS}
-use Rattle.region_pages.specs.declared.TheConstants.{CLAIM_COUNTER, POOL_LENGTH}
 use Rattle.heap_words.specs.declared.map.Areas.{Areas}
 use Rattle.heap_words.specs.declared.TheConstants.{BUFFER_ENTRIES}
-use Rattle.heap_words.specs.Map.{HasThread, heap_length}
+use Rattle.heap_words.specs.Map.{HasThread}
 use Rattle.heap_words.specs.Contents.{Contents, buffer_of, with_buffer}
-use Rattle.yak_model.specs.State.{State, view}
-use Rattle.yak_model.specs.Placed.{Places}
-use Rattle.yak_model.specs.Stands.{SetsStand, StandsAs, claim_counter, free_pages, pool_length, set_entries, unused_heads}
+use Rattle.yak_model.specs.State.{State}
+use Rattle.yak_model.specs.Stands.{set_entries}
 use Rattle.yak_model.specs.Recorded.{IsField, IsReader, IsRecorded, RecordedAs}
-use Rattle.yak_model.proofs.Data.{in_heap}
-use Rattle.remember_sets.specs.declared.TheConstants.{SET_ENTRIES}
 use Rattle.remember_sets.specs.Filed.{IsFiled, logged, with_no_logs, with_sets}
 use Rattle.region_pages.proofs.Claims.{Contains-cases, Contains-front}
+use Rattle.forwarding.proofs.Logs.{buffers-told, entries_of, no_entry, sets-told}
 use Rattle.heap_core.specs.Records.{FilesBefore, Logs, LogsHold, LogsInto, SameRecords, SomeRecorded}
 
 -- ---- entries of buffers
 
 abbrev nil : List ℕ
 nil = []
-
-abbrev pub entries_of : List (List ℕ) → List ℕ
-entries_of bs = flat_map (λ (b : List ℕ). b) bs
 
 one_of : (a x : ℕ) → Contains (a ∷ []) x → x ≡ a
 one_of a x h = ⊎_elim (λ (e : a ≡ x). sym e) (λ (i : Contains [] x). let lt : i.0 < 0 = i.1 in absurd (omega (arith, lt))) (Contains-cases [] a x h)
@@ -63,10 +56,6 @@ more_back (b ∷ bs) (suc i) a x lt h = ⊎_elim
     (λ (e : x ≡ a). Contains-append_right b (entries_of (set bs i (get_or bs i [] ++ a ∷ []))) x (more_back bs i a x (omega (arith, lt)) (inr e)))
     h
 
-pub none_left : (n x : ℕ) → Contains (entries_of (replicate n [])) x → ⊥
-none_left zero x h = let lt : h.0 < 0 = h.1 in absurd (omega (arith, lt))
-none_left (suc n) x h = none_left n x h
-
 -- a slot is recorded afterwards where it was before, and the new one is
 pub adds : (m : Areas) (c d : Contents) (t a : ℕ) → HasThread m t → length c.buffers ≡ m.threads → Logs m c d t a → (b : ℕ) → IsRecorded d.heads d.sets d.buffers b ↔ (IsRecorded c.heads c.sets c.buffers b ⊎ (b ≡ a))
 adds m c d t a ht long logs b =
@@ -94,7 +83,7 @@ adds m c d t a ht long logs b =
     let more : entries_of d.buffers ≡ entries_of (set none (t - 1) (get_or none (t - 1) [] ++ a ∷ [])) = ap entries_of (l.buffers ∙ ap (λ (es : List ℕ). set none (t - 1) (es ++ a ∷ [])) (sym empty)) in (
       λ h. ⊎_elim
           (λ (f : IsFiled d b). ⊎_elim (λ (g : IsFiled c b). inl (inl g)) (λ (g : Contains (logged c) b). inl (inr g)) ((l.filed b).0 f))
-          (λ (f : Contains (entries_of d.buffers) b). ⊎_elim (λ (g : Contains (entries_of none) b). absurd (none_left m.threads b g)) (λ (e : b ≡ a). inr e) (more_forth none (t - 1) a b some (subst (λ (l' : List ℕ). Contains l' b) more f)))
+          (λ (f : Contains (entries_of d.buffers) b). ⊎_elim (λ (g : Contains (entries_of none) b). absurd (no_entry m.threads b g)) (λ (e : b ≡ a). inr e) (more_forth none (t - 1) a b some (subst (λ (l' : List ℕ). Contains l' b) more f)))
           h,
       λ h. ⊎_elim
           (λ (f : IsRecorded c.heads c.sets c.buffers b). inl ((l.filed b).1 f))
@@ -128,38 +117,6 @@ recorded-same m c d s at same r =
       closed = λ u e hu hm he lt. ap (λ (rs : List (List ℕ)). get_or (get_or rs (u - 1) []) (e - 1) 0) same.readers ∙ r.closed u e hu hm he lt;
     }
 
--- ---- the words
-
--- other filed slots and store buffers
-pub stands-with_logs : (m : Areas) (c : Contents) (s : State) (l : Places) (n : ℕ) (sets : List ℕ) (buffers : List (List ℕ)) → StandsAs m c s l → SetsStand m (set c.heads SET_ENTRIES n) sets → All (λ (es : List ℕ). length es ≤ BUFFER_ENTRIES) buffers → (let x : Contents = record c { heads = set c.heads SET_ENTRIES n; sets = sets; buffers = buffers } in StandsAs m x s l)
-stands-with_logs m c s l n sets buffers h stand few =
-    let claims : claim_counter (set c.heads SET_ENTRIES n) ≡ claim_counter c.heads = get_or-set_other c.heads SET_ENTRIES CLAIM_COUNTER n 0 (λ e. omega (arith, e)) in
-    let count : pool_length (set c.heads SET_ENTRIES n) ≡ pool_length c.heads = get_or-set_other c.heads SET_ENTRIES POOL_LENGTH n 0 (λ e. omega (arith, e)) in
-    let unused : unused_heads (set c.heads SET_ENTRIES n) ≡ unused_heads c.heads = drop-set-lt 4 c.heads SET_ENTRIES n (omega arith) in
-    let free : free_pages (set c.heads SET_ENTRIES n) c.pool ≡ free_pages c.heads c.pool = rw (claims, count) refl in
-    record {
-      heap = h.heap;
-      open_spaces = h.open_spaces;
-      closed = h.closed;
-      stacks = h.stacks;
-      depths = h.depths;
-      made = h.made;
-      serials = h.serials;
-      threads = h.threads;
-      names = h.names;
-      limits = record { depths = h.limits.depths; stacks = h.limits.stacks; buffers = few };
-      zero = record { heads = subst (All (λ w. w ≡ 0)) (sym unused) h.zero.heads; blocks = h.zero.blocks };
-      pool = record {
-        within = rw count h.pool.within;
-        passed = rw (claims, count) h.pool.passed;
-        free = rw free h.pool.free;
-        once = rw free h.pool.once;
-      };
-      currents = h.currents;
-      sets = stand;
-      dense = h.dense;
-    }
-
 -- ---- a slot is put into a buffer after all were filed
 
 pub after_filing : {F : Type 0} (m : Areas) (c e d : Contents) (t a : ℕ) (r : Result (Unit {0}) F) (same : Type 0) → HasThread m t → length (buffer_of c t) ≡ BUFFER_ENTRIES → ((b : ℕ) → IsFiled e b ↔ (IsFiled c b ⊎ Contains (logged c) b)) → e ≡ with_no_logs m (with_sets c e)
@@ -179,22 +136,5 @@ after_filing m c e d t a (Err x) same ht full filed others done =
 
 -- ---- what words that stand for some state show of the slots
 
-member : (bs : List (List ℕ)) (k j : ℕ) (d : ℕ) → k < length bs → j < length (get_or bs k []) → Contains (entries_of bs) (get_or (get_or bs k []) j d)
-member [] k j d lt lj = absurd (omega (arith, lt))
-member (b ∷ bs) zero j d lt lj = Contains-append_left b (entries_of bs) (get_or b j d) (j, lj, get_or_default b j (get_or b j d) d lj)
-member (b ∷ bs) (suc k) j d lt lj = Contains-append_right b (entries_of bs) (get_or (get_or bs k []) j d) (member bs k j d (omega (arith, lt)) lj)
-
 pub hold-told : (m : Areas) (c : Contents) → SomeRecorded m c → LogsHold m c
-hold-told m c some = (
-  record {
-    within = ∥∥₁_elim some (hlevel props) (λ q. q.1.stands.sets.within);
-    listed = λ k lt. ∥∥₁_elim some (hlevel props) (λ q. q.1.stands.sets.listed k lt);
-    placed = λ a lt ne. ∥∥₁_elim some (hlevel props) (λ q. q.1.stands.sets.placed a lt ne);
-  },
-  λ k es lk j d lj. ∥∥₁_elim some (hlevel props) (λ q.
-      let here : get_or c.buffers k es ≡ get_or c.buffers k [] = get_or_default c.buffers k es [] lk in
-      let lj' : j < length (get_or c.buffers k []) = subst (λ (l : List ℕ). j < length l) here lj in
-      let f = q.2.fields (get_or (get_or c.buffers k []) j d) (inr (member c.buffers k j d lk lj')) in
-      let a : get_or (get_or c.buffers k []) j d < heap_length m = omega (arith, f.4, f.5, in_heap m c (view q.0) q.1.places f.0 f.1 q.1.stands f.3) in
-      subst (λ (l : List ℕ). get_or l j d < heap_length m) (sym here) a),
-)
+hold-told m c some = (sets-told m c some, buffers-told m c some)

@@ -14,7 +14,7 @@ use Rattle.yak_model.specs.Recorded.{RecordedAs}
 use Rattle.yak_model.specs.declared.TheConstants.{ROOT_FIELDS}
 use Rattle.heap_core.specs.Opening.{Counts, opened}
 use Rattle.heap_core.specs.Records.{StandsRecorded}
-use Rattle.heap_core.proofs.Logged.{entries_of, none_left}
+use Rattle.forwarding.proofs.Logs.{entries_of, no_entry}
 use Rattle.heap_core.proofs.Opening.{nulls, only_root, opening, opening_stands, view-opening, zeros}
 
 no_readers : (k n q d : ℕ) → get_or (get_or (replicate k (replicate n (let z : ℕ = 0 in z))) q []) d 0 ≡ 0
@@ -36,7 +36,7 @@ recorded-opening m pool at = record {
   crossing = λ n x o p f en lt e ex enters. absurd (null_refers x (sym (nulls ROOT_FIELDS f) ∙ ap (λ (t : Thing). get_or t.fields f Null) (only_root n o en).1 ∙ e));
   fields = λ a h. absurd (⊎_elim
       (λ (f : Contains [] a). none_in a f)
-      (λ (f : Contains (entries_of (replicate m.threads [])) a). none_left m.threads a f)
+      (λ (f : Contains (entries_of (replicate m.threads [])) a). no_entry m.threads a f)
       h);
   read = λ t u d k x p ht hm hk e ex home ne. absurd (control_region u d (ap (λ (y : Thing). y.home) (only_root x p ex).1 ∙ home));
   closed = λ u d hu hm hd lt. no_readers m.threads (max_depth m) (u - 1) (d - 1);

@@ -30,7 +30,8 @@ use Rattle.heap_core.specs.Fields.{IsFieldOf}
 use Rattle.heap_core.specs.Records.{Crosses, FilesBefore, IsStored, Logs, LogsInto, RecordsSlot, SameRecords, home_at, with_logs}
 use Rattle.heap_core.specs.Room.{SameRoom}
 use Rattle.heap_core.proofs.Homes.{home-shown}
-use Rattle.heap_core.proofs.Logged.{recorded-logged, recorded-same, slot_recorded, stands-with_logs}
+use Rattle.forwarding.proofs.Logs.{stands-with_logs}
+use Rattle.heap_core.proofs.Logged.{recorded-logged, recorded-same, slot_recorded}
 use Rattle.heap_core.proofs.Reached.{field_within}
 use Rattle.heap_core.proofs.Steps.{good_slot, not-idle, thread_in}
 use Rattle.heap_core.proofs.Stores.{recorded-stored}

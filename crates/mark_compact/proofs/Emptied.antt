@@ -23,7 +23,7 @@ use Rattle.forwarding.proofs.Anew.{pool_anew}
 use Rattle.mark_compact.specs.Collected.{CurrentsCollected, IsFilledOrFree, RoomCollected}
 use Rattle.mark_compact.specs.Collecting.{Cleared, ControlPages, IsLast}
 use Rattle.mark_compact.specs.declared.sliding.TheConstants.{CONTROL_WORD}
-use Rattle.mark_compact.proofs.Logged.{none-long}
+use Rattle.std.proofs.lemmas.List.Elements.{All-replicate}
 
 -- what a slide leaves of other words than those of objects
 pub record Left (m : Areas) (c1 c2 : Contents) : Type 0 where
@@ -129,7 +129,7 @@ module _ (m : Areas) (c0 c1 c2 c3 c4 : Contents) (t last : ℕ) (ht : HasThread 
   room-collected =
       let buffers : c4.buffers ≡ replicate m.threads [] = ap (λ (x : Contents). x.buffers) others ∙ ap (λ (x : Contents). x.buffers) pages.frame ∙ ∥∥₁_elim some (hlevel props) (λ f. ap (λ (x : Contents). x.buffers) f.frame) ∙ ap (λ (x : Contents). x.buffers) cleared.others in
       record {
-        filed = subst (All (λ (es : List ℕ). es ≡ [])) (sym buffers) (none-long m.threads);
+        filed = subst (All (λ (es : List ℕ). es ≡ [])) (sym buffers) (All-replicate (λ (es : List ℕ). es ≡ []) m.threads [] refl);
         readers = ap (λ (x : Contents). x.readers) others ∙ ap (λ (x : Contents). x.readers) pages.frame ∙ ∥∥₁_elim some (hlevel props) (λ f. ap (λ (x : Contents). x.readers) f.frame) ∙ ap (λ (x : Contents). x.readers) cleared.others;
         currents = currents-collected;
         control = λ p lt own. subst (λ (tb : List (List ℕ)). IsFilledOrFree tb p) (sym table4) (control2 p lt own);

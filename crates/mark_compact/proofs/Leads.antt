@@ -33,7 +33,7 @@ use Rattle.forwarding.specs.Corrected.{IsFieldIn, IsRegional, RegionRuns, Region
 use Rattle.mark_compact.specs.Collecting.{Planned}
 use Rattle.mark_compact.specs.declared.sliding.TheConstants.{CONTROL_WORD}
 use Rattle.mark_compact.proofs.Drops.{control_case}
-use Rattle.mark_compact.proofs.RunsTold.{one_end, run-told}
+use Rattle.relocation.proofs.RunsTold.{one_end, run-told}
 use Rattle.mark_compact.proofs.Slides
 use Rattle.mark_compact.proofs.Whole.{laid}
 

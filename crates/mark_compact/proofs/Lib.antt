@@ -8,7 +8,6 @@ pub mod Lives
 pub mod Whole
 pub mod Tables
 pub mod Drops
-pub mod RunsTold
 pub mod Slides
 pub mod Leads
 pub mod Lies

@@ -26,7 +26,7 @@ use Rattle.region_pages.proofs.Placing.{current_within, depth_fits, inner_is, no
 use Rattle.region_pages.proofs.Released.{inner_region, inner_valid}
 
 -- the pages of a space after a used mark is written, and after a free page is entered
-pages-used : (table : List (List ℕ)) (p u : ℕ) (y : Space) → p < length table → pages_of (row_set table p 1 u) y ≡ pages_of table y
+pub pages-used : (table : List (List ℕ)) (p u : ℕ) (y : Space) → p < length table → pages_of (row_set table p 1 u) y ≡ pages_of table y
 pages-used table p u y lt =
     let f : List ℕ → ℕ = λ r. cond (slice_index r 0 == space_index y + 1) 1 0 in
     let changed = sum_by-set f table p (set (row table p) 1 u) [] lt in
@@ -42,7 +42,7 @@ tests_apart a b ne = grind (arith, nat_tests)
 tests_same : (a b : ℕ) → a ≡ b → hit a b ≡ 1
 tests_same a b e = grind (arith, nat_tests)
 
-pages-entered_own : (table : List (List ℕ)) (p : ℕ) (x : Space) → p < length table → space_word table p ≡ 0 → pages_of (set table p (entry x)) x ≡ pages_of table x + 1
+pub pages-entered_own : (table : List (List ℕ)) (p : ℕ) (x : Space) → p < length table → space_word table p ≡ 0 → pages_of (set table p (entry x)) x ≡ pages_of table x + 1
 pages-entered_own table p x lt free =
     let f : List ℕ → ℕ = λ r. cond (slice_index r 0 == space_index x + 1) 1 0 in
     let changed = sum_by-set f table p (entry x) [] lt in
@@ -50,7 +50,7 @@ pages-entered_own table p x lt free =
     let after : f (entry x) ≡ 1 = tests_same (space_index x + 1) (space_index x + 1) refl in
     omega (arith, changed, before, after)
 
-pages-entered_other : (table : List (List ℕ)) (p : ℕ) (x y : Space) → p < length table → space_word table p ≡ 0 → space_index x ≢ space_index y → pages_of (set table p (entry x)) y ≡ pages_of table y
+pub pages-entered_other : (table : List (List ℕ)) (p : ℕ) (x y : Space) → p < length table → space_word table p ≡ 0 → space_index x ≢ space_index y → pages_of (set table p (entry x)) y ≡ pages_of table y
 pages-entered_other table p x y lt free ne =
     let f : List ℕ → ℕ = λ r. cond (slice_index r 0 == space_index y + 1) 1 0 in
     let changed = sum_by-set f table p (entry x) [] lt in
@@ -59,7 +59,7 @@ pages-entered_other table p x y lt free ne =
     omega (arith, changed, before, after)
 
 -- whether a region is the one of a thread at a depth
-same_region : (v e t d : ℕ) → ((v ≡ t) × (e ≡ d)) ⊎ ((v ≡ t) × (e ≡ d) → ⊥)
+pub same_region : (v e t d : ℕ) → ((v ≡ t) × (e ≡ d)) ⊎ ((v ≡ t) × (e ≡ d) → ⊥)
 same_region v e t d =
     ⊎_elim (λ (p : v ≡ t). ⊎_elim (λ (q : e ≡ d). inl (p, q)) (λ (ne : e ≢ d). inr (λ h. ne h.1)) (cases_eq e d))
     (λ (ne : v ≢ t). inr (λ h. ne h.0))
@@ -87,17 +87,19 @@ dense-in_current m c pages pages' objects objects' t d page size s ht lt at stan
     (old.0, omega (arith, old.1, count, mark, more y)))
     (same_region v e t d)
 
-own_region : (t d v e : ℕ) → 1 ≤ e → t ≡ v → d ≡ e → inner_of t d ≡ Region v e
+-- the inner space of a thread at a depth is its region there, and no other region
+pub own_region : (t d v e : ℕ) → 1 ≤ e → t ≡ v → d ≡ e → inner_of t d ≡ Region v e
 own_region t zero v e he p q = absurd (omega arith)
 own_region t (suc d) v e he p q = ap (λ (k : ℕ). Region k (suc d)) p ∙ ap (λ (k : ℕ). Region v k) q
 
-other_region : (m : Areas) (v e t d : ℕ) → IsAreas m → HasThread m t → d ≤ max_depth m → 1 ≤ v → v ≤ m.threads → 1 ≤ e → e ≤ max_depth m → ((v ≡ t) × (e ≡ d) → ⊥) → space_index (inner_of t d) ≡ space_index (Region v e) → ⊥
+pub other_region : (m : Areas) (v e t d : ℕ) → IsAreas m → HasThread m t → d ≤ max_depth m → 1 ≤ v → v ≤ m.threads → 1 ≤ e → e ≤ max_depth m → ((v ≡ t) × (e ≡ d) → ⊥) → space_index (inner_of t d) ≡ space_index (Region v e) → ⊥
 other_region m v e t d areas ht hd hv lv he le apart same =
     let region : IsValid MAX_DEPTH (Region v e) = (hv, omega (arith, areas.3, lv), he, omega (arith, le)) in
     let is = inner_region t d v e (number-own (inner_of t d) (Region v e) (inner_valid m t d areas ht hd) region same) in
     apart (sym is.0, sym is.1)
 
-left_some : (m : Areas) (c : Contents) (t d : ℕ) → current c.currents t d ≢ 0 → words_left_at m c t d ≡ page_words m - used_mark c.table (current c.currents t d - 1)
+-- the words left in a current page are those above its used mark
+pub left_some : (m : Areas) (c : Contents) (t d : ℕ) → current c.currents t d ≢ 0 → words_left_at m c t d ≡ page_words m - used_mark c.table (current c.currents t d - 1)
 left_some m c t d some = grind (arith, nat_tests)
 
 -- an object was placed on a claimed page
@@ -139,7 +141,8 @@ dense-on_claimed m c pages pages' objects objects' t d page size s areas ht hd l
     (λ z. old.0 (sym w.1 ∙ z), omega (arith, old.1, count, kept, mark, mark', more y)))
     (current-cases c.currents t d v e (page + 1) ht.0 hv inside slot)
 
-some_left : (m : Areas) (c : Contents) (t d size : ℕ) → 1 ≤ size → size ≤ words_left_at m c t d → current c.currents t d ≢ 0
+-- where words are left, there is a current page
+pub some_left : (m : Areas) (c : Contents) (t d size : ℕ) → 1 ≤ size → size ≤ words_left_at m c t d → current c.currents t d ≢ 0
 some_left m c t d size least fits = grind (arith, nat_tests)
 
 -- an object was placed, and its words count for its region

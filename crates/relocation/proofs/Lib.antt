@@ -7,6 +7,7 @@ pub mod Fitting
 pub mod Corrected
 pub mod Planned
 pub mod SlidObjects
+pub mod RunsTold
 pub mod SlidPages
 pub mod Slid
 pub mod FieldSteps

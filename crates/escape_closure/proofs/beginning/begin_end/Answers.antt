@@ -2,14 +2,15 @@ use Rattle.std.proofs.Math.Logic.{∥∥₁_map}
 use Rattle.std.proofs.Common.{length, ◌≡◌, arith, ap}
 use Rattle.heap_words.specs.Contents.{Contents, contents, depth_of, stack_of}
 use Rattle.heap_words.proofs.Contents.{length-sets}
-use Rattle.escape_closure.proofs.Filing.{begun, buffers_told, few_filed, filed_recorded, filed_stands, none_logged, sets_told}
+use Rattle.forwarding.proofs.Logs.{buffers-told, sets-told}
+use Rattle.escape_closure.proofs.Filing.{begun, few_filed, filed_recorded, filed_stands, none_logged}
 use Rattle.escape_closure.proofs.beginning.begin_end.Goals as goal
 
 pub file_logs-requires-clause-sets : goal.file_logs-requires-clause-sets
-file_logs-requires-clause-sets g c = sets_told c.args.map (contents c.args.map (g.W.Words.words c.args.words.now)) c.requires.recorded
+file_logs-requires-clause-sets g c = sets-told c.args.map (contents c.args.map (g.W.Words.words c.args.words.now)) c.requires.recorded
 
 pub file_logs-requires-clause-buffers : goal.file_logs-requires-clause-buffers
-file_logs-requires-clause-buffers g c = buffers_told c.args.map (contents c.args.map (g.W.Words.words c.args.words.now)) c.requires.recorded
+file_logs-requires-clause-buffers g c = buffers-told c.args.map (contents c.args.map (g.W.Words.words c.args.words.now)) c.requires.recorded
 
 pub targets-requires-clause-depth : goal.targets-requires-clause-depth
 targets-requires-clause-depth g c =

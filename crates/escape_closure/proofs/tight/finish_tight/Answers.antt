@@ -16,7 +16,7 @@ use Rattle.relocation.specs.Slide.{IsPageOf}
 use Rattle.yak_model.specs.Placed.{space_word}
 use Rattle.escape_closure.specs.Ends.{region_word}
 use Rattle.escape_closure.specs.Leaving.{Carried, ReadyToMove, objects_left}
-use Rattle.escape_closure.proofs.RunsTold.{header-told}
+use Rattle.relocation.proofs.RunsTold.{header-told}
 use Rattle.escape_closure.proofs.TightReadies.{tight_frame, tight_ready}
 use Rattle.escape_closure.proofs.TightLeaves.{all_data, held_settled, lands, moved_is, settled_sets, settled_table, shape_before, tight_ended}
 use Rattle.escape_closure.proofs.Written.{region_is}

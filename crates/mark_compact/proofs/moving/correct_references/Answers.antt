@@ -7,7 +7,7 @@ use Rattle.yak_model.specs.Plans.{forward, forwarded}
 use Rattle.relocation.specs.Moves.{heap_of, move_at, scratch_of}
 use Rattle.relocation.specs.Fields.{Lined, MovesCorrected}
 use Rattle.forwarding.specs.Corrected.{corrected_stacks}
-use Rattle.mark_compact.proofs.RunsTold.{lined-told}
+use Rattle.relocation.proofs.RunsTold.{lined-told}
 use Rattle.mark_compact.proofs.Slides.{frame, kept_objects}
 use Rattle.mark_compact.proofs.Leads.{holds-two, lined, region-runs-told, regions, stack-lead}
 use Rattle.mark_compact.proofs.moving.correct_references.Goals as goal

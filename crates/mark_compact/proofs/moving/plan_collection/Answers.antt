@@ -5,7 +5,7 @@ use Rattle.yak_model.specs.State.{view}
 use Rattle.mark_compact.specs.declared.sliding.TheConstants.{CONTROL_WORD}
 use Rattle.relocation.proofs.SlidLawful.{runs_of}
 use Rattle.mark_compact.proofs.Drops.{work, dropped, keeps, drops, unmarked, closed}
-use Rattle.mark_compact.proofs.RunsTold.{runs-told}
+use Rattle.relocation.proofs.RunsTold.{runs-told}
 use Rattle.mark_compact.proofs.moving.plan_collection.Goals as goal
 
 pub plan_slide-requires-clause-runs : goal.plan_slide-requires-clause-runs
