@@ -19,7 +19,7 @@ use Rattle.yak_model.specs.Recorded.{IsReader, IsRecorded, Recorded}
 use Rattle.remember_sets.specs.declared.TheConstants.{SET_ENTRIES}
 use Rattle.remember_sets.specs.Filed.{IsFiled, SetsHold, logged, with_no_logs, with_sets}
 use Rattle.forwarding.specs.Crossing.{AreFiled}
-use Rattle.forwarding.proofs.Logs.{entries_of, no_entry, stands-with_logs}
+use Rattle.standing_calls.proofs.Logs.{entries_of, no_entry, stands-with_logs}
 use Rattle.escape_closure.specs.Targets.{TargetsWritten}
 use Rattle.escape_closure.specs.Leaving.{Begun}
 

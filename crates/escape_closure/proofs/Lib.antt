@@ -37,6 +37,7 @@ pub mod Keeps
 pub mod Told
 pub mod Counting
 pub mod PlannedEnd
+pub mod NoMoves
 pub mod Readies
 pub mod Releases
 pub mod Records

@@ -173,3 +173,30 @@ pub fn plan_moves<W: Words>(words: &mut W, map: Areas, thread: u8) -> Result<Pla
     });
     plan_region(words, map, thread, region)
 }
+
+/// As `plan_moves`, where it is told how many objects escape: no page is looked at where these are none.
+///
+/// # Errors
+///
+/// `Shortage` exactly where the pages that this claims are more than the free ones, with both numbers. Then only words of the
+/// scratch area have changed.
+pub(crate) fn plan_escaping<W: Words>(
+    words: &mut W,
+    map: Areas,
+    thread: u8,
+    escaping: u32,
+) -> Result<Plan, Shortage>
+    requires sound { Sound map (W.words words.old) }
+    requires thread { HasThread map thread }
+    requires depth { 1 ≤ depth_of (contents map (W.words words.old)) thread }
+    requires aimed { ∥ ((s : SpaceState) × (before : Contents) × (stands : Stands map before s) × TargetsWritten map s stands.places thread before (contents map (W.words words.old)) escaping) ∥₁ }
+    ensures planned { let c = contents map (W.words words.old) in let d = contents map (W.words words.new) in (s : SpaceState) (before : Contents) (stands : Stands map before s) → TargetsWritten map s stands.places thread before c escaping → MatchResult result (λ plan. (plan.count ≡ escaping) × EndPlanned map c d s stands.places thread plan.count) (λ shortage. FallsShort map c s stands.places thread shortage × OnlyScratch c d) }
+    ensures reads { let c = contents map (W.words words.old) in (s : SpaceState) (before : Contents) (stands : Stands map before s) → TargetsWritten map s stands.places thread before c escaping → W.reads words.new ≤ W.reads words.old + (2 * map.pages + used_of c.table (innermost s.graph thread) + 12 * escaping + (1 + 2 * (MAX_SPACE + 2))) }
+    ensures sound { Sound map (W.words words.new) }
+    ensures base { W.base words.new ≡ W.base words.old }
+{
+    if escaping == 0 {
+        return Ok(empty_plan(words, map));
+    }
+    plan_moves(words, map, thread)
+}

@@ -15,7 +15,7 @@ use crate::beginning::begin_end;
 use crate::carrying::carry_out;
 use crate::clearing::clear_targets;
 use crate::closing::close_region;
-use crate::planning::plan_moves;
+use crate::planning::plan_escaping;
 use epoch_lattice::Space;
 use forwarding::record_moved;
 use heap_words::{Areas, Words};
@@ -64,8 +64,8 @@ pub fn end_region<W: Words>(words: &mut W, map: Areas, thread: u8) -> Result<u64
     ensures sound { Sound map (W.words words.new) }
     ensures base { W.base words.new ≡ W.base words.old }
 {
-    begin_end(words, map, thread);
-    match plan_moves(words, map, thread) {
+    let escaping = begin_end(words, map, thread);
+    match plan_escaping(words, map, thread, escaping) {
         Err(shortage) => {
             clear_targets(words, map, thread);
             Err(shortage)

@@ -9,6 +9,7 @@ use Rattle.region_pages.specs.Freeing.{free_below, pool_with}
 use Rattle.region_pages.specs.declared.TheConstants.{CLAIM_COUNTER, POOL_LENGTH}
 use Rattle.region_pages.proofs.Freed.{rebuilt_free}
 use Rattle.remember_sets.specs.declared.TheConstants.{SET_ENTRIES}
+use Rattle.standing_calls.proofs.Logs.{free_beside}
 use Rattle.forwarding.specs.Pool.{PoolAnew}
 
 -- the number of the filed slots is set last
@@ -18,13 +19,6 @@ last_entries (a ∷ []) n k e = refl
 last_entries (a ∷ b ∷ []) n k e = refl
 last_entries (a ∷ b ∷ c ∷ []) n k e = refl
 last_entries (a ∷ b ∷ c ∷ d ∷ h) n k e = refl
-
--- the pool depends on the heads by two words alone
-pub free_beside : (heads pool : List ℕ) (e : ℕ) → free_pages (set heads SET_ENTRIES e) pool ≡ free_pages heads pool
-free_beside heads pool e =
-    let claims : claim_counter (set heads SET_ENTRIES e) ≡ claim_counter heads = get_or-set_other heads SET_ENTRIES 1 e 0 (omega arith) in
-    let count : pool_length (set heads SET_ENTRIES e) ≡ pool_length heads = get_or-set_other heads SET_ENTRIES 2 e 0 (omega arith) in
-    rw (claims, count) refl
 
 -- words whose pool was made anew from heads of which only the claim counter and the number of filed slots had changed
 pub pool_anew : (m : Areas) (c d : Contents) (h heads pool : List ℕ) (n : ℕ) → set h CLAIM_COUNTER 0 ≡ set c.heads CLAIM_COUNTER 0 → length h ≡ HEAD_WORDS → pool ≡ c.pool → heads ≡ set h SET_ENTRIES n → d.heads ≡ set (set (set heads CLAIM_COUNTER 0) POOL_LENGTH (length (free_below d.table m.pages))) SET_ENTRIES (set_entries d.heads) → d.pool ≡ pool_with (free_below d.table m.pages) pool → PoolAnew m c d

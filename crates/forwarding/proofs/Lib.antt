@@ -4,5 +4,4 @@ pub mod Reshaping
 pub mod StackSteps
 pub mod TableSteps
 pub mod Anew
-pub mod Logs
 pub mod Filled

@@ -23,11 +23,11 @@ use Rattle.yak_model.proofs.Data.{some-of}
 use Rattle.yak_model.proofs.Stacks.{is_thread}
 use Rattle.heap_walks.proofs.Seen.{seen}
 use Rattle.heap_core.specs.Callers.{KnowsAlone, standing_told, thread_told}
-use Rattle.heap_core.specs.Records.{SomeRecorded}
+use Rattle.yak_model.specs.Recorded.{SomeRecorded}
 use Rattle.heap_core.proofs.Alone.{nothing, there_or_not, with-kept}
 use Rattle.heap_core.proofs.Calling.{holds-stacks}
-use Rattle.heap_core.proofs.Homes.{home-open, home-shown}
-use Rattle.heap_core.proofs.Named.{depth-shown}
+use Rattle.standing_calls.proofs.Homes.{home-open, home-shown}
+use Rattle.standing_calls.proofs.Named.{depth-shown}
 use Rattle.heap_core.proofs.Recognized.{recorded-told}
 use Rattle.heap_core.proofs.RoomsNames.{content-shown}
 use Rattle.group_jobs.specs.Alone.{HasRoot, HoldsCounts, HoldsTotal, root_object}

@@ -1,6 +1,7 @@
 pub mod Cutting
 pub mod Parting
 pub mod Tasking
+pub mod Dealing
 pub mod LongLines
 pub mod Sorting
 pub mod Counting

@@ -6,4 +6,5 @@ pub mod Goings
 pub mod Tallies
 pub mod Listing
 pub mod Printing
+pub mod Dealings
 pub mod Alone

@@ -16,7 +16,10 @@ mod words;
 
 pub use count::{CountError, CountedAlone, count_one};
 pub use counted::{Counted, sort_counts};
-pub use laws::law_one_cut;
+pub use laws::{
+    law_dealt_counts, law_dealt_room, law_dealt_tasks, law_dealt_words, law_one_cut, law_row_more,
+    law_row_words,
+};
 pub use long_words::long_word;
 pub use printing::print_counts;
 pub use tasks::{Task, cut_tasks};

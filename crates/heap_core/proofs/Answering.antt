@@ -13,7 +13,8 @@ use Rattle.yak_model.specs.declared.datum.Datum.{Datum}
 use Rattle.yak_model.specs.declared.datum.Datum.TheVariants as datum
 use Rattle.yak_model.specs.Names.{name_cmp}
 use Rattle.yak_model.specs.Graph.{Content, Does, Fields, Graph, IsThread, answers, fields_at, fields_or_none, first_refusal, is_bad_slot, is_reference, is_stack_full, next_name, push, put_field, refusal_of, shown, slot_of, with_object}
-use Rattle.yak_model.specs.History.{Said, Moves}
+use Rattle.yak_model.specs.declared.history.Entry.TheVariants.{Said}
+use Rattle.yak_model.specs.History.{Moves}
 use Rattle.yak_model.specs.Spaces.{EndsEpoch, IsOnStack, SpaceState, Turns, content_at}
 use Rattle.yak_model.proofs.Names.{get-same, get-other, same_or_other}
 use Rattle.yak_model.proofs.Agreement.{slot_on_stack}

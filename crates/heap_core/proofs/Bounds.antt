@@ -11,7 +11,7 @@ use Rattle.heap_words.specs.Contents.{Contents}
 use Rattle.epoch_lattice.specs.declared.Space.{Space}
 use Rattle.epoch_lattice.specs.declared.Space.TheVariants.{Control, Region}
 use Rattle.yak_model.specs.Graph.{Limits, standard_limits, thread_of}
-use Rattle.yak_model.specs.History.{Entry}
+use Rattle.yak_model.specs.declared.history.Entry.{Entry}
 use Rattle.yak_model.specs.Lawful.{HasWords, IsCensus, open_regions, present_words}
 use Rattle.yak_model.specs.Spaces.{Escapes, SpaceState, innermost}
 use Rattle.yak_model.specs.State.{object_of, view}
@@ -21,7 +21,7 @@ use Rattle.region_pages.specs.Counts.{regions_in}
 use Rattle.region_pages.proofs.Counting.{free_is, parts}
 use Rattle.escape_closure.specs.Ends.{FallsShort}
 use Rattle.heap_core.specs.Done.{RegionsPacked}
-use Rattle.heap_core.specs.Lawful.{PackedIfAsked}
+use Rattle.yak_model.specs.Continued.{PackedIfAsked}
 use Rattle.heap_core.proofs.RoomsOpen.{open_spaces, regions_of}
 use Rattle.heap_core.proofs.RoomsNames.{present-paged}
 use Rattle.heap_core.proofs.RoomsPages.{control-fits, control-words, packed-together, pages-counted, region-fits, region-own, regions-counted, regions-within, spaces-once, words-once}

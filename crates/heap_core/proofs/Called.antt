@@ -10,7 +10,7 @@ use Rattle.heap_words.specs.declared.map.Areas.{Areas}
 use Rattle.heap_words.specs.Map.{HasThread, IsAreas, total_of}
 use Rattle.heap_words.specs.Contents.{Contents, contents, depth_of}
 use Rattle.epoch_lattice.specs.declared.Space.TheVariants.{Control}
-use Rattle.yak_model.specs.History.{Entry}
+use Rattle.yak_model.specs.declared.history.Entry.{Entry}
 use Rattle.yak_model.specs.Packed.{IsPacked}
 use Rattle.yak_model.specs.Recorded.{Recorded}
 use Rattle.yak_model.specs.Spaces.{SpaceState, TurnsAll}
@@ -20,10 +20,11 @@ use Rattle.region_pages.proofs.Shapes.{shape}
 use Rattle.heap_core.specs.declared.owned.Stepped.{Stepped}
 use Rattle.heap_core.specs.Callers.{FillsPages, KnowsAlone, MakesStep, TellsKnown, TellsThread, standing_told, thread_told, words_asked, words_used}
 use Rattle.heap_core.specs.Collecting.{CountsFull}
-use Rattle.heap_core.specs.Done.{CollectsWhere, Done, EndsSo, FillsHeap, PacksControl, StepRecords, StepRoom, TellsFull, TellsPages, TellsShortage}
-use Rattle.heap_core.specs.Lawful.{AreLawful, PackedIfAsked}
-use Rattle.heap_core.specs.Records.{SomeRecorded}
-use Rattle.heap_core.specs.Steps.{IsIdle, entries}
+use Rattle.heap_core.specs.Done.{CollectsWhere, Done, EndsSo, FillsHeap, StepRecords, StepRoom, TellsFull, TellsPages, TellsShortage}
+use Rattle.yak_model.specs.Continued.{AreLawful, PackedIfAsked, PacksControl}
+use Rattle.yak_model.specs.Recorded.{SomeRecorded}
+use Rattle.standing_calls.specs.Turned.{IsIdle}
+use Rattle.heap_core.specs.Steps.{entries}
 use Rattle.heap_core.proofs.Calling.{moves-known}
 use Rattle.heap_core.proofs.Filling.{Steps, counted-full, fills-pages, holds-after, tells-after, tells_known-after, used-after, used-within, words-kept}
 use Rattle.heap_core.proofs.Sound.{sound-from}

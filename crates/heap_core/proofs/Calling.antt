@@ -13,7 +13,9 @@ use Rattle.yak_model.specs.declared.datum.Datum.TheVariants as datum
 use Rattle.yak_model.specs.Names.{name_cmp}
 use Rattle.object_layout.specs.declared.TheConstants.{OBJECT_WORDS}
 use Rattle.yak_model.specs.Graph.{Content, Graph, Limits, fields_of, fields_or_none, standard_limits}
-use Rattle.yak_model.specs.History.{Collected, Entry, Moves, Said}
+use Rattle.yak_model.specs.declared.history.Entry.{Entry}
+use Rattle.yak_model.specs.declared.history.Entry.TheVariants.{Collected, Said}
+use Rattle.yak_model.specs.History.{Moves}
 use Rattle.yak_model.specs.Private.{AreMade, FitPages, IsKnown, IsMade, IsPrivate, KnownAfter, KnownObjects}
 use Rattle.yak_model.specs.Spaces.{Collects, IsOnStack, Refers, SpaceState, TurnsAll, content_at, here, home_of}
 use Rattle.yak_model.specs.Standing.{MovesKnown}
@@ -27,11 +29,11 @@ use Rattle.yak_model.proofs.Stacks.{stack-fits}
 use Rattle.heap_walks.proofs.Seen.{seen}
 use Rattle.heap_core.specs.declared.owned.Stepped.{Stepped}
 use Rattle.heap_core.specs.Callers.{KnowsAlone, graph_with, standing_told, thread_told, with_absent}
-use Rattle.heap_core.specs.Records.{SomeRecorded}
+use Rattle.yak_model.specs.Recorded.{SomeRecorded}
 use Rattle.heap_core.specs.Steps.{entries as entries_of}
 use Rattle.heap_core.proofs.Alone.{IsWithin, are_made-within, nothing, private-within, there_or_not, with-added, with-kept}
 use Rattle.heap_core.proofs.Answering.{FollowsCall, HoldsStacks, Includes, follows, kept, of_objects}
-use Rattle.heap_core.proofs.Named.{made-shown}
+use Rattle.standing_calls.proofs.Named.{made-shown}
 use Rattle.heap_core.proofs.RoomsNames.{content-shown}
 use Rattle.heap_core.proofs.Threads.{thread-told}
 

@@ -25,12 +25,13 @@ use Rattle.heap_core.specs.declared.owned.Stepped.{Stepped}
 use Rattle.heap_core.specs.Callers.{FillsPages, KnowsAlone, TellsKnown, TellsThread, standing_told, thread_told, words_asked, words_used}
 use Rattle.heap_core.specs.Collecting.{CountsFull}
 use Rattle.heap_core.specs.Done.{FillsHeap}
-use Rattle.heap_core.specs.Records.{SomeRecorded}
-use Rattle.heap_core.specs.Steps.{TurnsTo, entries}
+use Rattle.yak_model.specs.Recorded.{SomeRecorded}
+use Rattle.heap_core.specs.Steps.{entries}
+use Rattle.yak_model.specs.Continued.{TurnsTo}
 use Rattle.heap_core.proofs.Answering.{FollowsCall, of_objects}
 use Rattle.heap_core.proofs.Bounds.{full-bound}
 use Rattle.heap_core.proofs.Calling.{follows-step, knows-after}
-use Rattle.heap_core.proofs.Others.{answers-beside, same_or_other_thread}
+use Rattle.yak_model.proofs.Others.{answers-beside, same_or_other_thread}
 use Rattle.heap_core.proofs.Threads.{thread-told}
 use Rattle.heap_core.proofs.Weights.{step-weighs, words-used}
 
@@ -106,7 +107,7 @@ holds-after m used used' present made more areas before step within =
 -- ---- a call that found no room
 
 -- a call for an object, or another one
-new-or-other : (asked : Call) → ((k : ℕ) × (asked ≡ call.New k)) ⊎ ((k : ℕ) → asked ≢ call.New k)
+pub new-or-other : (asked : Call) → ((k : ℕ) × (asked ≡ call.New k)) ⊎ ((k : ℕ) → asked ≢ call.New k)
 new-or-other (call.Int i) = inr (λ k e. cc)
 new-or-other call.Null = inr (λ k e. cc)
 new-or-other (call.Dup i) = inr (λ k e. cc)
@@ -122,7 +123,7 @@ new-or-other call.Collect = inr (λ k e. cc)
 new-or-other call.Census = inr (λ k e. cc)
 
 -- no other call fills the heap
-not-full : (m : Areas) (now : Contents) (s : SpaceState) (h : Stands m now s) (t : ℕ) (asked : Call) → ((k : ℕ) → asked ≢ call.New k) → FillsHeap m now s h t asked reply.OutOfHeap → ⊥
+pub not-full : (m : Areas) (now : Contents) (s : SpaceState) (h : Stands m now s) (t : ℕ) (asked : Call) → ((k : ℕ) → asked ≢ call.New k) → FillsHeap m now s h t asked reply.OutOfHeap → ⊥
 not-full m now s h t (call.Int i) other fills = fills refl
 not-full m now s h t call.Null other fills = fills refl
 not-full m now s h t (call.Dup i) other fills = fills refl
@@ -138,7 +139,7 @@ not-full m now s h t call.Collect other fills = fills refl
 not-full m now s h t call.Census other fills = fills refl
 
 -- an object for which there is no room is short enough, and nothing changes
-full-answer : (g : Graph) (t k : ℕ) (h : Graph) → answers g t (call.New k) reply.OutOfHeap h → (k ≤ g.limits.page - OBJECT_WORDS) × (h ≡ g)
+pub full-answer : (g : Graph) (t k : ℕ) (h : Graph) → answers g t (call.New k) reply.OutOfHeap h → (k ≤ g.limits.page - OBJECT_WORDS) × (h ≡ g)
 full-answer g t k h =
     elim (refusal_of g t (call.New k)) as (λ o. refusal_of g t (call.New k) ≡ o → MatchOption o (Does g t (call.New k) reply.OutOfHeap h) (λ why. (reply.OutOfHeap ≡ reply.Refused why) × (h ≡ g)) → (k ≤ g.limits.page - OBJECT_WORDS) × (h ≡ g)) [
       | None ↦ λ e d. elim d [ inl ok ↦ cc | inr full ↦ (short g.limits.page k _ e, full.1) ]

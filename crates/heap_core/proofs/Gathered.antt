@@ -19,11 +19,11 @@ use Rattle.object_layout.specs.declared.replies.Census.{Census}
 use Rattle.object_layout.specs.declared.replies.Shortage.{Shortage}
 use Rattle.yak_model.specs.Recorded.{Recorded}
 use Rattle.escape_closure.specs.Ends.{RegionShort}
-use Rattle.heap_core.specs.Records.{SomeRecorded}
-use Rattle.heap_core.specs.Room.{HasNoRoom}
+use Rattle.yak_model.specs.Recorded.{SomeRecorded}
+use Rattle.standing_calls.specs.Room.{HasNoRoom}
 use Rattle.heap_core.specs.Collecting.{CountsFull, IsCollected}
 use Rattle.heap_core.proofs.Bounds.{regions-packed}
-use Rattle.heap_core.proofs.Told.{SomeStands}
+use Rattle.standing_calls.proofs.Told.{SomeStands}
 
 -- a collection keeps the threads as they are
 pub kept-threads : (s after : SpaceState) → Collects s after → after.graph.threads ≡ s.graph.threads

@@ -13,8 +13,8 @@ use Rattle.yak_model.specs.State.{State, Thing}
 use Rattle.yak_model.specs.Recorded.{RecordedAs}
 use Rattle.yak_model.specs.declared.TheConstants.{ROOT_FIELDS}
 use Rattle.heap_core.specs.Opening.{Counts, opened}
-use Rattle.heap_core.specs.Records.{StandsRecorded}
-use Rattle.forwarding.proofs.Logs.{entries_of, no_entry}
+use Rattle.yak_model.specs.Recorded.{StandsRecorded}
+use Rattle.standing_calls.proofs.Logs.{entries_of, no_entry}
 use Rattle.heap_core.proofs.Opening.{nulls, only_root, opening, opening_stands, view-opening, zeros}
 
 no_readers : (k n q d : ℕ) → get_or (get_or (replicate k (replicate n (let z : ℕ = 0 in z))) q []) d 0 ≡ 0

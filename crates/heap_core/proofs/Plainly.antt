@@ -13,14 +13,18 @@ use Rattle.heap_words.specs.Contents.{Contents}
 use Rattle.yak_model.specs.declared.datum.Datum.{Datum}
 use Rattle.yak_model.specs.declared.datum.Datum.TheVariants as datum
 use Rattle.yak_model.specs.Graph.{Does, Graph, answers, refusal_of, shown}
-use Rattle.yak_model.specs.History.{Entry, Said}
+use Rattle.yak_model.specs.declared.history.Entry.{Entry}
+use Rattle.yak_model.specs.declared.history.Entry.TheVariants.{Said}
 use Rattle.yak_model.specs.Lawful.{IsReplyLawful}
 use Rattle.yak_model.specs.Spaces.{SpaceState, Turns}
 use Rattle.yak_model.specs.Stands.{Stands}
-use Rattle.heap_core.specs.Done.{CollectsWhere, Done, EndsSo, FillsHeap, PacksControl, StepRecords, StepRoom, TellsPages}
-use Rattle.heap_core.specs.Records.{Records, SomeRecorded}
-use Rattle.heap_core.specs.Room.{TakesRoom}
-use Rattle.heap_core.specs.Steps.{Turned, plain}
+use Rattle.heap_core.specs.Done.{CollectsWhere, Done, EndsSo, FillsHeap, StepRecords, StepRoom, TellsPages}
+use Rattle.yak_model.specs.Continued.{PacksControl}
+use Rattle.standing_calls.specs.Records.{Records}
+use Rattle.yak_model.specs.Recorded.{SomeRecorded}
+use Rattle.standing_calls.specs.Room.{TakesRoom}
+use Rattle.standing_calls.specs.Turned.{Turned}
+use Rattle.heap_core.specs.Steps.{plain}
 
 -- the calls that make no collection, no object and no count, and end no epoch
 abbrev pub IsPlain : Call → Type 0

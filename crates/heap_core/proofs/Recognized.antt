@@ -28,9 +28,9 @@ use Rattle.yak_model.specs.Recorded.{Enters, IsField, IsReader, IsRecorded, Reco
 use Rattle.yak_model.proofs.Data.{same-datum, some-of}
 use Rattle.yak_model.proofs.Stacks.{all-at, get_or-map_all, stack-stands}
 use Rattle.relocation.proofs.SlidLawful.{name_at, stands-at}
-use Rattle.heap_core.specs.Records.{SomeRecorded}
-use Rattle.heap_core.proofs.Homes.{home-shown}
-use Rattle.heap_core.proofs.Told.{find_in}
+use Rattle.yak_model.specs.Recorded.{SomeRecorded}
+use Rattle.standing_calls.proofs.Homes.{home-shown}
+use Rattle.standing_calls.proofs.Told.{find_in}
 
 -- a header tells its fields and its space, and a name's word the name
 same_header : (f g a b : ℕ) → f ≤ MAX_FIELDS → g ≤ MAX_FIELDS → HEADER_BASE + SPACE_UNIT * a + f ≡ HEADER_BASE + SPACE_UNIT * b + g → (f ≡ g) × (a ≡ b)

@@ -34,8 +34,8 @@ use Rattle.escape_closure.specs.Targets.{IsEscaping, IsTargetAt}
 use Rattle.escape_closure.specs.Needs.{InOrder, pages_needed}
 use Rattle.escape_closure.specs.Placing.{rooms_at}
 use Rattle.escape_closure.proofs.Reaches.{inner_region, reached_here}
-use Rattle.heap_core.proofs.Homes.{home-open}
-use Rattle.heap_core.proofs.Named.{depth-shown}
+use Rattle.standing_calls.proofs.Homes.{home-open}
+use Rattle.standing_calls.proofs.Named.{depth-shown}
 use Rattle.heap_core.proofs.RoomsSums.{Distinct, contains_first, sum-inside, sum-same}
 use Rattle.heap_core.proofs.RoomsOpen.{hits, open-listed, open_spaces}
 use Rattle.heap_core.proofs.RoomsNames.{entry-size, keys_of, shown-key, sum-keys}

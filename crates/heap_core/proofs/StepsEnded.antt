@@ -1,5 +1,5 @@
 -- What steps do that end an epoch.
-use Rattle.std.proofs.Common.{◌≡◌, ◌≢◌, ◌⊎◌, ℕ, ◌+◌, ◌-◌, ◌*◌, ◌≤◌, ◌<◌, Bool, true, false, cond, Option, None, Some, List, [], ◌∷◌, ◌++◌, leb, length, get_or, map, refl, sym, ap, subst, ◌∙◌, arith, inl, inr}
+use Rattle.std.proofs.Common.{◌≡◌, ◌≢◌, ℕ, ◌+◌, ◌-◌, ◌*◌, ◌<◌, Bool, true, false, cond, Option, None, Some, List, [], ◌∷◌, leb, get_or, map, refl, sym, ap, subst, ◌∙◌, arith, inl, inr}
 use Rattle.std.proofs.Props.{props}
 use Rattle.std.proofs.Math.Logic.{⊎_elim, ∥∥₁_elim}
 use Rattle.object_layout.specs.declared.calls.Call.TheVariants as call
@@ -13,7 +13,8 @@ use Rattle.heap_words.specs.Map.{HasThread, IsAreas}
 use Rattle.heap_words.specs.Cells.{row_set}
 use Rattle.heap_words.specs.Contents.{Contents, depth_of, with_readers}
 use Rattle.yak_model.specs.Graph.{Thread, thread_of}
-use Rattle.yak_model.specs.History.{Entry, Said, Collected}
+use Rattle.yak_model.specs.declared.history.Entry.{Entry}
+use Rattle.yak_model.specs.declared.history.Entry.TheVariants.{Said, Collected}
 use Rattle.yak_model.specs.Lawful.{HasWords, open_regions, present_words}
 use Rattle.yak_model.specs.Spaces.{Collects, Escapes, SpaceState, innermost}
 use Rattle.yak_model.specs.Stands.{Stands}
@@ -23,14 +24,15 @@ use Rattle.heap_core.specs.declared.owned.Stepped.{Stepped}
 use Rattle.heap_core.specs.Done.{CollectsForEnd, Done, RecordsEnd, TellsShortage}
 use Rattle.heap_core.specs.EpochEnds.{CollectedAs, EndedAfter, EndsAs, IsEnd, TightAfter}
 use Rattle.heap_core.specs.EpochEnds as ends
-use Rattle.heap_core.specs.Lawful.{AreLawful}
-use Rattle.heap_core.specs.Records.{SomeRecorded}
-use Rattle.heap_core.specs.Steps.{Turned, TurnsTo, plain}
+use Rattle.yak_model.specs.Continued.{AreLawful, TurnsTo}
+use Rattle.yak_model.specs.Recorded.{SomeRecorded}
+use Rattle.standing_calls.specs.Turned.{Turned}
+use Rattle.heap_core.specs.Steps.{plain}
 use Rattle.heap_core.proofs.Bounds.{tight-bound}
-use Rattle.heap_core.proofs.Begins.{depth_words}
+use Rattle.standing_calls.proofs.Begins.{depth_words}
 use Rattle.heap_core.proofs.Gathered.{kept-threads}
-use Rattle.heap_core.proofs.Recorded.{same_records}
-use Rattle.heap_core.proofs.Steps.{beyond, not-idle, same_room, thread_in}
+use Rattle.standing_calls.proofs.Recorded.{same_records}
+use Rattle.standing_calls.proofs.Steps.{beyond, not-idle, same_room, thread_in}
 use Rattle.heap_core.proofs.StepsMade.{only-collected}
 
 -- the three ways in which an end goes
@@ -145,6 +147,7 @@ no_epoch m c t ht shallow = record {
   turns = λ s h.
       let test : leb (thread_of s.graph t).depth 0 ≡ true = beyond (thread_of s.graph t).depth 0 (omega (arith, shallow, depth_words m c s h t)) in
       (s, (s, (thread_in m c s h t ht, rw test (refl, refl), refl, tt), refl), h, λ r. r);
+  kept = λ s h. record { kept = λ n o e. (o, e, refl, refl, refl) };
   room = same_room c;
   records = λ s h. same_records c;
   idle = λ i. refl;

@@ -20,13 +20,14 @@ use Rattle.heap_core.specs.declared.owned.Stepped.{Stepped}
 use Rattle.heap_core.specs.Collecting.{IsCollected, counted}
 use Rattle.heap_core.specs.Done.{Done}
 use Rattle.heap_core.specs.Makings.{FullAfter, IsMade, MadeAfter, MadeAtOnce}
-use Rattle.heap_core.specs.Records.{SomeRecorded}
-use Rattle.heap_core.specs.Room.{HasNoRoom, TakesPlace}
-use Rattle.heap_core.specs.Steps.{Turned, plain}
+use Rattle.yak_model.specs.Recorded.{SomeRecorded}
+use Rattle.standing_calls.specs.Room.{HasNoRoom, TakesPlace}
+use Rattle.standing_calls.specs.Turned.{Turned}
+use Rattle.heap_core.specs.Steps.{plain}
 use Rattle.heap_core.proofs.Bounds.{census-bound, full-bound}
 use Rattle.heap_core.proofs.Gathered.{full-after, packed-after}
-use Rattle.heap_core.proofs.Recorded.{same_records}
-use Rattle.heap_core.proofs.Steps.{not-idle, same_room, thread_in}
+use Rattle.standing_calls.proofs.Recorded.{same_records}
+use Rattle.standing_calls.proofs.Steps.{not-idle, same_room, thread_in}
 
 -- the state that a collection leaves is the one that the words stand for
 pub only-collected : (m : Areas) (was now : Contents) (s mid : SpaceState) (h : Stands m was s) (P : SpaceState → Type 0) (x : StateCollected m was now s h) → Collects s mid → P x.after → P mid

@@ -20,7 +20,7 @@ use Rattle.yak_model.specs.Stands.{Stands}
 use Rattle.yak_model.proofs.Data.{some-of}
 use Rattle.yak_model.proofs.Stacks.{all-at, stack-fits, stack_words}
 use Rattle.heap_core.specs.Callers.{datum_told, name_told, thread_told}
-use Rattle.heap_core.proofs.Named.{depth-shown, made-shown}
+use Rattle.standing_calls.proofs.Named.{depth-shown, made-shown}
 
 -- a name is read back from its word
 serial-back : (t k : ℕ) → k < NAME_UNIT → (t * NAME_UNIT + k) % NAME_UNIT ≡ k

@@ -20,7 +20,8 @@ use Rattle.yak_model.specs.Standing.{Standing}
 use Rattle.yak_model.specs.Stands.{Stands}
 use Rattle.heap_core.specs.declared.owned.Stepped.{Stepped}
 use Rattle.heap_core.specs.Done.{Done}
-use Rattle.heap_core.specs.Steps.{TurnsTo, entries}
+use Rattle.heap_core.specs.Steps.{entries}
+use Rattle.yak_model.specs.Continued.{TurnsTo}
 
 -- ---- threads, as the words show them
 

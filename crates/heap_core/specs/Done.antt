@@ -12,12 +12,13 @@ use Rattle.heap_words.specs.declared.map.Areas.{Areas}
 use Rattle.heap_words.specs.Map.{HasRegion}
 use Rattle.heap_words.specs.Contents.{Contents, depth_of, with_readers}
 use Rattle.epoch_lattice.specs.declared.Space.TheVariants.{Control, Region}
-use Rattle.yak_model.specs.History.{Entry}
+use Rattle.yak_model.specs.declared.history.Entry.{Entry}
 use Rattle.yak_model.specs.Spaces.{EndsEpoch, SpaceState}
 use Rattle.yak_model.specs.State.{object_of}
 use Rattle.yak_model.specs.Stands.{Stands}
 use Rattle.yak_model.specs.Recorded.{Recorded}
 use Rattle.yak_model.specs.Packed.{IsFull, IsPacked}
+use Rattle.yak_model.specs.Continued.{PacksControl}
 use Rattle.mark_compact.specs.Collected.{RoomCollected, StateCollected}
 use Rattle.forwarding.specs.Crossing.{AreFiled}
 use Rattle.escape_closure.specs.Ends.{FallsShort, HasEnough, RegionShort}
@@ -25,10 +26,11 @@ use Rattle.escape_closure.specs.Leaves.{FilesEnded}
 use Rattle.heap_core.specs.declared.owned.Stepped.{Stepped}
 use Rattle.heap_core.specs.Collecting.{CountsFull, IsCollected, counted}
 use Rattle.heap_core.specs.EpochEnds.{IsEnd, IsShort}
-use Rattle.heap_core.specs.Lawful.{AreLawful, PackedIfAsked}
-use Rattle.heap_core.specs.Records.{Records, SameRecords}
-use Rattle.heap_core.specs.Room.{HasNoRoom, SameRoom, TakesPlace, TakesRoom}
-use Rattle.heap_core.specs.Steps.{IsIdle, TurnsTo, entries}
+use Rattle.yak_model.specs.Continued.{AreLawful, PackedIfAsked, TurnsTo}
+use Rattle.standing_calls.specs.Records.{Records, SameRecords}
+use Rattle.standing_calls.specs.Room.{HasNoRoom, SameRoom, TakesPlace, TakesRoom}
+use Rattle.standing_calls.specs.Turned.{IsIdle}
+use Rattle.heap_core.specs.Steps.{entries}
 
 -- ---- when a step collects
 
@@ -144,11 +146,6 @@ StepRoom m was now t asked said collected = TakesRoom m was now t asked said
 abbrev pub EndsSo : Areas → Contents → Contents → ℕ → Call → Stepped → Type 0
 EndsSo m was now t End said = IsEnd m was now t said
 EndsSo m was now t asked said = Unit {0}
-
--- Control is packed after a collection that a thread asked for.
-abbrev pub PacksControl : (m : Areas) (now : Contents) (s : SpaceState) → Stands m now s → Call → Type 0
-PacksControl m now s stands Collect = IsPacked m now s stands Control
-PacksControl m now s stands asked = Unit {0}
 
 -- Each region of the heap's threads wastes at most half of its pages, but for one page.
 abbrev pub RegionsPacked : Areas → Contents → Type 0

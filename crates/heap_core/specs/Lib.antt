@@ -1,10 +1,5 @@
 pub mod Steps
-pub mod Fields
-pub mod Objects
-pub mod Room
 pub mod Opening
-pub mod Records
-pub mod Lawful
 pub mod Collecting
 pub mod Makings
 pub mod EpochEnds

@@ -9,8 +9,9 @@ use Rattle.object_layout.specs.declared.TheConstants.{OBJECT_WORDS}
 use Rattle.heap_words.specs.declared.map.Areas.{Areas}
 use Rattle.heap_words.specs.Contents.{Contents}
 use Rattle.heap_core.specs.declared.owned.Stepped.{Stepped}
-use Rattle.heap_core.specs.Room.{HasNoRoom}
-use Rattle.heap_core.specs.Steps.{Turned, plain}
+use Rattle.standing_calls.specs.Room.{HasNoRoom}
+use Rattle.heap_core.specs.Steps.{plain}
+use Rattle.standing_calls.specs.Turned.{Turned}
 use Rattle.heap_core.specs.Collecting.{CountsFull, IsCollected}
 
 -- The call was refused, or the object was made without a collection.

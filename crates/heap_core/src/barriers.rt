@@ -7,7 +7,7 @@ ghost use Rattle.yak_model.specs.Graph.{slot_of};
 ghost use Rattle.yak_model.specs.Packed.{IsSpaceOf};
 ghost use Rattle.yak_model.specs.Spaces.{SpaceState};
 ghost use Rattle.yak_model.specs.Stands.{Stands};
-ghost use Rattle.heap_core.specs.Records.{Crosses, IsWordOf, LogsHold, Logs, MarksReader, RecordsSlot, home_at, with_logs};
+ghost use Rattle.standing_calls.specs.Records.{AreAlikeOthers, Crosses, IsWordOf, Logs, LogsHold, MarksReader, RecordsSlot, home_at, with_logs};
 ghost use Rattle.remember_sets.specs.Filed.{SetsHold};
 
 use epoch_lattice::{Space, space_at};
@@ -32,6 +32,24 @@ pub fn space_of_word<W: Words>(words: &mut W, map: Areas, word: u64) -> Option<S
         return None;
     };
     space_at(header.space)
+}
+
+/// The space of the object to which a value's word refers, as far as it may be a region of another thread: where there is one
+/// thread alone, none is.
+#[inline(always)]
+pub fn space_entered<W: Words>(words: &mut W, map: Areas, thread: u8, word: u64) -> Option<Space>
+    requires sound { Sound map (W.words words.old) }
+    requires thread { HasThread map thread }
+    requires value { ∥ ((s : SpaceState) × (h : Stands map (contents map (W.words words.old)) s) × IsWordOf s h.places.at word) ∥₁ }
+    ensures space { (s : SpaceState) (h : Stands map (contents map (W.words words.old)) s) (v : IsWordOf s h.places.at word) → AreAlikeOthers thread result (home_at s v.value) }
+    ensures own { IfSome result (λ x. IsSpaceOf map x) }
+    ensures words { W.words words.new ≡ W.words words.old }
+    ensures base { W.base words.new ≡ W.base words.old }
+{
+    if map.threads == 1 {
+        return None;
+    }
+    space_of_word(words, map, word)
 }
 
 /// The space of the object to which a slot refers, or `None` where it doesn't refer to one.

@@ -69,6 +69,7 @@ impl<W: Words> Caller for CoreCaller<W> {
 
     ghost told = { λ s. record { some = s.some; none_free = s.none_free } };
 
+    #[inline(always)]
     fn make_call(&mut self, call: Call) -> Reply
         requires { IsCall call }
         ensures stays { Stays ⟦<CoreCaller<W> as Caller>⟧.base ⟦<CoreCaller<W> as Caller>⟧.tells ⟦<CoreCaller<W> as Caller>⟧.tells_known self.old self.new }
@@ -143,7 +144,7 @@ pub(crate) fn words_in_use<W: Words>(words: &mut W, map: Areas) -> u64
 }
 
 /// A count after so many more, or the greatest number where that is more.
-fn count_up(count: u64, more: u64) -> u64
+pub fn count_up(count: u64, more: u64) -> u64
     ensures counted { result ≡ counted_on count more }
     ensures rises { count ≤ result }
 {
@@ -151,7 +152,7 @@ fn count_up(count: u64, more: u64) -> u64
 }
 
 /// The words of the object that a call makes.
-fn words_made(call: Call, reply: Reply) -> u64
+pub fn words_made(call: Call, reply: Reply) -> u64
     ensures { result ≡ words_made call reply }
 {
     match (call, reply) {
@@ -161,7 +162,7 @@ fn words_made(call: Call, reply: Reply) -> u64
 }
 
 /// The words that a call asks for, up to the greatest number.
-fn words_asked(call: Call) -> u16
+pub fn words_asked(call: Call) -> u16
     ensures { result ≡ min (words_asked call) (2 ^ 16 - 1) }
 {
     match call {

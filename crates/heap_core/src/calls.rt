@@ -10,7 +10,7 @@ ghost use Rattle.yak_model.specs.Recorded.{Recorded};
 ghost use Rattle.heap_core.specs.Steps.{plain};
 ghost use Rattle.heap_core.specs.EpochEnds.{ReadsFew};
 ghost use Rattle.heap_core.specs.Done.{Done};
-ghost use Rattle.heap_core.specs.Records.{SomeRecorded};
+ghost use Rattle.yak_model.specs.Recorded.{SomeRecorded};
 
 use crate::collections::{collect_control, count_pages};
 use crate::endings::end;
@@ -23,6 +23,7 @@ use heap_words::{Areas, Words};
 use object_layout::{Call, Reply};
 
 /// A step that says no more than its reply.
+#[inline(always)]
 pub fn plain_step(reply: Reply) -> Stepped
     ensures { result ≡ plain reply }
 {
@@ -35,6 +36,7 @@ pub fn plain_step(reply: Reply) -> Stepped
 }
 
 /// Makes a call of a thread on words that stand for a state.
+#[inline(always)]
 pub fn answer<W: Words>(words: &mut W, map: Areas, thread: u8, call: Call) -> Stepped
     requires sound { Sound map (W.words words.old) }
     requires thread { HasThread map thread }

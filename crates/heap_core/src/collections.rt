@@ -5,7 +5,7 @@ ghost use Rattle.heap_words.specs.Map.{HasThread};
 ghost use Rattle.heap_words.specs.Contents.{contents, Sound};
 ghost use Rattle.heap_core.specs.Steps.{plain};
 ghost use Rattle.heap_core.specs.Collecting.{IsCollected, counted};
-ghost use Rattle.heap_core.specs.Records.{SomeRecorded};
+ghost use Rattle.yak_model.specs.Recorded.{SomeRecorded};
 ghost use Rattle.object_layout.specs.declared.replies.Reply.TheVariants as reply;
 
 use crate::calls::plain_step;

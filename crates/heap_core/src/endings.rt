@@ -7,7 +7,7 @@ ghost use Rattle.yak_model.specs.Spaces.{SpaceState};
 ghost use Rattle.yak_model.specs.Stands.{Stands};
 ghost use Rattle.yak_model.specs.Recorded.{Recorded};
 ghost use Rattle.heap_core.specs.EpochEnds.{EndsAfterCollection, IsEnd, ReadsFew};
-ghost use Rattle.heap_core.specs.Records.{SomeRecorded};
+ghost use Rattle.yak_model.specs.Recorded.{SomeRecorded};
 
 use crate::calls::plain_step;
 use crate::owned::Stepped;

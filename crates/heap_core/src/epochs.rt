@@ -3,7 +3,7 @@
 ghost use Rattle.std.specs.Prelude.{◌≡◌, ◌≤◌, ◌<◌, ◌+◌, ℕ};
 ghost use Rattle.heap_words.specs.Map.{HasThread, max_depth};
 ghost use Rattle.heap_words.specs.Contents.{contents, Sound};
-ghost use Rattle.heap_core.specs.Steps.{Turned};
+ghost use Rattle.standing_calls.specs.Turned.{Turned};
 
 use heap_words::{Areas, Words};
 use object_layout::{Call, MAX_DEPTH, Refusal, Reply};

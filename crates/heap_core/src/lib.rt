@@ -13,7 +13,7 @@ mod objects;
 mod owned;
 mod slots;
 
-pub use caller::CoreCaller;
+pub use caller::{CoreCaller, count_up, words_asked, words_made};
 pub use owned::{Core, Stepped};
 
 #[cfg(test)]

@@ -6,7 +6,7 @@ ghost use Rattle.heap_words.specs.Contents.{contents, Sound};
 ghost use Rattle.yak_model.specs.Graph.{standard_limits};
 ghost use Rattle.yak_model.specs.Spaces.{opening_spaces};
 ghost use Rattle.heap_core.specs.Opening.{Counts, IsOpened};
-ghost use Rattle.heap_core.specs.Records.{StandsRecorded};
+ghost use Rattle.yak_model.specs.Recorded.{StandsRecorded};
 
 use heap_words::{Areas, Words, set_current, set_head, set_heap, set_page, set_pool};
 use object_layout::{Addr, Header, OBJECT_WORDS, Value, encode_header, encode_value};

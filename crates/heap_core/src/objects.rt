@@ -10,12 +10,12 @@ ghost use Rattle.epoch_lattice.specs.Lattice.{inner_of, space_index};
 ghost use Rattle.yak_model.specs.Spaces.{SpaceState};
 ghost use Rattle.yak_model.specs.Stands.{CurrentsStand, PoolStands, Stands, free_pages};
 ghost use Rattle.region_pages.specs.Placement.{IsPlaced, words_left_at};
-ghost use Rattle.heap_core.specs.Steps.{Turned};
-ghost use Rattle.heap_core.specs.Room.{HasNoRoom};
+ghost use Rattle.standing_calls.specs.Turned.{Turned};
+ghost use Rattle.standing_calls.specs.Room.{HasNoRoom};
 ghost use Rattle.heap_core.specs.Makings.{MadeAfter, FullAfter, IsMade};
-ghost use Rattle.heap_core.specs.Records.{SomeRecorded};
+ghost use Rattle.yak_model.specs.Recorded.{SomeRecorded};
 ghost use Rattle.object_layout.specs.declared.replies.Reply.TheVariants as reply;
-ghost use Rattle.heap_core.specs.Objects.{IsWritten};
+ghost use Rattle.standing_calls.specs.Objects.{IsWritten};
 
 use crate::calls::plain_step;
 use crate::owned::Stepped;

@@ -1,22 +1,23 @@
 //! A heap that is owned, with its words.
 
-ghost use Rattle.std.specs.Prelude.{◌≡◌, ◌≤◌, ◌<◌, ◌+◌, ◌-◌, ◌↔◌, ℕ, List, IfOk, IfErr};
+ghost use Rattle.std.specs.Prelude.{◌≡◌, ◌≤◌, ◌<◌, ◌+◌, ◌-◌, ◌↔◌, ℕ, List, IfOk, IfErr, replicate};
 ghost use Rattle.object_layout.specs.Calls.{IsCall};
-ghost use Rattle.heap_words.specs.Map.{HasThread, IsAreas};
+ghost use Rattle.heap_words.specs.Map.{HasThread, IsAreas, total_of};
 ghost use Rattle.heap_words.specs.Contents.{contents, Sound};
 ghost use Rattle.yak_model.specs.Graph.{standard_limits};
 ghost use Rattle.yak_model.specs.Spaces.{SpaceState, TurnsAll, opening_spaces};
 ghost use Rattle.yak_model.specs.Stands.{Stands};
 ghost use Rattle.yak_model.specs.Recorded.{Recorded};
 ghost use Rattle.epoch_lattice.specs.declared.Space.TheVariants.{Control};
-ghost use Rattle.yak_model.specs.History.{Entry};
+ghost use Rattle.yak_model.specs.declared.history.Entry.{Entry};
 ghost use Rattle.yak_model.specs.Packed.{IsPacked};
-ghost use Rattle.heap_core.specs.Done.{CollectsWhere, EndsSo, FillsHeap, RegionsPacked, StepRecords, StepRoom, TellsFull, TellsPages, TellsShortage};
+ghost use Rattle.heap_core.specs.Done.{CollectsWhere, Done, EndsSo, FillsHeap, RegionsPacked, StepRecords, StepRoom, TellsFull, TellsPages, TellsShortage};
 ghost use Rattle.heap_core.specs.EpochEnds.{ReadsFew};
-ghost use Rattle.heap_core.specs.Lawful.{AreLawful, PackedIfAsked};
+ghost use Rattle.yak_model.specs.Continued.{AreLawful, PackedIfAsked};
 ghost use Rattle.heap_core.specs.Opening.{IsOpened};
-ghost use Rattle.heap_core.specs.Records.{SomeRecorded, StandsRecorded};
-ghost use Rattle.heap_core.specs.Steps.{IsIdle, entries};
+ghost use Rattle.yak_model.specs.Recorded.{SomeRecorded, StandsRecorded};
+ghost use Rattle.standing_calls.specs.Turned.{IsIdle};
+ghost use Rattle.heap_core.specs.Steps.{entries};
 
 use crate::caller::words_in_use;
 use crate::calls::answer;
@@ -64,6 +65,20 @@ impl Core<Image> {
 }
 
 impl<W: Words> Core<W> {
+    /// A heap over words that are all 0, in the opening state.
+    pub fn open(mut words: W, map: Areas) -> Core<W>
+        requires own { map ≡ W.map (W.base words) }
+        requires zero { W.words words ≡ replicate (total_of map) 0 }
+        ensures opening { StandsRecorded result.map (contents result.map (W.words result.words)) (opening_spaces standard_limits map.threads) }
+        ensures opened { IsOpened result.map (contents result.map (W.words result.words)) }
+        ensures map { result.map ≡ map }
+        ensures base { W.base result.words ≡ W.base words }
+        ensures regions { RegionsPacked result.map (contents result.map (W.words result.words)) }
+    {
+        open_words(&mut words, map);
+        Core { words, map }
+    }
+
     /// A heap over words that stand for a state, with the crossing references recorded.
     pub fn over(words: W, map: Areas) -> Core<W>
         requires own { map ≡ W.map (W.base words) }
@@ -77,9 +92,11 @@ impl<W: Words> Core<W> {
 
     /// Makes a call of a thread. Where a new object doesn't fit the thread's current page and no page is free, and where an end
     /// needs more pages than are free, one collection of the control space comes first.
+    #[inline(always)]
     pub fn step(&mut self, thread: u8, call: Call) -> Stepped
         requires thread { HasThread self.old.map thread }
         requires number { IsCall call }
+        ensures done { Done self.old.map (contents self.old.map (W.words self.old.words)) (contents self.new.map (W.words self.new.words)) thread call result }
         ensures turns { (s : SpaceState) (h : Stands self.old.map (contents self.old.map (W.words self.old.words)) s) → (after : SpaceState) × TurnsAll s (entries thread call result) after × (later : Stands self.new.map (contents self.new.map (W.words self.new.words)) after) × (Recorded self.old.map (contents self.old.map (W.words self.old.words)) s h → Recorded self.new.map (contents self.new.map (W.words self.new.words)) after later) }
         ensures lawful { (s : SpaceState) (h : Stands self.old.map (contents self.old.map (W.words self.old.words)) s) → Recorded self.old.map (contents self.old.map (W.words self.old.words)) s h → (before : List Entry) → PackedIfAsked self.old.map (contents self.old.map (W.words self.old.words)) s h before → AreLawful self.old.map.pages before s (entries thread call result) }
         ensures collected { (s : SpaceState) (h : Stands self.old.map (contents self.old.map (W.words self.old.words)) s) → CollectsWhere self.old.map (contents self.old.map (W.words self.old.words)) s h thread call result.reply result.collected }
@@ -128,7 +145,7 @@ impl<W: Words> Core<W> {
     ghost use Rattle.heap_core.specs.Callers.{words_used};
 
     /// The depth of a thread: how many epochs it has open.
-    pub(crate) fn depth(&mut self, thread: u8) -> u8
+    pub fn depth(&mut self, thread: u8) -> u8
         requires thread { HasThread self.old.map thread }
         ensures depth { result ≡ depth_of (contents self.old.map (W.words self.old.words)) thread }
         ensures words { W.words self.new.words ≡ W.words self.old.words }

@@ -7,11 +7,11 @@ ghost use Rattle.heap_words.specs.Map.{HasThread};
 ghost use Rattle.heap_words.specs.Contents.{contents, Sound};
 ghost use Rattle.yak_model.specs.Spaces.{SpaceState};
 ghost use Rattle.yak_model.specs.Stands.{Stands};
-ghost use Rattle.heap_core.specs.Steps.{IsPushed, Turned};
+ghost use Rattle.standing_calls.specs.Turned.{IsPushed, Turned};
 
 use heap_words::{Areas, Words, get_heap};
 use object_layout::{Call, Refusal, Reply, Value, decode_value, encode_value, field_count};
-use thread_stacks::{pop, push, slot};
+use thread_stacks::{drop_top, push, slot};
 
 /// Puts a value's word on a thread's stack.
 pub fn push_word<W: Words>(words: &mut W, map: Areas, thread: u8, word: u64) -> Reply
@@ -65,6 +65,7 @@ pub fn dup<W: Words>(words: &mut W, map: Areas, thread: u8, s: u32) -> Reply
 }
 
 /// Drops the top slot.
+#[inline(always)]
 pub fn pop_slot<W: Words>(words: &mut W, map: Areas, thread: u8) -> Reply
     requires sound { Sound map (W.words words.old) }
     requires thread { HasThread map thread }
@@ -72,13 +73,14 @@ pub fn pop_slot<W: Words>(words: &mut W, map: Areas, thread: u8) -> Reply
     ensures sound { Sound map (W.words words.new) }
     ensures base { W.base words.new ≡ W.base words.old }
 {
-    match pop(words, map, thread) {
-        Ok(_) => Reply::Ok,
+    match drop_top(words, map, thread) {
+        Ok(()) => Reply::Ok,
         Err(_) => Reply::Refused(Refusal::StackEmpty),
     }
 }
 
 /// Shows the value of a slot.
+#[inline(always)]
 pub fn get<W: Words>(words: &mut W, map: Areas, thread: u8, s: u32) -> Reply
     requires sound { Sound map (W.words words.old) }
     requires thread { HasThread map thread }

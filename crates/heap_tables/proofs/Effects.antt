@@ -1,7 +1,7 @@
 -- What the calls of a caller leave.
-use Rattle.std.proofs.Common.{zero, suc, ◌≡◌, ◌⊎◌, ℕ, ◌+◌, ◌-◌, ◌<◌, ◌≤◌, ◌↔◌, Bool, true, false, not, cond, leb, ltb, List, [], ◌∷◌, ◌++◌, length, get_or, set, replicate, take, refl, ◌∙◌, arith, ap, sym, subst, inl, inr, Option, Some, None, is_some, MatchOption, get_or-set_same, length-append}
-use Rattle.std.proofs.Math.Seq.{take-append_seam}
-use Rattle.std.proofs.lemmas.List.{get_or_push, get_or_append_left}
+use Rattle.std.proofs.Common.{zero, suc, ◌≡◌, ◌⊎◌, ℕ, ◌+◌, ◌-◌, ◌<◌, ◌≤◌, ◌↔◌, Bool, true, false, not, cond, leb, ltb, List, [], ◌∷◌, ◌++◌, length, get_or, set, replicate, take, refl, ◌∙◌, arith, ap, sym, subst, inl, inr, Option, Some, None, is_some, MatchOption, get_or-set_same, length-append, true≢false}
+use Rattle.std.proofs.Math.Seq.{take-append_seam, take-length}
+use Rattle.std.proofs.lemmas.List.{append_assoc, get_or_push, get_or_append_left, length-take-le}
 use Rattle.std.proofs.lemmas.Bool.Decides.{nat_tests}
 use Rattle.std.proofs.lemmas.Bool.{cases_lt}
 use Rattle.std.specs.FinMap.{get, insert}
@@ -19,7 +19,7 @@ use Rattle.yak_model.specs.declared.datum.Datum.TheVariants as datum
 use Rattle.yak_model.specs.Graph.{Content, Does, Fields, Graph, IsThread, Thread, idle, is_reference, fields_at, fields_or_none, next_name, put_field, refusal_of, shown, slot_of, stack_of, thread_of, with_object, with_thread}
 use Rattle.yak_model.specs.Private.{IsMade, KnownObjects, OwnCall, StoresKnown}
 use Rattle.yak_model.specs.Standing.{Standing, MovesKnown}
-use Rattle.heap_tables.specs.Runs.{IsInSlot, stack_in, slot_in, pushed, popped, next_of, IsShown}
+use Rattle.heap_tables.specs.Runs.{IsInSlot, stack_in, slot_in, pushed, popped, without_top, next_of, IsShown}
 
 leb_false : (a b : ℕ) → b < a → leb a b ≡ false
 leb_false a b h = grind (arith, nat_tests)
@@ -51,6 +51,18 @@ thread_same g t state h = let lt : (t - 1) < length g.threads = omega (arith, h.
 
 free_four : (a b c d : Bool) (p q r s : Refusal) → a ≡ false → b ≡ false → c ≡ false → d ≡ false → cond a (Some p) (cond b (Some q) (cond c (Some r) (cond d (Some s) None))) ≡ None
 free_four a b c d p q r s ea eb ec ed = simp (ea, eb, ec, ed) refl
+
+bad_two : (a b : Bool) (p q : Refusal) (rest : Option Refusal) → b ≡ true → (why : Refusal) × (cond a (Some p) (cond b (Some q) rest) ≡ Some why)
+bad_two true b p q rest e = (p, refl)
+bad_two false b p q rest e = (q, ap (λ t. cond t (Some q) rest) e)
+
+bad_three : (a b c : Bool) (p q r : Refusal) (rest : Option Refusal) → c ≡ true → (why : Refusal) × (cond a (Some p) (cond b (Some q) (cond c (Some r) rest)) ≡ Some why)
+bad_three true b c p q r rest e = (p, refl)
+bad_three false true c p q r rest e = (q, refl)
+bad_three false false c p q r rest e = (r, ap (λ t. cond t (Some r) rest) e)
+
+not_ok : (why : Refusal) (said : Reply) → said ≡ reply.Refused why → said ≡ reply.Ok → ⊥
+not_ok why said e f = cc
 
 free_three : (a b c : Bool) (p q r : Refusal) → a ≡ false → b ≡ false → c ≡ false → cond a (Some p) (cond b (Some q) (cond c (Some r) None)) ≡ None
 free_three a b c p q r ea eb ec = simp (ea, eb, ec) refl
@@ -102,6 +114,30 @@ module _ (s : Standing) (known : KnownObjects) (said : Reply) (own : Thread) (kn
       let d : Does m.before s.thread (call.Load i f) said m.later = unrefused _ _ _ free m.moves.1 in
       own_with s known _ said own knows m (λ o. pushed o (get_or (fields_at m.before (slot_of m.before s.thread i)) f datum.Null)) d.1
       ∙ ap (λ (vs : List Datum). pushed s.own (get_or vs f datum.Null)) (fields_before s known _ said own knows m i name values slot)
+
+  -- a load that pushes is answered by ok, and any other by a refusal
+  pub load_said : (i f : ℕ) → MovesKnown s known (call.Load i f) said own knows
+      → (name : Name) (values : List Datum) → IsInSlot s known i name values → f < length values → length (stack_in s) < STACK_SLOTS
+      → said ≡ reply.Ok
+  load_said i f m name values slot bound room =
+      let free : refusal_of m.before s.thread (call.Load i f) ≡ None =
+      free_four _ _ _ _ _ _ _ _ (good_slot s known _ said own knows m i (in_bounds (stack_in s) i name slot.0))
+      (good_reference s known _ said own knows m i name slot.0)
+      (good_field s known _ said own knows m i f name values slot bound)
+      (not_full s known _ said own knows m room) in
+      let d : Does m.before s.thread (call.Load i f) said m.later = unrefused _ _ _ free m.moves.1 in d.0
+
+  load_none : (i f : ℕ) → (m : MovesKnown s known (call.Load i f) said own knows) → (why : Refusal) × (refusal_of m.before s.thread (call.Load i f) ≡ Some why) → (said ≡ reply.Ok → ⊥) × (own ≡ s.own)
+  load_none i f m bad = let r = was_refused _ _ _ _ bad.1 m.moves.1 in (not_ok bad.0 said r.0, own_same s known _ said own knows m r.1)
+
+  pub load_null : (i f : ℕ) → MovesKnown s known (call.Load i f) said own knows → slot_in s i ≡ datum.Null → (said ≡ reply.Ok → ⊥) × (own ≡ s.own)
+  load_null i f m null = load_none i f m (bad_two _ _ _ _ _ (ap (λ v. not (is_reference v)) (slot_before s known _ said own knows m i ∙ null)))
+
+  pub load_past : (i f : ℕ) → MovesKnown s known (call.Load i f) said own knows
+      → (name : Name) (values : List Datum) → IsInSlot s known i name values → length values ≤ f → (said ≡ reply.Ok → ⊥) × (own ≡ s.own)
+  load_past i f m name values slot past =
+      load_none i f m (bad_three (leb (length (stack_of m.before s.thread)) i) (not (is_reference (slot_of m.before s.thread i))) (leb (length (fields_at m.before (slot_of m.before s.thread i))) f) refusal.BadSlot refusal.NotAReference refusal.BadField
+      (cond (leb STACK_SLOTS (length (stack_of m.before s.thread))) (Some refusal.StackFull) None) (ap (λ (vs : List Datum). leb (length vs) f) (fields_before s known _ said own knows m i name values slot) ∙ leb_true _ _ past))
 
   pub load_keeps : (i f : ℕ) → MovesKnown s known (call.Load i f) said own knows → knows known
   load_keeps i f m = m.known_later known (λ _. refl, λ _. refl)
@@ -237,6 +273,46 @@ length_push xs x = length-append xs (x ∷ [])
 
 pub popped_pushed : (o : Thread) (x : Datum) → popped (pushed o x) ≡ o
 popped_pushed o x = ap (λ (st : List Datum). record o { stack = st }) (take_push o.stack x)
+
+pub is_false : (b : Bool) → (b ≡ true → ⊥) → b ≡ false
+is_false true h = absurd (h refl)
+is_false false h = refl
+
+-- what is known of a field by whether it was there
+pub loaded : {P Q : Type 0} (f n : ℕ) → (f < n → (true ≡ true) × P) → (n ≤ f → (true ≡ false) × Q) → P
+loaded f n there past = elim (cases_lt f n) [ inl lt ↦ (there lt).1 | inr le ↦ absurd (true≢false (past le).0) ]
+
+pub unloaded : {P Q : Type 0} (f n : ℕ) → (f < n → (false ≡ true) × P) → (n ≤ f → (false ≡ false) × Q) → Q
+unloaded f n there past = elim (cases_lt f n) [ inl lt ↦ absurd (true≢false (sym (there lt).0)) | inr le ↦ (past le).1 ]
+
+-- drops one after another
+pub drop_none : (o : Thread) → without_top o 0 ≡ o
+drop_none o = let e : length o.stack - 0 ≡ length o.stack = omega arith in ap (λ (st : List Datum). record o { stack = st }) (ap (λ n. take n o.stack) e ∙ take-length o.stack)
+
+take_of_take : (n m : ℕ) (xs : List Datum) → n ≤ m → take n (take m xs) ≡ take n xs
+take_of_take zero m xs h = refl
+take_of_take (suc n) zero xs h = absurd (omega (arith, h))
+take_of_take (suc n) (suc m) [] h = refl
+take_of_take (suc n) (suc m) (x ∷ xs) h = ap (λ ys. x ∷ ys) (take_of_take n m xs (omega (arith, h)))
+
+pub drop_next : (o : Thread) (i : ℕ) → i < length o.stack → popped (without_top o i) ≡ without_top o (i + 1)
+drop_next o i h =
+    let size : length (take (length o.stack - i) o.stack) ≡ length o.stack - i = length-take-le (length o.stack - i) o.stack (omega arith) in
+    let less : length (take (length o.stack - i) o.stack) - 1 ≡ length o.stack - (i + 1) = omega (arith, size) in
+    ap (λ (st : List Datum). record o { stack = st })
+    (ap (λ n. take n (take (length o.stack - i) o.stack)) less ∙ take_of_take (length o.stack - (i + 1)) (length o.stack - i) o.stack (omega arith))
+
+pub drop_size : (o : Thread) (i : ℕ) → length (without_top o i).stack ≡ length o.stack - i
+drop_size o i = length-take-le (length o.stack - i) o.stack (omega arith)
+
+-- drops that take away all that was pushed
+pub drop_pushes : (o : Thread) (x : Datum) (xs : List Datum) (n : ℕ) → length xs ≡ n → without_top (record (pushed o x) { stack = (pushed o x).stack ++ xs }) (n + 1) ≡ o
+drop_pushes o x xs n e =
+    let one : (o.stack ++ x ∷ []) ++ xs ≡ o.stack ++ x ∷ xs = append_assoc o.stack (x ∷ []) xs in
+    let size : length (o.stack ++ x ∷ xs) ≡ length o.stack + length (x ∷ xs) = length-append o.stack (x ∷ xs) in
+    let less : length (o.stack ++ x ∷ xs) - (n + 1) ≡ length o.stack = omega (arith, size, e) in
+    ap (λ (st : List Datum). record o { stack = take (length st - (n + 1)) st }) one
+    ∙ ap (λ (st : List Datum). record o { stack = st }) (ap (λ k. take k (o.stack ++ x ∷ xs)) less ∙ take-append_seam o.stack (x ∷ xs))
 
 -- what is shown of an integer, and of nothing else
 pub is_shown_int : (v : Datum) (said : Reply) (n : ℕ) → IsShown v said → (said ≡ reply.Int n) ↔ (v ≡ datum.Int n)

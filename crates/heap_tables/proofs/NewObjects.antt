@@ -11,7 +11,8 @@ use Rattle.object_layout.specs.declared.replies.Reply.{Reply}
 use Rattle.object_layout.specs.declared.replies.Reply.TheVariants as reply
 use Rattle.yak_model.specs.declared.TheConstants.{STACK_SLOTS}
 use Rattle.yak_model.specs.Graph.{Limits, Thread, standard_limits}
-use Rattle.yak_model.specs.History.{Collected, Entry, Said}
+use Rattle.yak_model.specs.declared.history.Entry.{Entry}
+use Rattle.yak_model.specs.declared.history.Entry.TheVariants.{Collected, Said}
 use Rattle.yak_model.specs.Private.{KnownObjects}
 use Rattle.yak_model.specs.Standing.{AddsEntries, Counted, IsLast, MovesKnown, Standing, Stays, counted_on, entries_of, words_made}
 use Rattle.heap_tables.specs.Runs.{GrowsPlainly, IsPlainEntry, IsRefused, Ran, RanOut, Since, stack_in, with_made}

@@ -1,5 +1,5 @@
 -- The place of a walk, in a field of the table.
-use Rattle.std.proofs.Common.{zero, suc, ◌≡◌, ◌≢◌, ◌⊎◌, inl, inr, ℕ, ◌<◌, ◌≤◌, Bool, true, false, List, [], ◌∷◌, ◌++◌, get_or, set, refl, ◌∙◌, ap, sym, subst, length, Some, arith, length-set, get_or-set_same, append_assoc, length-append}
+use Rattle.std.proofs.Common.{zero, suc, ◌+◌, ◌≡◌, ◌≢◌, ◌⊎◌, inl, inr, ℕ, ◌<◌, ◌≤◌, Bool, true, false, List, [], ◌∷◌, ◌++◌, get_or, set, refl, ◌∙◌, ap, sym, subst, length, Some, arith, length-set, get_or-set_same, append_assoc, length-append}
 use Rattle.std.proofs.lemmas.Bool.{cases_lt}
 use Rattle.std.specs.FinMap.{get, insert, same_map}
 use Rattle.object_layout.specs.declared.names.Name.{Name}
@@ -12,8 +12,8 @@ use Rattle.yak_model.specs.Standing.{Standing}
 use Rattle.heap_tables.specs.Runs.{pushed, with_field}
 use Rattle.heap_tables.proofs.Effects.{IsAt, slot_after, slot_same, slot_below, size_after}
 use Rattle.yak_model.specs.Tables.{Link, IsChain, LacksWord}
-use Rattle.heap_tables.specs.Walks.{Looked, IsAtChain, IsApart, IsPlace, Walked, Found, with_place}
 use Rattle.heap_tables.specs.declared.chains.Look.TheVariants as look
+use Rattle.heap_tables.specs.Walks.{IsAtChain, IsApart, IsPlace, Stops, Walked, Found, with_place}
 
 -- two maps that answer alike but at one name
 abbrev pub Agree : KnownObjects → KnownObjects → Name → Type 0
@@ -59,20 +59,21 @@ place_again known name values b x y = insert_again known name (Fields (set value
 pub place_same : (known : KnownObjects) (name : Name) (values : List Datum) (b : ℕ) → get known name ≡ Some (Fields values) → with_place known name values b (get_or values b datum.Null) ≡ known
 place_same known name values b h = ap (λ vs. insert known name (Fields vs)) (set_same values b) ∙ insert_same known name (Fields values) h
 
-apart_rest : (name : Name) (passed rest : List Link) → IsApart name (passed ++ rest) → IsApart name rest
+pub apart_rest : (name : Name) (passed rest : List Link) → IsApart name (passed ++ rest) → IsApart name rest
 apart_rest name [] rest h = h
 apart_rest name (link ∷ passed) rest h = apart_rest name passed rest h.2
 
-lacks_more : (word : List ℕ) (passed : List Link) (link : Link) → LacksWord word passed → link.word ≢ word → LacksWord word (passed ++ link ∷ [])
+pub lacks_more : (word : List ℕ) (passed : List Link) (link : Link) → LacksWord word passed → link.word ≢ word → LacksWord word (passed ++ link ∷ [])
 lacks_more word [] link h ne = (ne, tt)
 lacks_more word (first ∷ passed) link h ne = (h.0, lacks_more word passed link h.1 ne)
 
-append_nil : {A : Type 0} (xs : List A) → xs ++ [] ≡ xs
+pub lacks_append : (word : List ℕ) (passed more : List Link) → LacksWord word passed → LacksWord word more → LacksWord word (passed ++ more)
+lacks_append word [] more h m = m
+lacks_append word (link ∷ passed) more h m = (h.0, lacks_append word passed more h.1 m)
+
+pub append_nil : {A : Type 0} (xs : List A) → xs ++ [] ≡ xs
 append_nil [] = refl
 append_nil (x ∷ xs) = ap (λ ys. x ∷ ys) (append_nil xs)
-
-not_found : look.Further ≡ look.Found → ⊥
-not_found e = cc
 
 tail_of : List ℕ → List ℕ
 tail_of [] = []
@@ -125,57 +126,56 @@ module _ (s : Standing) (known : KnownObjects) (table : ℕ) (name : Name) (valu
       subst (λ d. IsChain (with_place known name values b p.place) d rest) (sym (get_or-set_same values b p.place datum.Null at.1)) p.chain,
     )
 
-  -- a look moves the place
-  pub further_place : (knows : KnownObjects → Type 0) (passed rest : List Link) (p : IsPlace known name values b word links knows passed rest)
-      → (now : Standing) (own : Thread) (knows_after : KnownObjects → Type 0)
-      → Looked now (with_place known name values b p.place) name (set values b p.place) b word rest look.Further own knows_after
-      → (own ≡ now.own) × ((link : Link) × (after : List Link) × (rest ≡ link ∷ after) × IsPlace known name values b word links knows_after (passed ++ link ∷ []) after)
-  further_place knows passed [] p now own ka looked = let e = looked.0 in cc
-  further_place knows passed (link ∷ after) p now own ka looked =
-      let ne : link.word ≢ word = λ e. not_found (looked.0 e).0 in
-      let r = looked.1 ne in
-      let parts : links ≡ (passed ++ link ∷ []) ++ after = p.parts ∙ sym (append_assoc passed (link ∷ []) after) in (
-        r.1,
-        (
-          link,
-          after,
-          refl,
-          record {
-            place = r.2.0;
-            parts = parts;
-            lacks = lacks_more word passed link p.lacks ne;
-            chain = chain_agrees (with_place known name values b p.place) (with_place known name values b r.2.0) name (inserts_agree known name _ _) after r.2.0 (apart_rest name (passed ++ link ∷ []) after (subst (IsApart name) parts apart)) r.2.2;
-            known_now = subst ka (place_again known name values b p.place r.2.0) r.2.3;
-          },
-        ),
-      )
+    -- a walk goes on from the place
+    pub on_place : (knows_after : KnownObjects → Type 0) (more after : List Link)
+        → IsPlace (with_place known name values b p.place) name (set values b p.place) b word rest knows_after more after
+        → IsPlace known name values b word links knows_after (passed ++ more) after
+    on_place ka more after q = record {
+      place = q.place;
+      parts = p.parts ∙ ap (λ ls. passed ++ ls) q.parts ∙ sym (append_assoc passed more after);
+      lacks = lacks_append word passed more p.lacks q.lacks;
+      chain = subst (λ m. IsChain m q.place after) (place_again known name values b p.place q.place) q.chain;
+      known_now = subst ka (place_again known name values b p.place q.place) q.known_now;
+    }
 
-  pub found_place : (knows : KnownObjects → Type 0) (passed rest : List Link) (p : IsPlace known name values b word links knows passed rest)
-      → (now : Standing) (own : Thread) (knows_after : KnownObjects → Type 0)
-      → Looked now (with_place known name values b p.place) name (set values b p.place) b word rest look.Found own knows_after
-      → (link : Link) × (after : List Link) × (link.word ≡ word) × (own ≡ pushed now.own (datum.Object link.entry)) × IsPlace known name values b word links knows_after passed (link ∷ after)
-  found_place knows passed [] p now own ka looked = let e = looked.0 in cc
-  found_place knows passed (link ∷ after) p now own ka looked =
-      elim (word_cases link.word word) [
-        | inl same ↦ let r = looked.0 same in (link, after, same, r.1, record { place = p.place; parts = p.parts; lacks = p.lacks; chain = p.chain; known_now = r.2 })
-        | inr other ↦ absurd (not_found (sym (looked.1 other).0))
-      ]
+  -- the same place, where what was known stays so
+  pub kept_place : (knows knows_after : KnownObjects → Type 0) (passed rest after : List Link) → rest ≡ after → IsPlace known name values b word links knows passed rest
+      → ((known : KnownObjects) → knows known → knows_after known)
+      → IsPlace known name values b word links knows_after passed after
+  kept_place knows ka passed rest after e p keeps = record {
+    place = p.place;
+    parts = p.parts ∙ ap (λ ls. passed ++ ls) e;
+    lacks = p.lacks;
+    chain = subst (λ ls. IsChain (with_place known name values b p.place) p.place ls) e p.chain;
+    known_now = keeps _ p.known_now;
+  }
 
-  pub end_place : (knows : KnownObjects → Type 0) (passed rest : List Link) (p : IsPlace known name values b word links knows passed rest)
-      → (now : Standing) (own : Thread) (knows_after : KnownObjects → Type 0)
-      → Looked now (with_place known name values b p.place) name (set values b p.place) b word rest look.End own knows_after
-      → (own ≡ now.own) × IsPlace known name values b word links knows_after links []
-  end_place knows passed [] p now own ka looked =
-      (looked.1, record { place = p.place; parts = sym (append_nil links); lacks = subst (LacksWord word) (sym (p.parts ∙ append_nil passed)) p.lacks; chain = p.chain; known_now = looked.2 })
-  end_place knows passed (link ∷ after) p now own ka looked =
-      elim (word_cases link.word word) [
-        | inl same ↦ let e = (looked.0 same).0 in cc
-        | inr other ↦ let e = (looked.1 other).0 in cc
-      ]
+  pub apart_place : (knows : KnownObjects → Type 0) (passed rest : List Link) → IsPlace known name values b word links knows passed rest → IsApart name rest
+  apart_place knows passed rest p = apart_rest name passed rest (subst (IsApart name) p.parts apart)
+
+  pub rest_place : (knows : KnownObjects → Type 0) (passed rest : List Link) → IsPlace known name values b word links knows passed rest → length passed + length rest ≡ length links
+  rest_place knows passed rest p = sym (ap length p.parts ∙ length-append passed rest)
+
+  -- the end of a chain
+  pub end_place : (knows : KnownObjects → Type 0) (passed rest : List Link) → rest ≡ [] → IsPlace known name values b word links knows passed rest → IsPlace known name values b word links knows links []
+  end_place knows passed rest e p =
+      let whole : links ≡ passed = p.parts ∙ ap (λ ls. passed ++ ls) e ∙ append_nil passed in record {
+        place = p.place;
+        parts = sym (append_nil links);
+        lacks = subst (LacksWord word) (sym whole) p.lacks;
+        chain = subst (λ ls. IsChain (with_place known name values b p.place) p.place ls) e p.chain;
+        known_now = p.known_now;
+      }
 
   pub spent_place : (knows : KnownObjects → Type 0) (passed rest : List Link) (p : IsPlace known name values b word links knows passed rest) → length links ≤ length passed → IsPlace known name values b word links knows links []
   spent_place knows passed [] p bound = record { place = p.place; parts = sym (append_nil links); lacks = subst (LacksWord word) (sym (p.parts ∙ append_nil passed)) p.lacks; chain = p.chain; known_now = p.known_now }
   spent_place knows passed (link ∷ after) p bound = let e = ap length p.parts ∙ length-append passed (link ∷ after) in absurd (omega (arith, bound, e))
+
+-- a walk that stops at the word's entry
+pub found_there : (known : KnownObjects) (head : Datum) (rest : List Link) (word : List ℕ) → IsChain known head rest → Stops word look.Found rest
+    → (link : Link) × (more : List Link) × (rest ≡ link ∷ more) × (link.word ≡ word) × (head ≡ datum.Object link.entry)
+found_there known head rest word chain stops =
+    let here = subst (λ ls. IsChain known head ls) stops.2 chain in (stops.0, stops.1, stops.2, stops.3, here.0)
 
 -- a slot below the top one keeps its value, whatever a walk pushes
 below_same : (mid own : Thread) (top : ℕ) (front : Datum) → own ≡ mid → get_or mid.stack top datum.Null ≡ front → top < length mid.stack → (get_or own.stack top datum.Null ≡ front) × (top < length own.stack)

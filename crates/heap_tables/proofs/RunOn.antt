@@ -3,7 +3,7 @@ use Rattle.std.proofs.Common.{◌≡◌, ℕ, ◌+◌, ◌-◌, ◌^◌, min, Li
 use Rattle.std.proofs.lemmas.List.{append_assoc, append-nil}
 use Rattle.std.proofs.lemmas.List.Elements.{All-append, All-nil}
 use Rattle.yak_model.specs.Graph.{Thread}
-use Rattle.yak_model.specs.History.{Entry}
+use Rattle.yak_model.specs.declared.history.Entry.{Entry}
 use Rattle.yak_model.specs.Private.{KnownObjects}
 use Rattle.yak_model.specs.Standing.{Standing, Stays, counted_on}
 use Rattle.heap_tables.specs.Runs.{next_of, GrowsPlainly, IsPlainEntry, Ran, RanOut, Since}

@@ -12,7 +12,8 @@ use Rattle.object_layout.specs.declared.TheConstants.{OBJECT_WORDS}
 use Rattle.yak_model.specs.declared.datum.Datum.{Datum}
 use Rattle.yak_model.specs.declared.datum.Datum.TheVariants as datum
 use Rattle.yak_model.specs.Graph.{Fields, Thread}
-use Rattle.yak_model.specs.History.{Entry, Said, Collected}
+use Rattle.yak_model.specs.declared.history.Entry.{Entry}
+use Rattle.yak_model.specs.declared.history.Entry.TheVariants.{Said, Collected}
 use Rattle.yak_model.specs.Private.{KnownObjects}
 use Rattle.yak_model.specs.Standing.{Standing, Stays, counted_on}
 
@@ -29,6 +30,10 @@ pushed own value = record own { stack = own.stack ++ value ∷ [] }
 
 abbrev pub popped : Thread → Thread
 popped own = record own { stack = take (length own.stack - 1) own.stack }
+
+-- without so many slots from the top
+abbrev pub without_top : Thread → ℕ → Thread
+without_top own n = record own { stack = take (length own.stack - n) own.stack }
 
 -- the name of the thread's next object
 abbrev pub next_of : Standing → Name

@@ -1,12 +1,12 @@
 -- One step of a walk along a chain, whose place stands in the table.
-use Rattle.std.specs.Prelude.{◌≡◌, ◌≢◌, ℕ, ◌^◌, ◌<◌, Bool, true, false, List, [], ◌∷◌, ◌++◌, length, slice_index_or}
+use Rattle.std.specs.Prelude.{◌≡◌, ◌≢◌, ℕ, ◌+◌, ◌^◌, ◌<◌, Bool, true, false, List, [], ◌∷◌, ◌++◌, length, slice_index_or}
 use Rattle.object_layout.specs.declared.names.Name.{Name}
 use Rattle.yak_model.specs.declared.datum.Datum.{Datum}
 use Rattle.yak_model.specs.declared.datum.Datum.TheVariants as datum
 use Rattle.yak_model.specs.Graph.{Thread}
 use Rattle.yak_model.specs.Private.{KnownObjects}
 use Rattle.yak_model.specs.Standing.{Standing}
-use Rattle.heap_tables.specs.Runs.{IsInSlot, slot_in, popped, pushed, with_field}
+use Rattle.heap_tables.specs.Runs.{IsInSlot, slot_in, pushed, with_field}
 use Rattle.yak_model.specs.Tables.{Link, IsChain, IsEntry, LacksWord}
 use Rattle.heap_tables.specs.declared.chains.Look.{Look}
 use Rattle.heap_tables.specs.declared.chains.Look.TheVariants as look
@@ -15,8 +15,35 @@ use Rattle.heap_tables.specs.declared.chains.Look.TheVariants as look
 abbrev pub IsEntryInSlot : Standing → KnownObjects → ℕ → Datum → Link → Type 0
 IsEntryInSlot s known i next link = (slot_in s i ≡ datum.Object link.entry) × IsEntry known next link
 
-abbrev pub HasEntry : Standing → (KnownObjects → Type 0) → ℕ → Type 0
-HasEntry s knows i = (known : KnownObjects) × (next : Datum) × (link : Link) × knows known × IsEntryInSlot s known i next link
+-- A slot has the first of a chain.
+abbrev pub HasLinks : Standing → (KnownObjects → Type 0) → ℕ → Type 0
+HasLinks s knows i = (known : KnownObjects) × (links : List Link) × knows known × IsChain known (slot_in s i) links
+
+-- What a look at the first entry of a chain leaves: the next one on top, if the word is another.
+abbrev pub Looked : Thread → KnownObjects → List ℕ → List Link → Look → Thread → Type 0
+Looked own known word [] said after = (said ≡ look.End) × (after ≡ own)
+Looked own known word (link ∷ links) said after =
+    (link.word ≡ word → (said ≡ look.Found) × (after ≡ own))
+    × (link.word ≢ word → (said ≡ look.Further) × ((next : Datum) × IsEntry known next link × IsChain known next links × (after ≡ pushed own next)))
+
+-- What is told of the rest of a chain, where a walk along it stops.
+abbrev pub Stops : List ℕ → Look → List Link → Type 0
+Stops word look.End rest = rest ≡ []
+Stops word look.Found rest = (link : Link) × (after : List Link) × (rest ≡ link ∷ after) × (link.word ≡ word)
+Stops word look.Further rest = Unit {0}
+
+-- So many entries of the chain that a slot has were passed, each of which left the next one on the stack.
+pub record IsClimbed (own : Thread) (known : KnownObjects) (word : List ℕ) (links : List Link) (at : ℕ) (said : Look) (n : ℕ) (after : Thread) : Type 0 where
+  pub passed : List Link
+  pub rest : List Link
+  pub pushes : List Datum
+  pub parts : links ≡ passed ++ rest
+  pub count : length passed ≡ n
+  pub lacks : LacksWord word passed
+  pub size : length pushes ≡ n
+  pub stack : after ≡ record own { stack = own.stack ++ pushes }
+  pub chain : IsChain known (slice_index_or after.stack (at + n) datum.Null) rest
+  pub stops : Stops word said rest
 
 -- The field of the object in a slot is the first of a chain.
 abbrev pub IsAtChain : Standing → KnownObjects → ℕ → ℕ → Name → List Datum → List Link → Type 0
@@ -26,24 +53,6 @@ IsAtChain s known table b name values links =
 abbrev pub HasChain : Standing → (KnownObjects → Type 0) → ℕ → ℕ → Type 0
 HasChain s knows table b =
     (known : KnownObjects) × (name : Name) × (values : List Datum) × (links : List Link) × knows known × IsAtChain s known table b name values links
-
--- What a look at the first entry of a chain leaves.
-abbrev pub Looked : Standing → KnownObjects → Name → List Datum → ℕ → List ℕ → List Link → Look → Thread → (KnownObjects → Type 0) → Type 0
-Looked s known name values b word [] said own knows = (said ≡ look.End) × (own ≡ s.own) × knows known
-Looked s known name values b word (link ∷ links) said own knows =
-    (link.word ≡ word → (said ≡ look.Found) × (own ≡ pushed s.own (datum.Object link.entry)) × knows known)
-    × (link.word ≢ word → (said ≡ look.Further) × (own ≡ s.own) × ((next : Datum) × IsEntry known next link × IsChain known next links × knows (with_field known name values b next)))
-
--- A slot refers to an object with so many fields, and another one to an entry.
-abbrev pub HasPlace : Standing → (KnownObjects → Type 0) → ℕ → ℕ → ℕ → Type 0
-HasPlace s knows table b at =
-    (known : KnownObjects) × (name : Name) × (values : List Datum) × (next : Datum) × (link : Link) × knows known × IsInSlot s known table name values × (b < length values) × IsEntryInSlot s known at next link
-
--- What it leaves to compare an entry's word.
-abbrev pub Examined : Standing → KnownObjects → Name → List Datum → ℕ → List ℕ → Datum → Link → Bool → Thread → (KnownObjects → Type 0) → Type 0
-Examined s known name values b word next link said own knows =
-    (link.word ≡ word → (said ≡ true) × (own ≡ s.own) × knows known)
-    × (link.word ≢ word → (said ≡ false) × (own ≡ popped s.own) × knows (with_field known name values b next))
 
 -- The object is no part of the chain.
 abbrev pub IsApart : Name → List Link → Type 0
@@ -65,6 +74,14 @@ pub record IsPlace (known : KnownObjects) (name : Name) (values : List Datum) (b
   pub lacks : LacksWord word passed
   pub chain : IsChain (with_place known name values b place) place rest
   pub known_now : knows (with_place known name values b place)
+
+-- What it leaves to look at the next entries of a chain.
+pub record IsPassed (known : KnownObjects) (name : Name) (values : List Datum) (b : ℕ) (word : List ℕ) (links : List Link) (said : Look) (knows : KnownObjects → Type 0) : Type 0 where
+  pub passed : List Link
+  pub rest : List Link
+  pub place : IsPlace known name values b word links knows passed rest
+  pub stops : Stops word said rest
+  pub some : said ≡ look.Further → 0 < length passed
 
 -- What a walk along a chain leaves.
 abbrev pub Walked : Standing → KnownObjects → Name → List Datum → ℕ → List ℕ → List Link → Bool → Thread → (KnownObjects → Type 0) → Type 0

@@ -5,14 +5,19 @@ ghost use Rattle.yak_model.specs.Private.{KnownObjects};
 ghost use Rattle.yak_model.specs.declared.datum.Datum.{Datum};
 ghost use Rattle.yak_model.specs.declared.datum.Datum.TheVariants as datum;
 ghost use Rattle.object_layout.specs.declared.names.Name.{Name};
-ghost use Rattle.heap_tables.specs.Runs.{KeepsKnown, IsInSlot, Ran, stack_in};
-ghost use Rattle.yak_model.specs.Tables.{Link};
-ghost use Rattle.heap_tables.specs.declared.TheConstants.{KEY_BYTES};
-ghost use Rattle.heap_tables.specs.Walks.{HasEntry, IsEntryInSlot, HasChain, HasPlace, IsAtChain, Examined, Looked, HasWalk, IsApart, Walked, Found};
+ghost use Rattle.heap_tables.specs.Runs.{KeepsKnown, Ran, slot_in, stack_in};
+ghost use Rattle.yak_model.specs.Tables.{Link, IsChain, group};
+ghost use Rattle.heap_tables.specs.declared.TheConstants.{FREE_SLOTS, KEY_BYTES};
+ghost use Rattle.heap_tables.specs.declared.chains.TheConstants.{LOOKS};
+ghost use Rattle.heap_tables.specs.declared.chains.Look.TheVariants as look;
+ghost use Rattle.heap_tables.specs.Walks.{HasLinks, IsAtChain, IsClimbed, IsPassed, Looked, HasWalk, IsApart, Walked, Found};
 
-use crate::keys::is_key;
-use crate::steps::{copy_field, load, pop, slot_is_null, store};
+use crate::keys::{group, is_key};
+use crate::steps::{load, pop, pop_all, store, try_load};
 use yak_model::Caller;
+
+/// How many entries of a chain are looked at on the stack, before the place is put into the table's bucket.
+const LOOKS: u32 = 5;
 
 /// What a look at a chain finds.
 #[derive(Clone, Copy, Debug, PartialEq, Eq, Drop)]
@@ -22,74 +27,103 @@ pub enum Look {
     Further,
 }
 
-/// Whether a slot refers to an entry of the word.
-fn entry_is<C: Caller>(caller: &mut C, entry: u32, word: &[u8], top: u32) -> bool
-    requires entry { HasEntry (C.standing caller.old) (C.knows caller.old) entry }
+/// Looks at the entry in the top slot, if there is one. Pushes the next one if it isn't the word's.
+#[inline(always)]
+fn look_once<C: Caller>(caller: &mut C, word: &[u8], first: u64, at: u32) -> Look
+    requires chain { HasLinks (C.standing caller.old) (C.knows caller.old) at }
     requires word { length word.now ≤ KEY_BYTES }
+    requires first { first ≡ group word.now 0 }
     requires room { length (stack_in (C.standing caller.old)) + 1 < STACK_SLOTS }
-    requires top { length (stack_in (C.standing caller.old)) ≡ top }
+    requires top { length (stack_in (C.standing caller.old)) ≡ at + 1 }
     ensures ran { Ran C.base C.tells C.tells_known C.standing caller.old caller.new 0 }
     ensures keeps { KeepsKnown (C.knows caller.old) (C.knows caller.new) }
-    ensures own { (C.standing caller.new).own ≡ (C.standing caller.old).own }
-    ensures answer { (known : KnownObjects) (next : Datum) (link : Link) → C.knows caller.old known → IsEntryInSlot (C.standing caller.old) known entry next link → IsTrue result ↔ (link.word ≡ word.now) }
+    ensures looked { (known : KnownObjects) (links : List Link) → C.knows caller.old known → IsChain known (slot_in (C.standing caller.old) at) links → Looked (C.standing caller.old).own known word.now links result (C.standing caller.new).own }
 {
-    load(caller, entry, 1);
-    let same = is_key(caller, top, word, top + 1);
-    pop(caller);
-    same
-}
-
-/// Whether the top slot refers to an entry of the word. If it doesn't, the walk goes on to the next one.
-fn examine<C: Caller>(caller: &mut C, table: u32, bucket: u32, word: &[u8], top: u32) -> bool
-    requires place { HasPlace (C.standing caller.old) (C.knows caller.old) table bucket top }
-    requires word { length word.now ≤ KEY_BYTES }
-    requires room { length (stack_in (C.standing caller.old)) + 1 < STACK_SLOTS }
-    requires top { length (stack_in (C.standing caller.old)) ≡ top + 1 }
-    ensures ran { Ran C.base C.tells C.tells_known C.standing caller.old caller.new 0 }
-    ensures examined { (known : KnownObjects) (name : Name) (values : List Datum) (next : Datum) (link : Link) → C.knows caller.old known → IsInSlot (C.standing caller.old) known table name values → bucket < length values → IsEntryInSlot (C.standing caller.old) known top next link → Examined (C.standing caller.old) known name values bucket word.now next link result (C.standing caller.new).own (C.knows caller.new) }
-{
-    if entry_is(caller, top, word, top + 1) {
-        return true;
-    }
-    copy_field(caller, top, 0, table, bucket, top + 1);
-    pop(caller);
-    false
-}
-
-/// Looks at the first entry of a chain, pushes it if it is the word's, and else goes on to the next.
-fn look_on<C: Caller>(caller: &mut C, table: u32, bucket: u32, word: &[u8], top: u32) -> Look
-    requires chain { HasChain (C.standing caller.old) (C.knows caller.old) table bucket }
-    requires word { length word.now ≤ KEY_BYTES }
-    requires room { length (stack_in (C.standing caller.old)) + 2 < STACK_SLOTS }
-    requires top { length (stack_in (C.standing caller.old)) ≡ top }
-    ensures ran { Ran C.base C.tells C.tells_known C.standing caller.old caller.new 0 }
-    ensures looked { (known : KnownObjects) (name : Name) (values : List Datum) (links : List Link) → C.knows caller.old known → IsAtChain (C.standing caller.old) known table bucket name values links → Looked (C.standing caller.old) known name values bucket word.now links result (C.standing caller.new).own (C.knows caller.new) }
-{
-    load(caller, table, bucket);
-    if slot_is_null(caller, top) {
-        pop(caller);
+    if !try_load(caller, at, 1) {
         return Look::End;
     }
-    if examine(caller, table, bucket, word, top) {
-        Look::Found
-    } else {
-        Look::Further
+    let same = is_key(caller, at + 1, word, first, at + 2);
+    pop(caller);
+    if same {
+        return Look::Found;
     }
+    load(caller, at, 0);
+    Look::Further
+}
+
+/// Looks at entries of the chain in the top slot, each on top of the one before, as far as there are more and the stack has
+/// room. Gives how many were passed.
+fn climb<C: Caller>(caller: &mut C, word: &[u8], first: u64, at: u32) -> (Look, u32)
+    requires chain { HasLinks (C.standing caller.old) (C.knows caller.old) at }
+    requires word { length word.now ≤ KEY_BYTES }
+    requires first { first ≡ group word.now 0 }
+    requires room { length (stack_in (C.standing caller.old)) + LOOKS < STACK_SLOTS }
+    requires top { length (stack_in (C.standing caller.old)) ≡ at + 1 }
+    ensures ran { Ran C.base C.tells C.tells_known C.standing caller.old caller.new 0 }
+    ensures keeps { KeepsKnown (C.knows caller.old) (C.knows caller.new) }
+    ensures few { result.1 ≤ LOOKS }
+    ensures all { result.0 ≡ look.Further → result.1 ≡ LOOKS }
+    ensures climbed { (known : KnownObjects) (links : List Link) → C.knows caller.old known → IsChain known (slot_in (C.standing caller.old) at) links → IsClimbed (C.standing caller.old).own known word.now links at result.0 result.1 (C.standing caller.new).own }
+{
+    for n in 0..LOOKS {
+        match look_once(caller, word, first, at + n) {
+            Look::End => return (Look::End, n),
+            Look::Found => return (Look::Found, n),
+            Look::Further => {}
+        }
+    }
+    (Look::Further, LOOKS)
+}
+
+/// Looks at the next entries of a chain, and puts the place that it comes to into the table's bucket.
+fn look_on<C: Caller>(
+    caller: &mut C,
+    table: u32,
+    bucket: u32,
+    word: &[u8],
+    first: u64,
+    top: u32,
+) -> Look
+    requires chain { HasWalk (C.standing caller.old) (C.knows caller.old) table bucket }
+    requires word { length word.now ≤ KEY_BYTES }
+    requires first { first ≡ group word.now 0 }
+    requires room { length (stack_in (C.standing caller.old)) + LOOKS + 1 < STACK_SLOTS }
+    requires top { length (stack_in (C.standing caller.old)) ≡ top }
+    ensures ran { Ran C.base C.tells C.tells_known C.standing caller.old caller.new 0 }
+    ensures own { (C.standing caller.new).own ≡ (C.standing caller.old).own }
+    ensures passed { (known : KnownObjects) (name : Name) (values : List Datum) (links : List Link) → C.knows caller.old known → IsAtChain (C.standing caller.old) known table bucket name values links → IsApart name links → IsPassed known name values bucket word.now links result (C.knows caller.new) }
+{
+    load(caller, table, bucket);
+    let (said, n) = climb(caller, word, first, top);
+    store(caller, table, bucket, top + n);
+    pop_all(caller, n + 1);
+    said
 }
 
 /// Walks along a chain of the table to the word's entry, and pushes it if there is one. The place of the walk stays in the table.
-fn walk<C: Caller>(caller: &mut C, table: u32, bucket: u32, word: &[u8], top: u32) -> bool
+fn walk<C: Caller>(
+    caller: &mut C,
+    table: u32,
+    bucket: u32,
+    word: &[u8],
+    first: u64,
+    top: u32,
+) -> bool
     requires chain { HasWalk (C.standing caller.old) (C.knows caller.old) table bucket }
     requires word { length word.now ≤ KEY_BYTES }
-    requires room { length (stack_in (C.standing caller.old)) + 2 < STACK_SLOTS }
+    requires first { first ≡ group word.now 0 }
+    requires room { length (stack_in (C.standing caller.old)) + LOOKS + 1 < STACK_SLOTS }
     requires top { length (stack_in (C.standing caller.old)) ≡ top }
     ensures ran { Ran C.base C.tells C.tells_known C.standing caller.old caller.new 0 }
     ensures walked { (known : KnownObjects) (name : Name) (values : List Datum) (links : List Link) → C.knows caller.old known → IsAtChain (C.standing caller.old) known table bucket name values links → IsApart name links → length links < 2 ^ 63 → Walked (C.standing caller.old) known name values bucket word.now links result (C.standing caller.new).own (C.knows caller.new) }
 {
     for i in 0..u64::MAX {
-        match look_on(caller, table, bucket, word, top) {
+        match look_on(caller, table, bucket, word, first, top) {
             Look::End => return false,
-            Look::Found => return true,
+            Look::Found => {
+                load(caller, table, bucket);
+                return true;
+            }
             Look::Further => {}
         }
     }
@@ -106,14 +140,14 @@ pub(crate) fn find<C: Caller>(
 ) -> bool
     requires chain { HasWalk (C.standing caller.old) (C.knows caller.old) table bucket }
     requires word { length word.now ≤ KEY_BYTES }
-    requires room { length (stack_in (C.standing caller.old)) + 3 < STACK_SLOTS }
+    requires room { length (stack_in (C.standing caller.old)) + FREE_SLOTS ≤ STACK_SLOTS }
     requires top { length (stack_in (C.standing caller.old)) ≡ top }
     ensures ran { Ran C.base C.tells C.tells_known C.standing caller.old caller.new 0 }
     ensures found { (known : KnownObjects) (name : Name) (values : List Datum) (links : List Link) → C.knows caller.old known → IsAtChain (C.standing caller.old) known table bucket name values links → IsApart name links → length links < 2 ^ 63 → Found (C.standing caller.old).own (slice_index_or values bucket datum.Null) word.now links result (C.standing caller.new).own }
     ensures known { (known : KnownObjects) (name : Name) (values : List Datum) (links : List Link) → C.knows caller.old known → IsAtChain (C.standing caller.old) known table bucket name values links → IsApart name links → length links < 2 ^ 63 → C.knows caller.new known }
 {
     load(caller, table, bucket);
-    let found = walk(caller, table, bucket, word, top + 1);
+    let found = walk(caller, table, bucket, word, group(word, 0), top + 1);
     store(caller, table, bucket, top);
     found
 }

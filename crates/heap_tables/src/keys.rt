@@ -1,5 +1,5 @@
 //! The keys of words.
-ghost use Rattle.std.specs.Prelude.{◌≡◌, ◌≢◌, ℕ, ◌+◌, ◌-◌, ◌*◌, ◌/◌, ◌%◌, ◌^◌, ◌<◌, ◌≤◌, ◌↔◌, ◌++◌, ◌∷◌, [], List, length, IsTrue, OnOk, OnErr, slice_index, slice_index_or, None};
+ghost use Rattle.std.specs.Prelude.{◌≡◌, ◌≢◌, ℕ, ◌+◌, ◌-◌, ◌*◌, ◌/◌, ◌%◌, ◌^◌, ◌<◌, ◌≤◌, ◌↔◌, ◌++◌, ◌∷◌, [], List, length, IsTrue, true, OnOk, OnErr, slice_index, slice_index_or, None};
 ghost use Rattle.std.specs.FinMap as finite;
 ghost use Rattle.object_layout.specs.declared.TheConstants.{MAX_FIELDS, MAX_INT, MAX_SERIAL, WORD_LIMIT};
 ghost use Rattle.yak_model.specs.declared.TheConstants.{BUCKETS, STACK_SLOTS};
@@ -11,7 +11,7 @@ ghost use Rattle.yak_model.specs.Tables.{digits, group, groups, bucket_of};
 ghost use Rattle.heap_tables.specs.declared.TheConstants.{KEY_BYTES};
 ghost use Rattle.heap_tables.specs.Keys.{HasKey, IsKeyInSlot, IsKeyBegun};
 
-use crate::steps::{field_is, push_new, put_int};
+use crate::steps::{field_is, pop, push_new, put_int, slot_is, try_load};
 use object_layout::OutOfHeap;
 use yak_model::{BUCKETS, BYTE_VALUES, Caller, GROUP_BYTES, HASH_FACTOR};
 
@@ -32,7 +32,7 @@ fn groups(word: &[u8]) -> u32
 }
 
 /// The number of a group of the bytes of a word.
-fn group(word: &[u8], i: u32) -> u64
+pub(crate) fn group(word: &[u8], i: u32) -> u64
     ensures same { result ≡ group word.now i }
     ensures small { result ≤ MAX_INT }
 {
@@ -56,8 +56,8 @@ pub(crate) fn bucket_of(word: &[u8]) -> u32
     hash as u32
 }
 
-/// Whether a slot refers to the key of the word.
-pub(crate) fn is_key<C: Caller>(caller: &mut C, key: u32, word: &[u8], top: u32) -> bool
+/// Whether a slot refers to the key of the word, by its length and all its bytes.
+fn has_bytes<C: Caller>(caller: &mut C, key: u32, word: &[u8], top: u32) -> bool
     requires key { HasKey (C.standing caller.old) (C.knows caller.old) key }
     requires word { length word.now ≤ KEY_BYTES }
     requires room { length (stack_in (C.standing caller.old)) < STACK_SLOTS }
@@ -77,6 +77,48 @@ pub(crate) fn is_key<C: Caller>(caller: &mut C, key: u32, word: &[u8], top: u32)
         }
     }
     true
+}
+
+/// Whether the first bytes of a key may be those of the word, of whose first group this is the number.
+#[inline(always)]
+fn begins_as<C: Caller>(caller: &mut C, key: u32, word: &[u8], first: u64, top: u32) -> bool
+    requires key { HasKey (C.standing caller.old) (C.knows caller.old) key }
+    requires first { first ≡ group word.now 0 }
+    requires room { length (stack_in (C.standing caller.old)) < STACK_SLOTS }
+    requires top { length (stack_in (C.standing caller.old)) ≡ top }
+    ensures ran { Ran C.base C.tells C.tells_known C.standing caller.old caller.new 0 }
+    ensures keeps { KeepsKnown (C.knows caller.old) (C.knows caller.new) }
+    ensures own { (C.standing caller.new).own ≡ (C.standing caller.old).own }
+    ensures answer { (known : KnownObjects) (name : Name) (other : List ℕ) → C.knows caller.old known → IsKeyInSlot (C.standing caller.old) known key name other → other ≡ word.now → result ≡ true }
+{
+    if word.is_empty() {
+        return true;
+    }
+    if !try_load(caller, key, 1) {
+        return false;
+    }
+    let same = slot_is(caller, top, first);
+    pop(caller);
+    same
+}
+
+/// Whether a slot refers to the key of the word, of whose first group this is the number.
+#[inline(always)]
+pub(crate) fn is_key<C: Caller>(caller: &mut C, key: u32, word: &[u8], first: u64, top: u32) -> bool
+    requires key { HasKey (C.standing caller.old) (C.knows caller.old) key }
+    requires word { length word.now ≤ KEY_BYTES }
+    requires first { first ≡ group word.now 0 }
+    requires room { length (stack_in (C.standing caller.old)) < STACK_SLOTS }
+    requires top { length (stack_in (C.standing caller.old)) ≡ top }
+    ensures ran { Ran C.base C.tells C.tells_known C.standing caller.old caller.new 0 }
+    ensures keeps { KeepsKnown (C.knows caller.old) (C.knows caller.new) }
+    ensures own { (C.standing caller.new).own ≡ (C.standing caller.old).own }
+    ensures answer { (known : KnownObjects) (name : Name) (other : List ℕ) → C.knows caller.old known → IsKeyInSlot (C.standing caller.old) known key name other → IsTrue result ↔ (other ≡ word.now) }
+{
+    if !begins_as(caller, key, word, first, top) {
+        return false;
+    }
+    has_bytes(caller, key, word, top)
 }
 
 /// Pushes a new key of the word.

@@ -97,7 +97,7 @@ fn add_entry<C: Caller>(
     requires bucket { bucket < BUCKETS }
     requires word { length word.now ≤ KEY_BYTES }
     requires names { (C.standing caller.old).own.made < MAX_SERIAL }
-    requires room { length (stack_in (C.standing caller.old)) + 5 < STACK_SLOTS }
+    requires room { length (stack_in (C.standing caller.old)) + FREE_SLOTS ≤ STACK_SLOTS }
     requires top { length (stack_in (C.standing caller.old)) ≡ top }
     ensures added { OnOk result ((m : Merge) (is : IsMerge m) (link : Link) (rest : List Link) → AreSlots (C.standing caller.old) from into m → IsMerged m is (done_at m.buckets bucket place) (C.knows caller.old) → IsEntryAt m bucket place word.now n link rest → Goes C.base C.tells C.tells_known C.standing m is (done_at m.buckets bucket place) (done_at m.buckets bucket (place + 1)) caller.old caller.new (C.knows caller.new)) }
     ensures stopped { OnErr result ((m : Merge) (is : IsMerge m) (link : Link) (rest : List Link) → AreSlots (C.standing caller.old) from into m → IsMerged m is (done_at m.buckets bucket place) (C.knows caller.old) → IsEntryAt m bucket place word.now n link rest → Stops C.base C.tells C.tells_known C.standing m is (done_at m.buckets bucket place) caller.old caller.new (C.knows caller.new)) }
@@ -122,7 +122,7 @@ fn merge_entry<C: Caller>(
     requires bucket { bucket < BUCKETS }
     requires buffer { KEY_BYTES ≤ length buffer.old }
     requires names { (C.standing caller.old).own.made < MAX_SERIAL }
-    requires room { length (stack_in (C.standing caller.old)) + 5 < STACK_SLOTS }
+    requires room { length (stack_in (C.standing caller.old)) + FREE_SLOTS ≤ STACK_SLOTS }
     requires top { length (stack_in (C.standing caller.old)) ≡ top }
     ensures buffer { length buffer.new ≡ length buffer.old }
     ensures merged { IfOk result (λ more. (m : Merge) (is : IsMerge m) → AreSlots (C.standing caller.old) from into m → IsMerged m is (done_at m.buckets bucket place) (C.knows caller.old) → MergesEntry C.base C.tells C.tells_known C.standing m is bucket place more caller.old caller.new (C.knows caller.new)) }
@@ -159,7 +159,7 @@ fn merge_bucket<C: Caller>(
     requires bucket { bucket < BUCKETS }
     requires buffer { KEY_BYTES ≤ length buffer.old }
     requires names { (C.standing caller.old).own.made + 2 ^ 32 < MAX_SERIAL }
-    requires room { length (stack_in (C.standing caller.old)) + 5 < STACK_SLOTS }
+    requires room { length (stack_in (C.standing caller.old)) + FREE_SLOTS ≤ STACK_SLOTS }
     requires top { length (stack_in (C.standing caller.old)) ≡ top }
     ensures buffer { length buffer.new ≡ length buffer.old }
     ensures merged { OnOk result ((m : Merge) (is : IsMerge m) → AreSlots (C.standing caller.old) from into m → IsMerged m is (walk m.buckets bucket) (C.knows caller.old) → Goes C.base C.tells C.tells_known C.standing m is (walk m.buckets bucket) (walk m.buckets (bucket + 1)) caller.old caller.new (C.knows caller.new)) }
@@ -184,7 +184,7 @@ fn merge_buckets<C: Caller>(
     requires tables { HasMerged (C.standing caller.old) (C.knows caller.old) from into 0 }
     requires buffer { KEY_BYTES ≤ length buffer.old }
     requires names { (C.standing caller.old).own.made ≤ MOST_MADE }
-    requires room { length (stack_in (C.standing caller.old)) + 5 < STACK_SLOTS }
+    requires room { length (stack_in (C.standing caller.old)) + FREE_SLOTS ≤ STACK_SLOTS }
     requires top { length (stack_in (C.standing caller.old)) ≡ top }
     ensures merged { OnOk result ((m : Merge) (is : IsMerge m) → AreSlots (C.standing caller.old) from into m → IsMerged m is [] (C.knows caller.old) → Goes C.base C.tells C.tells_known C.standing m is [] (walk m.buckets BUCKETS) caller.old caller.new (C.knows caller.new)) }
     ensures stopped { OnErr result ((m : Merge) (is : IsMerge m) → AreSlots (C.standing caller.old) from into m → IsMerged m is [] (C.knows caller.old) → Stops C.base C.tells C.tells_known C.standing m is [] caller.old caller.new (C.knows caller.new)) }

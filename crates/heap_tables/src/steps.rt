@@ -1,8 +1,8 @@
 //! Single calls of a caller, where it is known that they aren't refused.
-ghost use Rattle.std.specs.Prelude.{◌≡◌, ◌≢◌, ℕ, ◌+◌, ◌-◌, ◌^◌, ◌<◌, ◌≤◌, ◌++◌, ◌∷◌, [], List, length, OnOk, OnErr, slice_index_or, None, IsTrue, ◌↔◌};
+ghost use Rattle.std.specs.Prelude.{◌≡◌, ◌≢◌, ℕ, ◌+◌, ◌-◌, ◌^◌, ◌<◌, ◌≤◌, ◌++◌, ◌∷◌, [], List, length, OnOk, OnErr, slice_index_or, None, IsTrue, true, false, ◌↔◌};
 ghost use Rattle.std.specs.FinMap as finite;
 ghost use Rattle.yak_model.specs.Private.{KnownObjects};
-ghost use Rattle.heap_tables.specs.Runs.{KeepsKnown, IsInSlot, HasField, HasFields, KnowsSome, Ran, stack_in, slot_in, pushed, popped, next_of, with_made, with_new, with_field, IsShown, RanOut};
+ghost use Rattle.heap_tables.specs.Runs.{KeepsKnown, IsInSlot, HasField, HasFields, KnowsSome, Ran, stack_in, slot_in, pushed, popped, without_top, next_of, with_made, with_new, with_field, IsShown, RanOut};
 ghost use Rattle.object_layout.specs.declared.names.Name.{Name};
 ghost use Rattle.object_layout.specs.declared.TheConstants.{MAX_FIELDS, MAX_INT, MAX_SERIAL, OBJECT_WORDS};
 ghost use Rattle.yak_model.specs.declared.TheConstants.{STACK_SLOTS};
@@ -15,6 +15,7 @@ use object_layout::{Call, OutOfHeap, Refusal, Reply};
 use yak_model::{Caller, STACK_SLOTS};
 
 /// Pushes a field of a known object.
+#[inline(always)]
 pub fn load<C: Caller>(caller: &mut C, s: u32, f: u32)
     requires field { HasField (C.standing caller.old) (C.knows caller.old) s f }
     requires room { length (stack_in (C.standing caller.old)) < STACK_SLOTS }
@@ -25,7 +26,31 @@ pub fn load<C: Caller>(caller: &mut C, s: u32, f: u32)
     let _reply = caller.make_call(Call::Load(s, f));
 }
 
+/// Whether a reply says that the call was made.
+#[inline(always)]
+fn is_ok(reply: Reply) -> bool
+    ensures { IsTrue result ↔ (reply ≡ said.Ok) }
+{
+    reply == Reply::Ok
+}
+
+/// Pushes a field of an object, and tells whether there is one: a slot may be null, and an object may have no such field.
+#[inline(always)]
+pub fn try_load<C: Caller>(caller: &mut C, s: u32, f: u32) -> bool
+    requires some { KnowsSome (C.knows caller.old) }
+    requires room { length (stack_in (C.standing caller.old)) < STACK_SLOTS }
+    ensures ran { Ran C.base C.tells C.tells_known C.standing caller.old caller.new 0 }
+    ensures keeps { KeepsKnown (C.knows caller.old) (C.knows caller.new) }
+    ensures null { slot_in (C.standing caller.old) s ≡ datum.Null → (result ≡ false) × ((C.standing caller.new).own ≡ (C.standing caller.old).own) }
+    ensures past { (known : KnownObjects) (name : Name) (values : List Datum) → C.knows caller.old known → IsInSlot (C.standing caller.old) known s name values → length values ≤ f → (result ≡ false) × ((C.standing caller.new).own ≡ (C.standing caller.old).own) }
+    ensures pushed { (known : KnownObjects) (name : Name) (values : List Datum) → C.knows caller.old known → IsInSlot (C.standing caller.old) known s name values → f < length values → (result ≡ true) × ((C.standing caller.new).own ≡ pushed (C.standing caller.old).own (slice_index_or values f datum.Null)) }
+{
+    let reply = caller.make_call(Call::Load(s, f));
+    is_ok(reply)
+}
+
 /// Pushes an integer.
+#[inline(always)]
 pub fn push_int<C: Caller>(caller: &mut C, i: u64)
     requires some { KnowsSome (C.knows caller.old) }
     requires number { i ≤ MAX_INT }
@@ -38,6 +63,7 @@ pub fn push_int<C: Caller>(caller: &mut C, i: u64)
 }
 
 /// Drops the top slot.
+#[inline(always)]
 pub fn pop<C: Caller>(caller: &mut C)
     requires some { KnowsSome (C.knows caller.old) }
     requires slot { 0 < length (stack_in (C.standing caller.old)) }
@@ -48,7 +74,22 @@ pub fn pop<C: Caller>(caller: &mut C)
     let _reply = caller.make_call(Call::Pop);
 }
 
+/// Drops so many slots from the top.
+#[inline(always)]
+pub fn pop_all<C: Caller>(caller: &mut C, n: u32)
+    requires some { KnowsSome (C.knows caller.old) }
+    requires slots { n ≤ length (stack_in (C.standing caller.old)) }
+    ensures ran { Ran C.base C.tells C.tells_known C.standing caller.old caller.new 0 }
+    ensures keeps { KeepsKnown (C.knows caller.old) (C.knows caller.new) }
+    ensures popped { (C.standing caller.new).own ≡ without_top (C.standing caller.old).own n }
+{
+    for i in 0..n {
+        pop(caller);
+    }
+}
+
 /// What a slot shows.
+#[inline(always)]
 pub fn get<C: Caller>(caller: &mut C, s: u32) -> Reply
     requires some { KnowsSome (C.knows caller.old) }
     ensures ran { Ran C.base C.tells C.tells_known C.standing caller.old caller.new 0 }
@@ -61,6 +102,7 @@ pub fn get<C: Caller>(caller: &mut C, s: u32) -> Reply
 }
 
 /// Stores the value of a slot in a field of a known object.
+#[inline(always)]
 pub fn store<C: Caller>(caller: &mut C, s: u32, f: u32, x: u32)
     requires field { HasField (C.standing caller.old) (C.knows caller.old) s f }
     requires value { x < length (stack_in (C.standing caller.old)) }
@@ -91,6 +133,7 @@ pub fn push_new<C: Caller>(caller: &mut C, k: u32) -> Result<(), OutOfHeap>
 }
 
 /// What a field of a known object shows.
+#[inline(always)]
 pub fn peek<C: Caller>(caller: &mut C, s: u32, f: u32, top: u32) -> Reply
     requires field { HasField (C.standing caller.old) (C.knows caller.old) s f }
     requires room { length (stack_in (C.standing caller.old)) < STACK_SLOTS }
@@ -107,13 +150,29 @@ pub fn peek<C: Caller>(caller: &mut C, s: u32, f: u32, top: u32) -> Reply
 }
 
 /// Whether a reply shows this integer.
+#[inline(always)]
 fn is_int(shown: Reply, n: u64) -> bool
     ensures { IsTrue result ↔ (shown ≡ said.Int n) }
 {
     shown == Reply::Int(n)
 }
 
+/// Whether a slot is this integer.
+#[inline(always)]
+pub fn slot_is<C: Caller>(caller: &mut C, s: u32, n: u64) -> bool
+    requires some { KnowsSome (C.knows caller.old) }
+    requires slot { s < length (stack_in (C.standing caller.old)) }
+    ensures ran { Ran C.base C.tells C.tells_known C.standing caller.old caller.new 0 }
+    ensures keeps { KeepsKnown (C.knows caller.old) (C.knows caller.new) }
+    ensures own { (C.standing caller.new).own ≡ (C.standing caller.old).own }
+    ensures answer { IsTrue result ↔ (slot_in (C.standing caller.old) s ≡ datum.Int n) }
+{
+    let shown = get(caller, s);
+    is_int(shown, n)
+}
+
 /// Whether a field of a known object is this integer.
+#[inline(always)]
 pub fn field_is<C: Caller>(caller: &mut C, s: u32, f: u32, top: u32, n: u64) -> bool
     requires field { HasField (C.standing caller.old) (C.knows caller.old) s f }
     requires room { length (stack_in (C.standing caller.old)) < STACK_SLOTS }
@@ -157,6 +216,7 @@ pub fn copy_field<C: Caller>(caller: &mut C, s: u32, f: u32, to: u32, g: u32, to
 }
 
 /// Whether a reply shows null.
+#[inline(always)]
 fn is_null(shown: Reply) -> bool
     ensures { IsTrue result ↔ (shown ≡ said.Null) }
 {
@@ -164,6 +224,7 @@ fn is_null(shown: Reply) -> bool
 }
 
 /// Whether a slot is null.
+#[inline(always)]
 pub fn slot_is_null<C: Caller>(caller: &mut C, s: u32) -> bool
     requires some { KnowsSome (C.knows caller.old) }
     requires slot { s < length (stack_in (C.standing caller.old)) }
@@ -177,6 +238,7 @@ pub fn slot_is_null<C: Caller>(caller: &mut C, s: u32) -> bool
 }
 
 /// The integer that a reply shows, or 0.
+#[inline(always)]
 fn int_of(shown: Reply) -> u64
     ensures { (n : ℕ) → shown ≡ said.Int n → result ≡ n }
 {
@@ -187,6 +249,7 @@ fn int_of(shown: Reply) -> u64
 }
 
 /// The integer in a field of a known object.
+#[inline(always)]
 pub fn field_int<C: Caller>(caller: &mut C, s: u32, f: u32, top: u32) -> u64
     requires field { HasField (C.standing caller.old) (C.knows caller.old) s f }
     requires room { length (stack_in (C.standing caller.old)) < STACK_SLOTS }

@@ -64,7 +64,7 @@ pub(crate) fn add_present<C: Caller>(
 ) -> bool
     requires table { HasTable (C.standing caller.old) (C.knows caller.old) table word.now n }
     requires word { length word.now ≤ KEY_BYTES }
-    requires room { length (stack_in (C.standing caller.old)) + 3 < STACK_SLOTS }
+    requires room { length (stack_in (C.standing caller.old)) + FREE_SLOTS ≤ STACK_SLOTS }
     requires top { length (stack_in (C.standing caller.old)) ≡ top }
     ensures ran { Ran C.base C.tells C.tells_known C.standing caller.old caller.new 0 }
     ensures own { (C.standing caller.new).own ≡ (C.standing caller.old).own }

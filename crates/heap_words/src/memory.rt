@@ -93,6 +93,13 @@ impl Image {
         self.map
     }
 
+    /// The words, in which word 0 is 0.
+    pub fn as_slice(&self) -> &[u64]
+        ensures { result.now ≡ self.now.words.items }
+    {
+        self.words.as_slice()
+    }
+
     /// How often a word was read.
     pub fn reads(&self) -> u64
         ensures { result ≡ self.now.reads }

@@ -35,7 +35,7 @@ use Rattle.forwarding.proofs.Reshaping.{reshape, reshaped-objects, reshaped-whol
 use Rattle.mark_compact.specs.Collected.{AreSlid, StateCollected}
 use Rattle.mark_compact.specs.Collecting.{Cleared, ControlPages, IsLast, Lain}
 use Rattle.mark_compact.proofs.Drops.{control_case}
-use Rattle.forwarding.proofs.Logs.{pool-with_entries}
+use Rattle.standing_calls.proofs.Logs.{pool-with_entries}
 use Rattle.mark_compact.proofs.Logged.{cleared-stands}
 use Rattle.mark_compact.proofs.Rooms.{SameRegions, currents-now, dense-now, spaces-open}
 use Rattle.mark_compact.proofs.Slides.{one_thing}

@@ -16,7 +16,7 @@ use Rattle.yak_model.specs.Stands.{SetsStand, Stands, StandsAs, set_entries}
 use Rattle.remember_sets.specs.Filed.{SetsHold}
 use Rattle.remember_sets.specs.declared.TheConstants.{SET_ENTRIES}
 use Rattle.region_pages.specs.Freeing.{free_below, with_pool_rebuilt}
-use Rattle.forwarding.proofs.Logs.{stands-with_logs}
+use Rattle.standing_calls.proofs.Logs.{stands-with_logs}
 use Rattle.mark_compact.specs.Collecting.{Cleared}
 
 -- the words without logs stand as before

@@ -1,26 +1,27 @@
 -- What a region that gives its pages back keeps.
-use Rattle.std.proofs.Common.{◌≡◌, ◌≢◌, ◌↔◌, ℕ, zero, suc, ◌+◌, ◌-◌, ◌≤◌, ◌<◌, List, [], ◌∷◌, length, get_or, sym, ap, ◌∙◌, arith, inl, inr, ◌⊎◌, ⊎_elim}
+use Rattle.std.proofs.Common.{◌≡◌, ◌≢◌, ◌↔◌, ℕ, zero, suc, ◌+◌, ◌-◌, ◌≤◌, ◌<◌, List, [], ◌∷◌, length, get_or, sym, ap, ◌∙◌, subst, arith, inl, inr, ◌⊎◌, ⊎_elim}
 use Rattle.std.proofs.lemmas.Bool.{cases_eq}
-use Rattle.std.proofs.lemmas.List.{get_or-map}
+use Rattle.std.proofs.lemmas.List.{get_or-map, length-map}
 use Rattle.heap_words.specs.declared.map.Areas.{Areas}
 use Rattle.heap_words.specs.Map.{IsAreas, HasRegion, HasThread, max_depth}
 use Rattle.heap_words.specs.Cells.{row, row_set}
-use Rattle.heap_words.specs.Contents.{Contents}
+use Rattle.heap_words.specs.declared.TheConstants.{HEAD_WORDS}
+use Rattle.heap_words.specs.Contents.{Contents, with_current, with_head}
 use Rattle.epoch_lattice.specs.declared.TheConstants.{MAX_DEPTH}
 use Rattle.epoch_lattice.specs.declared.Space.TheVariants.{Region}
 use Rattle.epoch_lattice.specs.Lattice.{IsValid, space_index, inner_of}
 use Rattle.epoch_lattice.proofs.Numbers.{number-own}
 use Rattle.yak_model.specs.Placed.{space_word}
-use Rattle.yak_model.specs.Stands.{current, CurrentsStand}
+use Rattle.yak_model.specs.Stands.{current, CurrentsStand, PoolStands}
 use Rattle.region_pages.specs.Pages.{TableFits}
-use Rattle.region_pages.specs.Freeing.{freed, freed_table}
+use Rattle.region_pages.specs.Freeing.{free_below, freed, freed_table, pool_with, with_pool_rebuilt}
 use Rattle.region_pages.proofs.Shapes.{Shape}
 use Rattle.region_pages.proofs.Entries.{current-cases}
 use Rattle.region_pages.proofs.Placing.{length-slots_set}
-use Rattle.region_pages.proofs.Freed.{freed_same, freed_zero}
+use Rattle.region_pages.proofs.Freed.{freed_same, freed_zero, rebuilt_at, rebuilt_stands}
 
 -- the entry of a page after some are freed
-freed_row : (word : ℕ) (table : List (List ℕ)) (p : ℕ) → p < length table → row (freed_table word table) p ≡ freed word (row table p)
+pub freed_row : (word : ℕ) (table : List (List ℕ)) (p : ℕ) → p < length table → row (freed_table word table) p ≡ freed word (row table p)
 freed_row word table p lt = get_or-map (freed word) table p [] [] lt
 
 freed_kept : (word : ℕ) (table : List (List ℕ)) (p : ℕ) → p < length table → space_word table p ≢ word → row (freed_table word table) p ≡ row table p
@@ -95,3 +96,21 @@ currents-freed m c t d s areas hr stands =
           (current-cases c.currents t d v f 0 hr.0 hv inside slot))
           (current-cases c.currents t d u e 0 hr.0 hu inside slot);
     }
+
+-- the pages of a region given back, and the pool filled and opened with the free pages
+pub released_at : (m : Areas) (old : Contents) (t d word n : ℕ) → length old.table ≡ m.pages → n ≡ length (free_below (freed_table word old.table) m.pages)
+    → with_head (with_head (with_current (record old { table = freed_table word old.table; pool = pool_with (free_below (freed_table word old.table) m.pages) old.pool }) t d 0) 1 0) 2 n
+    ≡ with_pool_rebuilt (with_current (record old { table = freed_table word old.table }) t d 0)
+released_at m old t d word n rows count =
+    let table : List (List ℕ) = freed_table word old.table in
+    let whole : length table ≡ m.pages = omega (arith, length-map old.table (freed word), rows) in
+    ap (λ (k : ℕ). with_head (with_head (with_current (record old { table = table; pool = pool_with (free_below table m.pages) old.pool }) t d 0) 1 0) 2 k) count
+    ∙ ap (λ (k : ℕ). rebuilt_at k (with_current (record old { table = table }) t d 0)) (sym whole)
+
+pub released_stands : (m : Areas) (old : Contents) (t d word : ℕ) → length old.table ≡ m.pages → length old.heads ≡ HEAD_WORDS
+    → (let new = with_pool_rebuilt (with_current (record old { table = freed_table word old.table }) t d 0) in PoolStands m new.heads new.pool new.table)
+released_stands m old t d word rows long =
+    let table : List (List ℕ) = freed_table word old.table in
+    let whole : length table ≡ m.pages = omega (arith, length-map old.table (freed word), rows) in
+    let c : Contents = with_current (record old { table = table }) t d 0 in
+    subst (λ (k : ℕ). PoolStands m (rebuilt_at k c).heads (rebuilt_at k c).pool table) (sym whole) (rebuilt_stands m old.heads old.pool table long)

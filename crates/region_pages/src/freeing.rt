@@ -1,13 +1,16 @@
 //! Pages that come back: the pool is made anew.
 
-ghost use Rattle.std.specs.Prelude.{◌≡◌, ◌≤◌, ◌<◌, ◌+◌, ◌*◌, ◌↔◌, ◌⊎◌, ℕ, length};
+ghost use Rattle.std.specs.Prelude.{◌≡◌, ◌≤◌, ◌<◌, ◌+◌, ◌*◌, ◌↔◌, ◌⊎◌, ℕ, length, slice_index, slice_set, IsTrue};
 ghost use Rattle.std.specs.List.{Contains};
 ghost use Rattle.epoch_lattice.specs.Lattice.{space_index};
-ghost use Rattle.heap_words.specs.Contents.{contents, Sound};
+ghost use Rattle.heap_words.specs.Cells.{row};
+ghost use Rattle.heap_words.specs.Map.{HasPage};
+ghost use Rattle.heap_words.specs.Contents.{contents, Sound, with_head};
 ghost use Rattle.yak_model.specs.Placed.{space_word};
 ghost use Rattle.yak_model.specs.Stands.{CurrentsStand, PoolStands, free_pages};
+ghost use Rattle.region_pages.specs.declared.TheConstants.{CLAIM_COUNTER, POOL_LENGTH};
 ghost use Rattle.region_pages.specs.Pages.{TableFits};
-ghost use Rattle.region_pages.specs.Freeing.{IsRegionOf, free_below, freed_table, pool_with, with_pool_rebuilt, with_released};
+ghost use Rattle.region_pages.specs.Freeing.{IsRegionOf, free_below, freed, freed_table, pool_with, with_pool_rebuilt, with_released};
 
 use crate::claim::set_entry;
 use crate::{CLAIM_COUNTER, POOL_LENGTH, SPACE_WORD};
@@ -25,6 +28,17 @@ pub fn rebuild_pool<W: Words>(words: &mut W, map: Areas)
     ensures base { W.base words.new ≡ W.base words.old }
 {
     let length = fill_pool(words, map);
+    open_pool(words, map, length);
+}
+
+/// Makes the first so many entries of the pool all of it, none of them claimed.
+fn open_pool<W: Words>(words: &mut W, map: Areas, length: u32)
+    requires { Sound map (W.words words.old) }
+    ensures opened { contents map (W.words words.new) ≡ with_head (with_head (contents map (W.words words.old)) CLAIM_COUNTER 0) POOL_LENGTH length }
+    ensures sound { Sound map (W.words words.new) }
+    ensures reads { W.reads words.new ≡ W.reads words.old }
+    ensures base { W.base words.new ≡ W.base words.old }
+{
     set_head(words, map, CLAIM_COUNTER, 0);
     set_head(words, map, POOL_LENGTH, u64::from(length));
 }
@@ -39,15 +53,15 @@ pub fn release_space<W: Words>(words: &mut W, map: Areas, space: Space)
     ensures table { TableFits map (contents map (W.words words.old)).table → TableFits map (contents map (W.words words.new)).table }
     ensures pool { let c = contents map (W.words words.new) in PoolStands map c.heads c.pool c.table }
     ensures currents { let c = contents map (W.words words.old) in let after = contents map (W.words words.new) in CurrentsStand map c.currents c.table → CurrentsStand map after.currents after.table }
-    ensures reads { W.reads words.new ≤ W.reads words.old + 2 * map.pages }
+    ensures reads { W.reads words.new ≤ W.reads words.old + map.pages }
     ensures base { W.base words.new ≡ W.base words.old }
 {
     let Space::Region { thread, depth } = space else {
         return;
     };
-    free_entries(words, map, u64::from(index_of(space)) + 1);
+    let free = free_entries(words, map, u64::from(index_of(space)) + 1);
     set_current(words, map, thread, depth, 0);
-    rebuild_pool(words, map);
+    open_pool(words, map, free);
 }
 
 /// Writes the free pages into the pool from its first entry on, in ascending order, and counts them.
@@ -69,17 +83,40 @@ fn fill_pool<W: Words>(words: &mut W, map: Areas) -> u32
     count
 }
 
-/// Frees all pages that have this word of the space in their entries.
-fn free_entries<W: Words>(words: &mut W, map: Areas, word: u64)
+/// Frees a page where it has this word of the space in its entry, and tells whether it is free then.
+fn free_entry<W: Words>(words: &mut W, map: Areas, page: u32, word: u64) -> bool
+    requires sound { Sound map (W.words words.old) }
+    requires page { HasPage map page }
+    ensures freed { let c = contents map (W.words words.old) in contents map (W.words words.new) ≡ record c { table = slice_set c.table page (freed word (row c.table page)) } }
+    ensures free { IsTrue result ↔ (slice_index (freed word (row (contents map (W.words words.old)).table page)) 0 ≡ 0) }
+    ensures sound { Sound map (W.words words.new) }
+    ensures reads { W.reads words.new ≤ W.reads words.old + 1 }
+    ensures base { W.base words.new ≡ W.base words.old }
+{
+    let space = get_page(words, map, page, SPACE_WORD);
+    if space == word {
+        set_entry(words, map, page, 0, 0);
+        return true;
+    }
+    space == 0
+}
+
+/// Frees all pages that have this word of the space in their entries. Writes the pages that are free then into the pool from
+/// its first entry on, in ascending order, and counts them.
+fn free_entries<W: Words>(words: &mut W, map: Areas, word: u64) -> u32
     requires { Sound map (W.words words.old) }
-    ensures freed { let c = contents map (W.words words.old) in contents map (W.words words.new) ≡ record c { table = freed_table word c.table } }
+    ensures count { result ≡ length (free_below (freed_table word (contents map (W.words words.old)).table) map.pages) }
+    ensures freed { let c = contents map (W.words words.old) in contents map (W.words words.new) ≡ record c { table = freed_table word c.table; pool = pool_with (free_below (freed_table word c.table) map.pages) c.pool } }
     ensures sound { Sound map (W.words words.new) }
     ensures reads { W.reads words.new ≤ W.reads words.old + map.pages }
     ensures base { W.base words.new ≡ W.base words.old }
 {
+    let mut count = 0;
     for page in 0..map.pages {
-        if get_page(words, map, page, SPACE_WORD) == word {
-            set_entry(words, map, page, 0, 0);
+        if free_entry(words, map, page, word) {
+            set_pool(words, map, count as usize, u64::from(page));
+            count += 1;
         }
     }
+    count
 }

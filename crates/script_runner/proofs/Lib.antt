@@ -1,3 +1,3 @@
-pub mod Unique
-pub mod Lawful
 pub mod Runs
+pub mod Worked
+pub mod Hired

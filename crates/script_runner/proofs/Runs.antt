@@ -11,23 +11,24 @@ use Rattle.object_layout.specs.Calls.{IsCall}
 use Rattle.heap_words.specs.declared.map.Areas.{Areas}
 use Rattle.heap_words.specs.Contents.{contents}
 use Rattle.heap_core.specs.declared.owned.Stepped.{Stepped}
-use Rattle.heap_core.specs.Lawful.{AreLawful, PackedIfAsked}
-use Rattle.heap_core.specs.Records.{StandsRecorded}
+use Rattle.yak_model.specs.Continued.{AreLawful, PackedIfAsked}
+use Rattle.yak_model.specs.Recorded.{StandsRecorded}
 use Rattle.heap_core.specs.Steps.{entries}
 use Rattle.script_text.specs.declared.scripts.Line.{Line}
 use Rattle.script_text.specs.Contents.{Contents, Heap}
 use Rattle.script_text.specs.Printing.{IsValid, Rises}
 use Rattle.yak_model.specs.Agreement.{MachinesAgree}
 use Rattle.yak_model.specs.Graph.{standard_limits}
-use Rattle.yak_model.specs.History.{Entry, Said, Collected}
+use Rattle.yak_model.specs.declared.history.Entry.{Entry}
+use Rattle.yak_model.specs.declared.history.Entry.TheVariants.{Said, Collected}
 use Rattle.yak_model.specs.Lawful.{EndsAsked}
 use Rattle.yak_model.specs.Packed.{IsPacked}
 use Rattle.yak_model.specs.Spaces.{SpaceState, spaces, opening_spaces}
 use Rattle.yak_model.specs.Stands.{Stands}
 use Rattle.yak_model.specs.Unique.{StatesAreUnique}
 use Rattle.script_runner.specs.Runs.{Held, IsRun, RunsLine, all_said, calls_of, held_of, is_call, said}
-use Rattle.script_runner.proofs.Lawful.{lawful_more, lawful_none}
-use Rattle.script_runner.proofs.Unique.{turns_more}
+use Rattle.yak_model.proofs.Lawful.{lawful_more, lawful_none}
+use Rattle.yak_model.proofs.Turned.{turns_more}
 
 -- ---- one line
 
@@ -98,7 +99,7 @@ run_opened agree size map words pages threads stands =
       packed = λ asked. absurd (none_asked asked.0 _ asked.2);
     }
 
-said_more : (lines : List Line) (replies : List Reply) (line : Line) (reply : Reply) → length replies ≡ length lines → all_said (lines ++ line ∷ []) (replies ++ reply ∷ []) ≡ all_said lines replies ++ said line reply ∷ []
+pub said_more : (lines : List Line) (replies : List Reply) (line : Line) (reply : Reply) → length replies ≡ length lines → all_said (lines ++ line ∷ []) (replies ++ reply ∷ []) ≡ all_said lines replies ++ said line reply ∷ []
 said_more [] [] line reply each = refl
 said_more [] (r ∷ replies) line reply each = absurd (omega (arith, each))
 said_more (l ∷ lines) [] line reply each = absurd (omega (arith, each))

@@ -3,11 +3,12 @@ use Rattle.std.specs.Prelude.{◌≡◌, ℕ, Bool, true, false, List, [], ◌�
 use Rattle.object_layout.specs.declared.replies.Reply.{Reply}
 use Rattle.heap_words.specs.declared.map.Areas.{Areas}
 use Rattle.heap_words.specs.Contents.{contents}
-use Rattle.heap_core.specs.Lawful.{AreLawful, PackedIfAsked}
+use Rattle.yak_model.specs.Continued.{AreLawful, PackedIfAsked}
 use Rattle.yak_model.specs.Stands.{Stands}
 use Rattle.yak_model.specs.Recorded.{Recorded}
 use Rattle.yak_model.specs.Graph.{standard_limits}
-use Rattle.yak_model.specs.History.{Entry, Said, Collected}
+use Rattle.yak_model.specs.declared.history.Entry.{Entry}
+use Rattle.yak_model.specs.declared.history.Entry.TheVariants.{Said, Collected}
 use Rattle.yak_model.specs.Lawful.{IsLawful}
 use Rattle.yak_model.specs.Spaces.{SpaceState, TurnsAll, spaces}
 use Rattle.script_text.specs.declared.scripts.Line.{Line}

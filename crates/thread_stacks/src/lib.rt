@@ -20,6 +20,25 @@ pub fn push<W: Words>(words: &mut W, map: Areas, thread: u8, word: u64) -> Resul
     ensures base { W.base words.new ≡ W.base words.old }
 {
     let count = stack_length(words, map, thread);
+    push_above(words, map, thread, count, word)
+}
+
+/// Puts a word on top of a thread's stack, which has so many slots in use. It is refused exactly where these are all.
+pub fn push_above<W: Words>(
+    words: &mut W,
+    map: Areas,
+    thread: u8,
+    count: usize,
+    word: u64,
+) -> Result<(), StackFull>
+    requires sound { Sound map (W.words words.old) }
+    requires thread { HasThread map thread }
+    requires count { count ≡ length (stack_of (contents map (W.words words.old)) thread) }
+    ensures pushed { let c = contents map (W.words words.old) in let stack = stack_of c thread in MatchResult result (λ _. (length stack < STACK_SLOTS) × (contents map (W.words words.new) ≡ with_stack c thread (stack ++ word ∷ []))) (λ _. (length stack ≡ STACK_SLOTS) × (W.words words.new ≡ W.words words.old)) }
+    ensures sound { Sound map (W.words words.new) }
+    ensures reads { W.reads words.new ≡ W.reads words.old }
+    ensures base { W.base words.new ≡ W.base words.old }
+{
     if count >= STACK_SLOTS {
         return Err(StackFull);
     }
@@ -45,6 +64,23 @@ pub fn pop<W: Words>(words: &mut W, map: Areas, thread: u8) -> Result<u64, Stack
     Ok(word)
 }
 
+/// Drops the top of a thread's stack, which is refused exactly where no slot is in use. The word isn't read.
+pub fn drop_top<W: Words>(words: &mut W, map: Areas, thread: u8) -> Result<(), StackEmpty>
+    requires sound { Sound map (W.words words.old) }
+    requires thread { HasThread map thread }
+    ensures dropped { let c = contents map (W.words words.old) in let stack = stack_of c thread in MatchResult result (λ _. (0 < length stack) × (contents map (W.words words.new) ≡ with_stack c thread (take (length stack - 1) stack))) (λ _. (length stack ≡ 0) × (W.words words.new ≡ W.words words.old)) }
+    ensures sound { Sound map (W.words words.new) }
+    ensures reads { W.reads words.new ≤ W.reads words.old + 1 }
+    ensures base { W.base words.new ≡ W.base words.old }
+{
+    let slots = stack_length(words, map, thread);
+    if slots == 0 {
+        return Err(StackEmpty);
+    }
+    shrink_stack(words, map, thread, slots);
+    Ok(())
+}
+
 /// The word of a slot of a thread's stack, which is refused exactly at or past the slots in use.
 pub fn slot<W: Words>(words: &mut W, map: Areas, thread: u8, s: u32) -> Result<u64, BadSlot>
     requires sound { Sound map (W.words words.old) }
@@ -55,6 +91,25 @@ pub fn slot<W: Words>(words: &mut W, map: Areas, thread: u8, s: u32) -> Result<u
     ensures base { W.base words.new ≡ W.base words.old }
 {
     let count = stack_length(words, map, thread);
+    slot_below(words, map, thread, count, s)
+}
+
+/// The word of a slot of a thread's stack, which has so many slots in use. It is refused exactly at or past them.
+pub fn slot_below<W: Words>(
+    words: &mut W,
+    map: Areas,
+    thread: u8,
+    count: usize,
+    s: u32,
+) -> Result<u64, BadSlot>
+    requires sound { Sound map (W.words words.old) }
+    requires thread { HasThread map thread }
+    requires count { count ≡ length (stack_of (contents map (W.words words.old)) thread) }
+    ensures slot { let stack = stack_of (contents map (W.words words.old)) thread in MatchResult result (λ word. (s < length stack) × (word ≡ slice_index stack s)) (λ _. length stack ≤ s) }
+    ensures words { W.words words.new ≡ W.words words.old }
+    ensures reads { W.reads words.new ≤ W.reads words.old + 1 }
+    ensures base { W.base words.new ≡ W.base words.old }
+{
     if s as usize >= count {
         return Err(BadSlot);
     }

@@ -5,3 +5,5 @@ pub mod Told
 pub mod Statuses
 pub mod Ranges
 pub mod Unasked
+pub mod Numbers
+pub mod Threads

@@ -8,7 +8,7 @@ use Rattle.script_text.specs.declared.TheConstants.{INPUT_LIMIT}
 use Rattle.script_text.specs.declared.faults.Bad.{Bad}
 use Rattle.script_text.specs.Contents.{Contents}
 use Rattle.script_text.specs.Scripts.{IsBadLine, IsScript}
-use Rattle.script_runner.specs.Runs.{Held}
+use Rattle.yak.specs.Keeping.{Keeping}
 use Rattle.yak.specs.declared.endings.Status.{Status}
 use Rattle.yak.specs.declared.endings.Status.TheVariants.{Done, Usage, Refused, ReadFault, WriteFault, NoMemory, TooLarge, OutOfHeap, LongWord}
 use Rattle.yak.specs.declared.forms.Form.TheVariants.{Replay, Count, Gen}
@@ -51,10 +51,10 @@ same_options words one other a b = let e = one_form words (Count one) (Count oth
 of_told : (before : Option (List ℕ)) (bytes : List ℕ) (P : List ℕ → Type 0) → before ≡ Some bytes → IfSome before P → P bytes
 of_told before bytes P told h = subst (λ (o : Option (List ℕ)). IfSome o P) told h
 
-same_input : (input : Input) (bytes other : List ℕ) → input.before ≡ Some bytes → IsInput input other → other ≡ bytes
+pub same_input : (input : Input) (bytes other : List ℕ) → input.before ≡ Some bytes → IsInput input other → other ≡ bytes
 same_input input bytes other told is = of_told input.before bytes (λ (l : List ℕ). other ≡ l) told is.whole.all
 
-not_large : (input : Input) (bytes : List ℕ) → input.before ≡ Some bytes → length bytes ≤ INPUT_LIMIT → IfSome input.before (λ told. INPUT_LIMIT < length told) → ⊥
+pub not_large : (input : Input) (bytes : List ℕ) → input.before ≡ Some bytes → length bytes ≤ INPUT_LIMIT → IfSome input.before (λ told. INPUT_LIMIT < length told) → ⊥
 not_large input bytes told fits large = let more = of_told input.before bytes (λ (l : List ℕ). INPUT_LIMIT < length l) told large in absurd (omega (arith, fits, more))
 
 -- ---- statuses
@@ -62,32 +62,32 @@ not_large input bytes told fits large = let more = of_told input.before bytes (�
 abbrev pub Never : Type 0
 Never = (bytes : List ℕ) (script : Contents) (bad : Bad) → IsScript bytes script → IsBadLine bytes bad → ⊥
 
-done_replayed : (words : List (List ℕ)) (input : Input) (output : Output) (text : List ℕ) (kept : Option Held) → Appends output.before output.after text
+done_replayed : (words : List (List ℕ)) (input : Input) (output : Output) (text : List ℕ) (kept : Keeping) → Appends output.before output.after text
     → belongs Done words input text kept → IsReplay words → EndsReplayed input output kept
 done_replayed words input output text kept all (inl (named, (bytes, is, (held, here, replays)))) replay = (bytes, is, (text, held, here, replays, all))
 done_replayed words input output text kept all (inr (inl (rounds, gen, more))) replay = absurd (gen_or_replay words rounds replay gen)
 done_replayed words input output text kept all (inr (inr (options, count, more))) replay = absurd (count_or_replay words options replay count)
 
-done_generated : (words : List (List ℕ)) (input : Input) (output : Output) (text : List ℕ) (kept : Option Held) (rounds : ℕ) → Appends output.before output.after text
+done_generated : (words : List (List ℕ)) (input : Input) (output : Output) (text : List ℕ) (kept : Keeping) (rounds : ℕ) → Appends output.before output.after text
     → belongs Done words input text kept → IsGen words rounds → EndsGenerated rounds output kept
 done_generated words input output text kept rounds all (inl replay) gen = absurd (gen_or_replay words rounds replay.0 gen)
 done_generated words input output text kept rounds all (inr (inl (other, is, (held, here, generates)))) gen =
     (text, held, here, subst (λ (n : ℕ). Generates n text held) (same_rounds words other rounds is gen) generates, all)
 done_generated words input output text kept rounds all (inr (inr (options, count, more))) gen = absurd (count_or_gen words options rounds count gen)
 
-done_counted : (words : List (List ℕ)) (input : Input) (output : Output) (text : List ℕ) (kept : Option Held) (options : Options) → Appends output.before output.after text
+done_counted : (words : List (List ℕ)) (input : Input) (output : Output) (text : List ℕ) (kept : Keeping) (options : Options) → Appends output.before output.after text
     → belongs Done words input text kept → IsCount words options → EndsCounted options input output kept
 done_counted words input output text kept options all (inl replay) count = absurd (count_or_replay words options replay.0 count)
 done_counted words input output text kept options all (inr (inl (rounds, gen, more))) count = absurd (count_or_gen words options rounds count gen)
 done_counted words input output text kept options all (inr (inr (other, is, (bytes, input_is, (held, here, counted))))) count =
     (bytes, input_is, (text, held, here, subst (λ (o : Options). Counts o bytes text held) (same_options words other options is count) counted, all))
 
-done_asked : (words : List (List ℕ)) (input : Input) (text : List ℕ) (kept : Option Held) → belongs Done words input text kept → IsAsked words
+done_asked : (words : List (List ℕ)) (input : Input) (text : List ℕ) (kept : Keeping) → belongs Done words input text kept → IsAsked words
 done_asked words input text kept (inl replay) = (Replay, replay.0, tt)
 done_asked words input text kept (inr (inl (rounds, gen, more))) = (Gen rounds, gen, tt)
 done_asked words input text kept (inr (inr (options, count, more))) = count_asked words options count
 
-done_refused : Never → (words : List (List ℕ)) (input : Input) (output : Output) (text : List ℕ) (kept : Option Held) → belongs Done words input text kept
+done_refused : Never → (words : List (List ℕ)) (input : Input) (output : Output) (text : List ℕ) (kept : Keeping) → belongs Done words input text kept
     → (bytes : List ℕ) (bad : Bad) → IsReplay words → IsFaultless input output bytes → IsBadLine bytes bad → ⊥
 done_refused never words input output text kept (inl (replay, (other, is, (held, here, replays)))) bytes bad named clean bad_is =
     never bytes replays.script bad (subst (λ (l : List ℕ). IsScript l replays.script) (same_input input bytes other clean.told is) replays.read) bad_is
@@ -97,26 +97,26 @@ done_refused never words input output text kept (inr (inr (options, count, more)
 not_both : (bytes other : List ℕ) → other ≡ bytes → has_long_word other ≡ false → has_long_word bytes ≡ true → ⊥
 not_both bytes other same short long = let e : false ≡ true = sym short ∙ ap has_long_word same ∙ long in cc e
 
-done_long : (words : List (List ℕ)) (input : Input) (output : Output) (text : List ℕ) (kept : Option Held) (options : Options) → belongs Done words input text kept
+done_long : (words : List (List ℕ)) (input : Input) (output : Output) (text : List ℕ) (kept : Keeping) (options : Options) → belongs Done words input text kept
     → (bytes : List ℕ) → IsCount words options → IsFaultless input output bytes → has_long_word bytes ≡ true → ⊥
 done_long words input output text kept options (inl replay) bytes count clean long = count_or_replay words options replay.0 count
 done_long words input output text kept options (inr (inl (rounds, gen, more))) bytes count clean long = count_or_gen words options rounds count gen
 done_long words input output text kept options (inr (inr (other, is, (read, input_is, (held, here, counted))))) bytes count clean long =
     not_both bytes read (same_input input bytes read clean.told input_is) counted.short long
 
-too_many : (input : Input) (bytes read : List ℕ) → input.before ≡ Some bytes → INPUT_LIMIT < length bytes → IsInput input read → ⊥
+pub too_many : (input : Input) (bytes read : List ℕ) → input.before ≡ Some bytes → INPUT_LIMIT < length bytes → IsInput input read → ⊥
 too_many input bytes read told more is =
     let few = is.within in
     let size : length read ≡ length bytes = ap length (same_input input bytes read told is) in
     absurd (omega (arith, few, size, more))
 
-done_many : (words : List (List ℕ)) (input : Input) (output : Output) (text : List ℕ) (kept : Option Held) → belongs Done words input text kept
+done_many : (words : List (List ℕ)) (input : Input) (output : Output) (text : List ℕ) (kept : Keeping) → belongs Done words input text kept
     → (bytes : List ℕ) → IsReading words → IsFaultless input output bytes → INPUT_LIMIT < length bytes → ⊥
 done_many words input output text kept (inl (replay, (read, is, more))) bytes reading clean many = too_many input bytes read clean.told many is
 done_many words input output text kept (inr (inl (rounds, gen, more))) bytes reading clean many = reading_or_gen words rounds reading gen
 done_many words input output text kept (inr (inr (options, count, (read, is, more)))) bytes reading clean many = too_many input bytes read clean.told many is
 
-pub replayed_so : (status : Status) (words : List (List ℕ)) (input : Input) (output : Output) (kept : Option Held) → ends status words input output kept
+pub replayed_so : (status : Status) (words : List (List ℕ)) (input : Input) (output : Output) (kept : Keeping) → ends status words input output kept
     → IsReplay words → status ≡ Done → EndsReplayed input output kept
 replayed_so Done words input output kept h replay done = done_replayed words input output h.0 kept h.1.all h.1.meaning replay
 replayed_so Usage words input output kept h replay done = absurd (cc done)
@@ -128,7 +128,7 @@ replayed_so TooLarge words input output kept h replay done = absurd (cc done)
 replayed_so OutOfHeap words input output kept h replay done = absurd (cc done)
 replayed_so LongWord words input output kept h replay done = absurd (cc done)
 
-pub generated_so : (status : Status) (words : List (List ℕ)) (input : Input) (output : Output) (kept : Option Held) → ends status words input output kept
+pub generated_so : (status : Status) (words : List (List ℕ)) (input : Input) (output : Output) (kept : Keeping) → ends status words input output kept
     → (rounds : ℕ) → IsGen words rounds → status ≡ Done → EndsGenerated rounds output kept
 generated_so Done words input output kept h rounds gen done = done_generated words input output h.0 kept rounds h.1.all h.1.meaning gen
 generated_so Usage words input output kept h rounds gen done = absurd (cc done)
@@ -140,7 +140,7 @@ generated_so TooLarge words input output kept h rounds gen done = absurd (cc don
 generated_so OutOfHeap words input output kept h rounds gen done = absurd (cc done)
 generated_so LongWord words input output kept h rounds gen done = absurd (cc done)
 
-pub counted_so : (status : Status) (words : List (List ℕ)) (input : Input) (output : Output) (kept : Option Held) → ends status words input output kept
+pub counted_so : (status : Status) (words : List (List ℕ)) (input : Input) (output : Output) (kept : Keeping) → ends status words input output kept
     → (options : Options) → IsCount words options → status ≡ Done → EndsCounted options input output kept
 counted_so Done words input output kept h options count done = done_counted words input output h.0 kept options h.1.all h.1.meaning count
 counted_so Usage words input output kept h options count done = absurd (cc done)
@@ -152,7 +152,7 @@ counted_so TooLarge words input output kept h options count done = absurd (cc do
 counted_so OutOfHeap words input output kept h options count done = absurd (cc done)
 counted_so LongWord words input output kept h options count done = absurd (cc done)
 
-pub other_words : (status : Status) (words : List (List ℕ)) (input : Input) (output : Output) (kept : Option Held) → ends status words input output kept
+pub other_words : (status : Status) (words : List (List ℕ)) (input : Input) (output : Output) (kept : Keeping) → ends status words input output kept
     → (IsAsked words → ⊥) → (status ≡ Usage) ⊎ (status ≡ WriteFault) ⊎ (status ≡ NoMemory)
 other_words Done words input output kept h other = absurd (other (done_asked words input h.0 kept h.1.meaning))
 other_words Usage words input output kept h other = inl refl
@@ -164,7 +164,7 @@ other_words TooLarge words input output kept h other = absurd (other (reading_as
 other_words OutOfHeap words input output kept h other = absurd (other (count_asked words h.1.meaning.0.0 h.1.meaning.0.1))
 other_words LongWord words input output kept h other = absurd (other (count_asked words h.1.meaning.0.0 h.1.meaning.0.1))
 
-pub script_ends : Never → (status : Status) (words : List (List ℕ)) (input : Input) (output : Output) (kept : Option Held) → ends status words input output kept
+pub script_ends : Never → (status : Status) (words : List (List ℕ)) (input : Input) (output : Output) (kept : Keeping) → ends status words input output kept
     → (bytes : List ℕ) (script : Contents) → IsReplay words → IsFaultless input output bytes → length bytes ≤ INPUT_LIMIT → IsScript bytes script → (status ≡ Done) ⊎ (status ≡ NoMemory)
 script_ends never Done words input output kept h bytes script named clean fits is = inl refl
 script_ends never Usage words input output kept h bytes script named clean fits is = absurd (h.1.meaning.0 (Replay, named, tt))
@@ -178,7 +178,7 @@ script_ends never TooLarge words input output kept h bytes script named clean fi
 script_ends never OutOfHeap words input output kept h bytes script named clean fits is = absurd (count_or_replay words h.1.meaning.0.0 named h.1.meaning.0.1)
 script_ends never LongWord words input output kept h bytes script named clean fits is = absurd (count_or_replay words h.1.meaning.0.0 named h.1.meaning.0.1)
 
-pub refusal_ends : Never → (status : Status) (words : List (List ℕ)) (input : Input) (output : Output) (kept : Option Held) → ends status words input output kept
+pub refusal_ends : Never → (status : Status) (words : List (List ℕ)) (input : Input) (output : Output) (kept : Keeping) → ends status words input output kept
     → (bytes : List ℕ) (bad : Bad) → IsReplay words → IsFaultless input output bytes → length bytes ≤ INPUT_LIMIT → IsBadLine bytes bad → (status ≡ Refused) ⊎ (status ≡ NoMemory)
 refusal_ends never Done words input output kept h bytes bad named clean fits is = absurd (done_refused never words input output h.0 kept h.1.meaning bytes bad named clean is)
 refusal_ends never Usage words input output kept h bytes bad named clean fits is = absurd (h.1.meaning.0 (Replay, named, tt))
@@ -190,7 +190,7 @@ refusal_ends never TooLarge words input output kept h bytes bad named clean fits
 refusal_ends never OutOfHeap words input output kept h bytes bad named clean fits is = absurd (count_or_replay words h.1.meaning.0.0 named h.1.meaning.0.1)
 refusal_ends never LongWord words input output kept h bytes bad named clean fits is = absurd (count_or_replay words h.1.meaning.0.0 named h.1.meaning.0.1)
 
-pub gen_ends : (status : Status) (words : List (List ℕ)) (input : Input) (output : Output) (kept : Option Held) → ends status words input output kept
+pub gen_ends : (status : Status) (words : List (List ℕ)) (input : Input) (output : Output) (kept : Keeping) → ends status words input output kept
     → (rounds : ℕ) → IsGen words rounds → (Rose output.faults_before output.faults_after → ⊥) → (status ≡ Done) ⊎ (status ≡ NoMemory)
 gen_ends Done words input output kept h rounds gen well = inl refl
 gen_ends Usage words input output kept h rounds gen well = absurd (h.1.meaning.0 (Gen rounds, gen, tt))
@@ -202,7 +202,7 @@ gen_ends TooLarge words input output kept h rounds gen well = absurd (reading_or
 gen_ends OutOfHeap words input output kept h rounds gen well = absurd (count_or_gen words h.1.meaning.0.0 rounds h.1.meaning.0.1 gen)
 gen_ends LongWord words input output kept h rounds gen well = absurd (count_or_gen words h.1.meaning.0.0 rounds h.1.meaning.0.1 gen)
 
-pub count_ends : (status : Status) (words : List (List ℕ)) (input : Input) (output : Output) (kept : Option Held) → ends status words input output kept
+pub count_ends : (status : Status) (words : List (List ℕ)) (input : Input) (output : Output) (kept : Keeping) → ends status words input output kept
     → (options : Options) (bytes : List ℕ) → IsCount words options → IsFaultless input output bytes → length bytes ≤ INPUT_LIMIT → has_long_word bytes ≡ false → (status ≡ Done) ⊎ (status ≡ OutOfHeap) ⊎ (status ≡ NoMemory)
 count_ends Done words input output kept h options bytes count clean fits short = inl refl
 count_ends Usage words input output kept h options bytes count clean fits short = absurd (h.1.meaning.0 (count_asked words options count))
@@ -216,7 +216,7 @@ count_ends LongWord words input output kept h options bytes count clean fits sho
     let told = h.1.meaning.0.2 in
     absurd (not_both told.0 bytes (sym (same_input input bytes told.0 clean.told told.1)) short told.2.long)
 
-pub long_ends : (status : Status) (words : List (List ℕ)) (input : Input) (output : Output) (kept : Option Held) → ends status words input output kept
+pub long_ends : (status : Status) (words : List (List ℕ)) (input : Input) (output : Output) (kept : Keeping) → ends status words input output kept
     → (options : Options) (bytes : List ℕ) → IsCount words options → IsFaultless input output bytes → length bytes ≤ INPUT_LIMIT → has_long_word bytes ≡ true → (status ≡ LongWord) ⊎ (status ≡ NoMemory)
 long_ends Done words input output kept h options bytes count clean fits long = absurd (done_long words input output h.0 kept options h.1.meaning bytes count clean long)
 long_ends Usage words input output kept h options bytes count clean fits long = absurd (h.1.meaning.0 (count_asked words options count))
@@ -230,7 +230,7 @@ long_ends OutOfHeap words input output kept h options bytes count clean fits lon
     absurd (not_both bytes out.0 (same_input input bytes out.0 clean.told out.1) out.2.short long)
 long_ends LongWord words input output kept h options bytes count clean fits long = inl refl
 
-pub excess_ends : (status : Status) (words : List (List ℕ)) (input : Input) (output : Output) (kept : Option Held) → ends status words input output kept
+pub excess_ends : (status : Status) (words : List (List ℕ)) (input : Input) (output : Output) (kept : Keeping) → ends status words input output kept
     → (bytes : List ℕ) → IsReading words → IsFaultless input output bytes → INPUT_LIMIT < length bytes → (status ≡ TooLarge) ⊎ (status ≡ NoMemory)
 excess_ends Done words input output kept h bytes reading clean many = absurd (done_many words input output h.0 kept h.1.meaning bytes reading clean many)
 excess_ends Usage words input output kept h bytes reading clean many = absurd (h.1.meaning.0 (reading_asked words reading))
@@ -247,7 +247,7 @@ pub of_success : {T E : Type 0} (result : Result T E) (failed : Bool) (P : Type 
 of_success (Ok x) failed P h is well = h
 of_success (Err e) failed P h is well = let t : true ≡ false = sym is ∙ well in absurd (cc t)
 
-all_written : (status : Status) (words : List (List ℕ)) (input : Input) (output : Output) (kept : Option Held) (text : List ℕ) → belongs status words input text kept
+all_written : (status : Status) (words : List (List ℕ)) (input : Input) (output : Output) (kept : Keeping) (text : List ℕ) → belongs status words input text kept
     → Appends output.before output.after text → ends status words input output kept
 all_written Done words input output kept text is all = (text, record { meaning = is; all = all })
 all_written Usage words input output kept text is all = (text, record { meaning = is; all = all })
@@ -260,7 +260,7 @@ all_written OutOfHeap words input output kept text is all = (text, record { mean
 all_written LongWord words input output kept text is all = (text, record { meaning = is; all = all })
 
 -- the whole text of a status was written
-pub written_ends : (status : Status) (words : List (List ℕ)) (input : Input) (output : Output) (kept : Option Held) (text given : List ℕ) → belongs status words input text kept
+pub written_ends : (status : Status) (words : List (List ℕ)) (input : Input) (output : Output) (kept : Keeping) (text given : List ℕ) → belongs status words input text kept
     → given ≡ text → Appends output.before output.after given → ends status words input output kept
 written_ends status words input output kept text given is same all =
     all_written status words input output kept text is (subst (λ (l : List ℕ). Appends output.before output.after l) same all)

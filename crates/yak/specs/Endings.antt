@@ -1,5 +1,5 @@
 -- How a run of the program ends: its status, what the status says of the words and of the input, and what is written.
-use Rattle.std.specs.Prelude.{◌≡◌, ◌*◌, ◌<◌, ◌≤◌, ◌⊎◌, ℕ, true, false, List, [], ◌++◌, length, codes, decimal, Option, Some, None, IfSome}
+use Rattle.std.specs.Prelude.{◌≡◌, ◌*◌, ◌<◌, ◌≤◌, ◌⊎◌, ℕ, true, false, List, [], ◌++◌, length, codes, decimal, Option, Some, IfSome}
 use Rattle.std.specs.List.{flat_map}
 use Rattle.std.specs.Io.KnownBytes.{Appends}
 use Rattle.yak_io.specs.Causes.{Rose}
@@ -14,6 +14,7 @@ use Rattle.object_layout.specs.declared.replies.Reply.{Reply}
 use Rattle.script_text.specs.Printing.{script_text}
 use Rattle.script_text.specs.Scripts.{IsScript, IsBadLine}
 use Rattle.script_runner.specs.Runs.{Held, IsRun}
+use Rattle.yak.specs.Keeping.{Keeping, nothing, alone}
 use Rattle.object_layout.specs.declared.replies.Census.{Census}
 use Rattle.heap_words.specs.Contents.{contents}
 use Rattle.heap_words.specs.Map.{page_words}
@@ -116,12 +117,12 @@ pub record Refuses (bytes text : List ℕ) : Type 0 where
   pub line : text ≡ refusal_line bad
 
 -- what is kept of a heap, where any is: nothing but after a script ran or a text was counted
-abbrev pub KeepsNothing : Option Held → Type 0
-KeepsNothing kept = kept ≡ None
+abbrev pub KeepsNothing : Keeping → Type 0
+KeepsNothing kept = kept ≡ nothing
 
 -- what reading and running a text of bytes comes to: a status, the text that belongs to it, and the heap
-abbrev pub comes_to : Status → List ℕ → List ℕ → Option Held → Type 0
-comes_to Done bytes text kept = (held : Held) × (kept ≡ Some held) × Replays bytes text held
+abbrev pub comes_to : Status → List ℕ → List ℕ → Keeping → Type 0
+comes_to Done bytes text kept = (held : Held) × (kept ≡ alone held) × Replays bytes text held
 comes_to Refused bytes text kept = Refuses bytes text × KeepsNothing kept
 comes_to NoMemory bytes text kept = (text ≡ []) × KeepsNothing kept
 comes_to Usage bytes text kept = ⊥
@@ -132,8 +133,8 @@ comes_to LongWord bytes text kept = ⊥
 comes_to TooLarge bytes text kept = ⊥
 
 -- what the generated script of so many rounds comes to
-abbrev pub generates : Status → ℕ → List ℕ → Option Held → Type 0
-generates Done rounds text kept = (held : Held) × (kept ≡ Some held) × Generates rounds text held
+abbrev pub generates : Status → ℕ → List ℕ → Keeping → Type 0
+generates Done rounds text kept = (held : Held) × (kept ≡ alone held) × Generates rounds text held
 generates NoMemory rounds text kept = (text ≡ []) × KeepsNothing kept
 generates Refused rounds text kept = ⊥
 generates Usage rounds text kept = ⊥
@@ -144,8 +145,8 @@ generates LongWord rounds text kept = ⊥
 generates TooLarge rounds text kept = ⊥
 
 -- what counting the words of a text of bytes by one worker comes to
-abbrev pub counts : Status → Options → List ℕ → List ℕ → Option Held → Type 0
-counts Done options bytes text kept = (held : Held) × (kept ≡ Some held) × Counts options bytes text held
+abbrev pub counts : Status → Options → List ℕ → List ℕ → Keeping → Type 0
+counts Done options bytes text kept = (held : Held) × (kept ≡ alone held) × Counts options bytes text held
 counts OutOfHeap options bytes text kept = RunsOut options bytes × (text ≡ []) × KeepsNothing kept
 counts LongWord options bytes text kept = TellsLong bytes text × KeepsNothing kept
 counts NoMemory options bytes text kept = (text ≡ []) × KeepsNothing kept
@@ -168,11 +169,11 @@ gives_none OutOfHeap input = ⊥
 gives_none LongWord input = ⊥
 
 -- what a status says of the words and of the input, the text that belongs to it, and the heap that is kept
-abbrev pub belongs : Status → List (List ℕ) → Input → List ℕ → Option Held → Type 0
+abbrev pub belongs : Status → List (List ℕ) → Input → List ℕ → Keeping → Type 0
 belongs Done words input text kept =
-    (IsReplay words × ((bytes : List ℕ) × IsInput input bytes × ((held : Held) × (kept ≡ Some held) × Replays bytes text held)))
-    ⊎ ((rounds : ℕ) × IsGen words rounds × ((held : Held) × (kept ≡ Some held) × Generates rounds text held))
-    ⊎ ((options : Options) × IsCount words options × ((bytes : List ℕ) × IsInput input bytes × ((held : Held) × (kept ≡ Some held) × Counts options bytes text held)))
+    (IsReplay words × ((bytes : List ℕ) × IsInput input bytes × ((held : Held) × (kept ≡ alone held) × Replays bytes text held)))
+    ⊎ ((rounds : ℕ) × IsGen words rounds × ((held : Held) × (kept ≡ alone held) × Generates rounds text held))
+    ⊎ ((options : Options) × IsCount words options × ((bytes : List ℕ) × IsInput input bytes × ((held : Held) × (kept ≡ alone held) × Counts options bytes text held)))
 belongs Usage words input text kept = (IsAsked words → ⊥) × (text ≡ usage_line) × KeepsNothing kept
 belongs Refused words input text kept = IsReplay words × ((bytes : List ℕ) × IsInput input bytes × Refuses bytes text) × KeepsNothing kept
 belongs ReadFault words input text kept = IsReading words × Rose input.faults_before input.faults_after × (text ≡ []) × KeepsNothing kept
@@ -185,12 +186,12 @@ belongs LongWord words input text kept =
     ((options : Options) × IsCount words options × ((bytes : List ℕ) × IsInput input bytes × TellsLong bytes text)) × KeepsNothing kept
 
 -- the text of a status was written
-pub record IsWritten (words : List (List ℕ)) (input : Input) (output : Output) (status : Status) (text : List ℕ) (kept : Option Held) : Type 0 where
+pub record IsWritten (words : List (List ℕ)) (input : Input) (output : Output) (status : Status) (text : List ℕ) (kept : Keeping) : Type 0 where
   pub meaning : belongs status words input text kept
   pub all : Appends output.before output.after text
 
 -- the writing failed within the text of another status
-pub record IsCut (words : List (List ℕ)) (input : Input) (output : Output) (instead : Status) (text : List ℕ) (unkept : Option Held) : Type 0 where
+pub record IsCut (words : List (List ℕ)) (input : Input) (output : Output) (instead : Status) (text : List ℕ) (unkept : Keeping) : Type 0 where
   pub meaning : belongs instead words input text unkept
   pub some : 0 < length text
   pub front : TookFront output.before output.after text
@@ -198,10 +199,10 @@ pub record IsCut (words : List (List ℕ)) (input : Input) (output : Output) (in
 
 -- the writing failed: a front was written of the text that belongs to another status
 abbrev pub EndsCut : List (List ℕ) → Input → Output → Type 0
-EndsCut words input output = (instead : Status) × (text : List ℕ) × (unkept : Option Held) × IsCut words input output instead text unkept
+EndsCut words input output = (instead : Status) × (text : List ℕ) × (unkept : Keeping) × IsCut words input output instead text unkept
 
 -- a run on these words, with this input and output, ends with a status
-abbrev pub ends : Status → List (List ℕ) → Input → Output → Option Held → Type 0
+abbrev pub ends : Status → List (List ℕ) → Input → Output → Keeping → Type 0
 ends WriteFault words input output kept = KeepsNothing kept × EndsCut words input output
 ends status words input output kept = (text : List ℕ) × IsWritten words input output status text kept
 
@@ -218,26 +219,26 @@ number_of OutOfHeap = 7
 number_of LongWord = 8
 
 -- a number stands for a status with which a run ends
-abbrev pub EndsAs : ℕ → List (List ℕ) → Input → Output → Option Held → Type 0
+abbrev pub EndsAs : ℕ → List (List ℕ) → Input → Output → Keeping → Type 0
 EndsAs number words input output kept = (status : Status) × (number ≡ number_of status) × ends status words input output kept
 
 -- the headline: the input is a script, the replies to its calls were written, and the heap is kept
-abbrev pub EndsReplayed : Input → Output → Option Held → Type 0
+abbrev pub EndsReplayed : Input → Output → Keeping → Type 0
 EndsReplayed input output kept =
-    (bytes : List ℕ) × IsInput input bytes × ((text : List ℕ) × (held : Held) × (kept ≡ Some held) × Replays bytes text held × Appends output.before output.after text)
+    (bytes : List ℕ) × IsInput input bytes × ((text : List ℕ) × (held : Held) × (kept ≡ alone held) × Replays bytes text held × Appends output.before output.after text)
 
 -- the input is no script, and the line that tells why was written
 abbrev pub EndsRefused : Input → Output → Type 0
 EndsRefused input output = (bytes : List ℕ) × IsInput input bytes × ((text : List ℕ) × Refuses bytes text × Appends output.before output.after text)
 
 -- the generated script of so many rounds ran, its summary was written, and the heap is kept
-abbrev pub EndsGenerated : ℕ → Output → Option Held → Type 0
-EndsGenerated rounds output kept = (text : List ℕ) × (held : Held) × (kept ≡ Some held) × Generates rounds text held × Appends output.before output.after text
+abbrev pub EndsGenerated : ℕ → Output → Keeping → Type 0
+EndsGenerated rounds output kept = (text : List ℕ) × (held : Held) × (kept ≡ alone held) × Generates rounds text held × Appends output.before output.after text
 
 -- the headline of a count: the words of the input were counted, their counts were written, and the heap is kept
-abbrev pub EndsCounted : Options → Input → Output → Option Held → Type 0
+abbrev pub EndsCounted : Options → Input → Output → Keeping → Type 0
 EndsCounted options input output kept =
-    (bytes : List ℕ) × IsInput input bytes × ((text : List ℕ) × (held : Held) × (kept ≡ Some held) × Counts options bytes text held × Appends output.before output.after text)
+    (bytes : List ℕ) × IsInput input bytes × ((text : List ℕ) × (held : Held) × (kept ≡ alone held) × Counts options bytes text held × Appends output.before output.after text)
 
 -- the input has a word that is too long, and the line that tells its place was written
 abbrev pub EndsLong : Input → Output → Type 0

@@ -80,7 +80,7 @@ IsForm words Threads = words ≡ codes "threads" ∷ []
 IsForm words (Count options) = (settings : Settings) × (rest : List (List ℕ)) × (words ≡ codes "count" ∷ rest) × Sets settings unset rest × (options ≡ chosen settings)
 IsForm words (Gen rounds) = (rounds ≤ MAX_ROUNDS) × (words ≡ codes "gen" ∷ decimal rounds ∷ [])
 
--- a form that is answered: the others get the usage line too
+-- a form that is answered on one core
 abbrev pub IsBuiltForm : Form → Type 0
 IsBuiltForm Replay = Unit {0}
 IsBuiltForm Threads = ⊥
@@ -94,6 +94,10 @@ IsAsked words = (form : Form) × IsForm words form × IsBuiltForm form
 -- the words ask for a replay
 abbrev pub IsReplay : List (List ℕ) → Type 0
 IsReplay words = IsForm words Replay
+
+-- the words ask for a run in threads
+abbrev pub IsThreads : List (List ℕ) → Type 0
+IsThreads words = IsForm words Threads
 
 -- the words ask for the generated script of so many rounds
 abbrev pub IsGen : List (List ℕ) → ℕ → Type 0

@@ -2,5 +2,7 @@
 pub mod Forms
 pub mod Generator
 pub mod Texts
-pub mod Endings
 pub mod Keeping
+pub mod Endings
+pub mod Answers
+pub mod Threaded

@@ -64,6 +64,16 @@ impl Form {
             Form::Threads => false,
         }
     }
+
+    /// Whether the form is a run in threads.
+    pub fn is_threads(self) -> bool
+        ensures { MatchBool result (self ≡ Form.Threads) (self ≢ Form.Threads) }
+    {
+        match self {
+            Form::Threads => true,
+            Form::Replay | Form::Count(_) | Form::Gen(_) => false,
+        }
+    }
 }
 
 impl Setting {

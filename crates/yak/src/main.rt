@@ -1,4 +1,4 @@
-//! Replays a script of calls on a heap, or counts the words of a text in one, and writes a line for each reply or word.
+//! Runs a script of calls on a heap, or counts the words of a text in one, and writes a line for each reply or word.
 #![tactic(auto)]
 
 mod endings;
@@ -8,16 +8,18 @@ mod plain;
 mod summaries;
 #[cfg(test)]
 mod tests;
+mod threaded;
 #[cfg(test)]
 mod watched;
 #[cfg(test)]
 mod worked;
 
-use plain::{Kept, plain};
+use plain::Kept;
 use std::alloc::AllocError;
 use std::process::ExitCode;
 use std::{env, io};
-use yak_io::{StdSink, StdSource};
+use threaded::run;
+use yak_io::{NoBrake, StdSink, StdSource};
 
 fn main(rt: HostRuntime) -> ExitCode {
     let alloc = rt.alloc();
@@ -33,5 +35,13 @@ fn main(rt: HostRuntime) -> ExitCode {
     let mut source = StdSource::new(rt.reader());
     let mut sink = StdSink::new(io::writer(&rt));
     let mut kept = Kept::Nothing;
-    ExitCode::from(plain(alloc, &words, &mut source, &mut sink, &mut kept))
+    ExitCode::from(run(
+        &rt,
+        alloc,
+        &words,
+        &mut source,
+        &mut sink,
+        &NoBrake,
+        &mut kept,
+    ))
 }

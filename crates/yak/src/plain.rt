@@ -9,8 +9,10 @@ ghost use Rattle.yak.specs.declared.forms.Options.{Options};
 ghost use Rattle.yak.specs.Forms.{IsAsked, IsCount, IsGen, IsReading, IsReplay};
 ghost use Rattle.script_text.specs.declared.faults.Bad.{Bad};
 ghost use Rattle.script_runner.specs.Runs.{held_of};
-ghost use Rattle.yak.specs.Keeping.{held_by};
-ghost use Rattle.yak.specs.Endings.{usage_line, input_of, output_of, IsInput, refusal_line, KeepsNothing, comes_to, counts, generates, gives_none, belongs, ends, EndsAs, EndsCounted, EndsCut, EndsLong, EndsOut, EndsGenerated, EndsReplayed, EndsRefused, IsFaultless, Input};
+ghost use Rattle.yak.specs.Keeping.{alone, kept_by, nothing};
+ghost use Rattle.yak.specs.Answers.{Answers};
+ghost use Rattle.yak.specs.Endings.{usage_line, input_of, output_of, IsInput, refusal_line, KeepsNothing, comes_to, counts, generates, gives_none, belongs, ends, Input};
+ghost use Rattle.yak.specs.Threaded.{runs_to};
 
 use crate::endings::Status;
 use crate::forms::{Form, MAX_ROUNDS, Options, asked_form};
@@ -20,6 +22,7 @@ use group_jobs::{CountError, count_one, long_word, print_counts};
 use heap_core::Core;
 use heap_words::{Image, Words};
 use object_layout::NoMemory;
+use safepoint_gate::Finished;
 use script_runner::replay;
 use script_text::{Bad, INPUT_LIMIT, MAX_PAGES, ReadError, law_script_or_refusal, read_script};
 use std::alloc::{AllocError, Global};
@@ -32,13 +35,15 @@ pub enum Kept {
     Nothing,
     /// The heap after the last call of a replay, or of a count by one worker.
     Alone(Core<Image>),
+    /// The heap after the last call of a run in threads.
+    Shared(Finished),
 }
 
 const USAGE: &[u8] =
     b"usage: yak replay | threads | count [--workers n] [--task lines] [--pages p] | gen n\n";
 
 /// The whole input, or why there is none.
-fn read_input<S: Source>(alloc: Global, source: &mut S) -> Result<Vec<u8>, Status>
+pub fn read_input<S: Source>(alloc: Global, source: &mut S) -> Result<Vec<u8>, Status>
     ensures later { S.faults source.old ≤ S.faults source.new }
     ensures read { IfOk result (λ bytes. IsInput (input_of (S.left source.old) (S.left source.new) (S.faults source.old) (S.faults source.new)) bytes.items) }
     ensures none { IfErr result (λ status. gives_none status (input_of (S.left source.old) (S.left source.new) (S.faults source.old) (S.faults source.new))) }
@@ -53,17 +58,17 @@ fn read_input<S: Source>(alloc: Global, source: &mut S) -> Result<Vec<u8>, Statu
 
 /// What a run comes to before anything is written.
 #[derive(Drop)]
-struct Prepared {
-    status: Status,
-    text: Vec<u8>,
-    kept: Kept,
+pub struct Prepared {
+    pub status: Status,
+    pub text: Vec<u8>,
+    pub kept: Kept,
 }
 
 /// A run that ends with a status, and writes and keeps nothing.
-fn stopped(alloc: Global, status: Status) -> Prepared
+pub fn stopped(alloc: Global, status: Status) -> Prepared
     ensures status { result.status ≡ status }
     ensures text { result.text.items ≡ [] }
-    ensures kept { held_by ⟦<Image as Words>⟧.words result.kept ≡ None }
+    ensures kept { kept_by ⟦<Image as Words>⟧.words result.kept ≡ nothing }
 {
     Prepared {
         status,
@@ -82,8 +87,8 @@ fn refusal(alloc: Global, bad: Bad) -> Result<Vec<u8>, AllocError>
 
 /// A run that wrote a text and left a heap.
 fn done(alloc: Global, text: Result<Vec<u8>, NoMemory>, core: Core<Image>) -> Prepared
-    ensures done { IfOk text (λ bytes. (result.status ≡ Status.Done) × (result.text.items ≡ bytes.items) × (held_by ⟦<Image as Words>⟧.words result.kept ≡ Some (held_of core.map (⟦<Image as Words>⟧.words core.words)))) }
-    ensures none { OnErr text ((result.status ≡ Status.NoMemory) × (result.text.items ≡ []) × (held_by ⟦<Image as Words>⟧.words result.kept ≡ None)) }
+    ensures done { IfOk text (λ bytes. (result.status ≡ Status.Done) × (result.text.items ≡ bytes.items) × (kept_by ⟦<Image as Words>⟧.words result.kept ≡ alone (held_of core.map (⟦<Image as Words>⟧.words core.words)))) }
+    ensures none { OnErr text ((result.status ≡ Status.NoMemory) × (result.text.items ≡ []) × (kept_by ⟦<Image as Words>⟧.words result.kept ≡ nothing)) }
 {
     match text {
         Ok(text) => Prepared {
@@ -98,7 +103,7 @@ fn done(alloc: Global, text: Result<Vec<u8>, NoMemory>, core: Core<Image>) -> Pr
 /// Reads and runs a text.
 fn answer(alloc: Global, bytes: &[u8]) -> Prepared
     requires { length bytes.now ≤ INPUT_LIMIT }
-    ensures { comes_to result.status bytes.now result.text.items (held_by ⟦<Image as Words>⟧.words result.kept) }
+    ensures { comes_to result.status bytes.now result.text.items (kept_by ⟦<Image as Words>⟧.words result.kept) }
 {
     let script = match read_script(alloc, bytes) {
         Ok(script) => script,
@@ -117,7 +122,7 @@ fn answer(alloc: Global, bytes: &[u8]) -> Prepared
 /// Makes, reads and runs the script of so many rounds.
 fn generate(alloc: Global, rounds: u32) -> Prepared
     requires { rounds ≤ MAX_ROUNDS }
-    ensures { generates result.status rounds result.text.items (held_by ⟦<Image as Words>⟧.words result.kept) }
+    ensures { generates result.status rounds result.text.items (kept_by ⟦<Image as Words>⟧.words result.kept) }
 {
     let Ok(script) = generated_script(alloc, rounds) else {
         return stopped(alloc, Status::NoMemory);
@@ -141,7 +146,7 @@ fn long_line(alloc: Global, line: u32) -> Result<Vec<u8>, AllocError>
 
 /// A run that is refused for a word that is too long.
 fn too_long(alloc: Global, line: u32) -> Prepared
-    ensures { (options : Options) (bytes : List ℕ) → long_word_line bytes ≡ Some line → has_long_word bytes ≡ true → counts result.status options bytes result.text.items (held_by ⟦<Image as Words>⟧.words result.kept) }
+    ensures { (options : Options) (bytes : List ℕ) → long_word_line bytes ≡ Some line → has_long_word bytes ≡ true → counts result.status options bytes result.text.items (kept_by ⟦<Image as Words>⟧.words result.kept) }
 {
     match long_line(alloc, line) {
         Ok(text) => Prepared {
@@ -158,7 +163,7 @@ fn count(alloc: Global, options: Options, bytes: &[u8]) -> Prepared
     requires short { length bytes.now ≤ INPUT_LIMIT }
     requires pages { (1 ≤ options.pages) × (options.pages ≤ MAX_PAGES) }
     requires lines { 1 ≤ options.task }
-    ensures { counts result.status options bytes.now result.text.items (held_by ⟦<Image as Words>⟧.words result.kept) }
+    ensures { counts result.status options bytes.now result.text.items (kept_by ⟦<Image as Words>⟧.words result.kept) }
 {
     if let Some(line) = long_word(bytes) {
         return too_long(alloc, line);
@@ -174,8 +179,9 @@ fn count(alloc: Global, options: Options, bytes: &[u8]) -> Prepared
 }
 
 /// A run that is refused for a bad line.
-fn refused(alloc: Global, bad: Bad) -> Prepared
-    ensures { (bytes : List ℕ) → IsBadLine bytes bad → comes_to result.status bytes result.text.items (held_by ⟦<Image as Words>⟧.words result.kept) }
+pub fn refused(alloc: Global, bad: Bad) -> Prepared
+    ensures replay { (bytes : List ℕ) → IsBadLine bytes bad → comes_to result.status bytes result.text.items (kept_by ⟦<Image as Words>⟧.words result.kept) }
+    ensures threads { (bytes : List ℕ) → IsBadLine bytes bad → runs_to result.status bytes result.text.items (kept_by ⟦<Image as Words>⟧.words result.kept) }
 {
     match refusal(alloc, bad) {
         Ok(text) => Prepared {
@@ -189,7 +195,7 @@ fn refused(alloc: Global, bad: Bad) -> Prepared
 
 /// A run whose words are of no form that is answered.
 fn usage(alloc: Global) -> Prepared
-    ensures { (words : List (List ℕ)) (input : Input) → (IsAsked words → ⊥) → belongs result.status words input result.text.items (held_by ⟦<Image as Words>⟧.words result.kept) }
+    ensures { (words : List (List ℕ)) (input : Input) → (IsAsked words → ⊥) → belongs result.status words input result.text.items (kept_by ⟦<Image as Words>⟧.words result.kept) }
 {
     match Vec::from_slice(alloc, USAGE) {
         Ok(text) => Prepared {
@@ -206,7 +212,7 @@ fn prepare<S: Source>(alloc: Global, args: &[String], source: &mut S) -> Prepare
     ensures later { S.faults source.old ≤ S.faults source.new }
     ensures unread { (IsReading (map string_bytes args.now) → ⊥) → source.new ≡ source.old }
     ensures text { belongs result.status (map string_bytes args.now)
-        (input_of (S.left source.old) (S.left source.new) (S.faults source.old) (S.faults source.new)) result.text.items (held_by ⟦<Image as Words>⟧.words result.kept) }
+        (input_of (S.left source.old) (S.left source.new) (S.faults source.old) (S.faults source.new)) result.text.items (kept_by ⟦<Image as Words>⟧.words result.kept) }
 {
     match asked_form(args) {
         Some(Form::Replay) => match read_input(alloc, source) {
@@ -230,11 +236,11 @@ fn written<S: Source, K: Sink>(
     sink: &mut K,
     kept: &mut Kept,
 ) -> Status
-    requires { KeepsNothing (held_by ⟦<Image as Words>⟧.words kept.old) }
+    requires { KeepsNothing (kept_by ⟦<Image as Words>⟧.words kept.old) }
     ensures unread { (IsReading (map string_bytes args.now) → ⊥) → source.new ≡ source.old }
     ensures ends { ends result (map string_bytes args.now)
         (input_of (S.left source.old) (S.left source.new) (S.faults source.old) (S.faults source.new))
-        (output_of (K.written sink.old) (K.written sink.new) (K.faults sink.old) (K.faults sink.new)) (held_by ⟦<Image as Words>⟧.words kept.new) }
+        (output_of (K.written sink.old) (K.written sink.new) (K.faults sink.old) (K.faults sink.new)) (kept_by ⟦<Image as Words>⟧.words kept.new) }
 {
     let prepared = prepare(alloc, args, source);
     if write_all(sink, &prepared.text).is_err() {
@@ -244,55 +250,13 @@ fn written<S: Source, K: Sink>(
     prepared.status
 }
 
-/// The same, with what it tells of words, inputs and outputs of each kind.
-fn ended<S: Source, K: Sink>(
-    alloc: Global,
-    args: &[String],
-    source: &mut S,
-    sink: &mut K,
-    kept: &mut Kept,
-) -> Status
-    requires { KeepsNothing (held_by ⟦<Image as Words>⟧.words kept.old) }
-    ensures unread { (IsReading (map string_bytes args.now) → ⊥) → source.new ≡ source.old }
-    ensures ends { ends result (map string_bytes args.now)
-        (input_of (S.left source.old) (S.left source.new) (S.faults source.old) (S.faults source.new))
-        (output_of (K.written sink.old) (K.written sink.new) (K.faults sink.old) (K.faults sink.new)) (held_by ⟦<Image as Words>⟧.words kept.new) }
-    ensures replays { IsReplay (map string_bytes args.now) → result ≡ Status.Done → EndsReplayed
-        (input_of (S.left source.old) (S.left source.new) (S.faults source.old) (S.faults source.new))
-        (output_of (K.written sink.old) (K.written sink.new) (K.faults sink.old) (K.faults sink.new)) (held_by ⟦<Image as Words>⟧.words kept.new) }
-    ensures generates { (rounds : ℕ) → IsGen (map string_bytes args.now) rounds → result ≡ Status.Done → EndsGenerated rounds
-        (output_of (K.written sink.old) (K.written sink.new) (K.faults sink.old) (K.faults sink.new)) (held_by ⟦<Image as Words>⟧.words kept.new) }
-    ensures counts { (options : Options) → IsCount (map string_bytes args.now) options → result ≡ Status.Done → EndsCounted options
-        (input_of (S.left source.old) (S.left source.new) (S.faults source.old) (S.faults source.new))
-        (output_of (K.written sink.old) (K.written sink.new) (K.faults sink.old) (K.faults sink.new)) (held_by ⟦<Image as Words>⟧.words kept.new) }
-    ensures other_words { (IsAsked (map string_bytes args.now) → ⊥) → (result ≡ Status.Usage) ⊎ (result ≡ Status.WriteFault) ⊎ (result ≡ Status.NoMemory) }
-    ensures every_script { (bytes : List ℕ) (script : Contents) → IsReplay (map string_bytes args.now) → IsFaultless
-        (input_of (S.left source.old) (S.left source.new) (S.faults source.old) (S.faults source.new))
-        (output_of (K.written sink.old) (K.written sink.new) (K.faults sink.old) (K.faults sink.new)) bytes → length bytes ≤ INPUT_LIMIT → IsScript bytes script → (result ≡ Status.Done) ⊎ (result ≡ Status.NoMemory) }
-    ensures every_refusal { (bytes : List ℕ) (bad : Bad) → IsReplay (map string_bytes args.now) → IsFaultless
-        (input_of (S.left source.old) (S.left source.new) (S.faults source.old) (S.faults source.new))
-        (output_of (K.written sink.old) (K.written sink.new) (K.faults sink.old) (K.faults sink.new)) bytes → length bytes ≤ INPUT_LIMIT → IsBadLine bytes bad → (result ≡ Status.Refused) ⊎ (result ≡ Status.NoMemory) }
-    ensures every_gen { (rounds : ℕ) → IsGen (map string_bytes args.now) rounds → (Rose (K.faults sink.old) (K.faults sink.new) → ⊥) → (result ≡ Status.Done) ⊎ (result ≡ Status.NoMemory) }
-    ensures every_count { (options : Options) (bytes : List ℕ) → IsCount (map string_bytes args.now) options → IsFaultless
-        (input_of (S.left source.old) (S.left source.new) (S.faults source.old) (S.faults source.new))
-        (output_of (K.written sink.old) (K.written sink.new) (K.faults sink.old) (K.faults sink.new)) bytes → length bytes ≤ INPUT_LIMIT → has_long_word bytes ≡ false → (result ≡ Status.Done) ⊎ (result ≡ Status.OutOfHeap) ⊎ (result ≡ Status.NoMemory) }
-    ensures every_long_word { (options : Options) (bytes : List ℕ) → IsCount (map string_bytes args.now) options → IsFaultless
-        (input_of (S.left source.old) (S.left source.new) (S.faults source.old) (S.faults source.new))
-        (output_of (K.written sink.old) (K.written sink.new) (K.faults sink.old) (K.faults sink.new)) bytes → length bytes ≤ INPUT_LIMIT → has_long_word bytes ≡ true → (result ≡ Status.LongWord) ⊎ (result ≡ Status.NoMemory) }
-    ensures every_excess { (bytes : List ℕ) → IsReading (map string_bytes args.now) → IsFaultless
-        (input_of (S.left source.old) (S.left source.new) (S.faults source.old) (S.faults source.new))
-        (output_of (K.written sink.old) (K.written sink.new) (K.faults sink.old) (K.faults sink.new)) bytes → INPUT_LIMIT < length bytes → (result ≡ Status.TooLarge) ⊎ (result ≡ Status.NoMemory) }
-{
-    law_script_or_refusal();
-    written(alloc, args, source, sink, kept)
-}
-
-/// Does what the words ask for, and gives the number of the status with which that ended.
+/// Does on one core what the words ask for, and gives the number of the status with which that ended.
 ///
 /// `replay` reads the source's bytes as a script and runs it, and writes a line for the reply to each command. `count` with one
 /// worker counts the words of the source's bytes in a heap, and writes a line for each word. `gen n` makes a script of n rounds
-/// as bytes, runs it as `replay` does, and writes a summary of the replies. Other words get the usage line. Nothing may be kept at the call; afterwards the heap is kept where the status is 0. All output is made in memory
-/// before the first byte is written. `docs/FORMAT.md` has the forms and the statuses.
+/// as bytes, runs it as `replay` does, and writes a summary of the replies. Other words get the usage line. Nothing may be kept at
+/// the call; afterwards the heap is kept where the status is 0. All output is made in memory before the first byte is written.
+/// `docs/FORMAT.md` has the forms and the statuses.
 pub fn plain<S: Source, K: Sink>(
     alloc: Global,
     args: &[String],
@@ -300,54 +264,12 @@ pub fn plain<S: Source, K: Sink>(
     sink: &mut K,
     kept: &mut Kept,
 ) -> u8
-    requires { KeepsNothing (held_by ⟦<Image as Words>⟧.words kept.old) }
-    ensures ending { EndsAs result (map string_bytes args.now)
+    requires { KeepsNothing (kept_by ⟦<Image as Words>⟧.words kept.old) }
+    ensures answers { Answers result (map string_bytes args.now)
         (input_of (S.left source.old) (S.left source.new) (S.faults source.old) (S.faults source.new))
-        (output_of (K.written sink.old) (K.written sink.new) (K.faults sink.old) (K.faults sink.new)) (held_by ⟦<Image as Words>⟧.words kept.new) }
-    ensures replays { IsReplay (map string_bytes args.now) → result ≡ 0 → EndsReplayed
-        (input_of (S.left source.old) (S.left source.new) (S.faults source.old) (S.faults source.new))
-        (output_of (K.written sink.old) (K.written sink.new) (K.faults sink.old) (K.faults sink.new)) (held_by ⟦<Image as Words>⟧.words kept.new) }
-    ensures generates { (rounds : ℕ) → IsGen (map string_bytes args.now) rounds → result ≡ 0 → EndsGenerated rounds
-        (output_of (K.written sink.old) (K.written sink.new) (K.faults sink.old) (K.faults sink.new)) (held_by ⟦<Image as Words>⟧.words kept.new) }
-    ensures counts { (options : Options) → IsCount (map string_bytes args.now) options → result ≡ 0 → EndsCounted options
-        (input_of (S.left source.old) (S.left source.new) (S.faults source.old) (S.faults source.new))
-        (output_of (K.written sink.old) (K.written sink.new) (K.faults sink.old) (K.faults sink.new)) (held_by ⟦<Image as Words>⟧.words kept.new) }
+        (output_of (K.written sink.old) (K.written sink.new) (K.faults sink.old) (K.faults sink.new)) (kept_by ⟦<Image as Words>⟧.words kept.new) }
     ensures unread { (IsReading (map string_bytes args.now) → ⊥) → source.new ≡ source.old }
-    ensures usage { result ≡ 1 → (IsAsked (map string_bytes args.now) → ⊥) × Appends (K.written sink.old) (K.written sink.new) usage_line }
-    ensures refused { result ≡ 2 → IsReplay (map string_bytes args.now) × EndsRefused
-        (input_of (S.left source.old) (S.left source.new) (S.faults source.old) (S.faults source.new))
-        (output_of (K.written sink.old) (K.written sink.new) (K.faults sink.old) (K.faults sink.new)) }
-    ensures read_fault { result ≡ 3 → IsReading (map string_bytes args.now) × Rose (S.faults source.old) (S.faults source.new) × Appends (K.written sink.old) (K.written sink.new) [] }
-    ensures write_fault { result ≡ 4 → Rose (K.faults sink.old) (K.faults sink.new) }
-    ensures cut { result ≡ 4 → EndsCut (map string_bytes args.now)
-        (input_of (S.left source.old) (S.left source.new) (S.faults source.old) (S.faults source.new))
-        (output_of (K.written sink.old) (K.written sink.new) (K.faults sink.old) (K.faults sink.new)) }
-    ensures no_memory { result ≡ 5 → Appends (K.written sink.old) (K.written sink.new) [] }
-    ensures too_large { result ≡ 6 → IsReading (map string_bytes args.now) × IfSome (S.left source.old) (λ told. INPUT_LIMIT < length told) × Appends (K.written sink.old) (K.written sink.new) [] }
-    ensures out_of_heap { result ≡ 7 → (options : Options) × IsCount (map string_bytes args.now) options × EndsOut options
-        (input_of (S.left source.old) (S.left source.new) (S.faults source.old) (S.faults source.new))
-        (output_of (K.written sink.old) (K.written sink.new) (K.faults sink.old) (K.faults sink.new)) }
-    ensures long_word { result ≡ 8 → ((options : Options) × IsCount (map string_bytes args.now) options) × EndsLong
-        (input_of (S.left source.old) (S.left source.new) (S.faults source.old) (S.faults source.new))
-        (output_of (K.written sink.old) (K.written sink.new) (K.faults sink.old) (K.faults sink.new)) }
-    ensures kept { result ≢ 0 → KeepsNothing (held_by ⟦<Image as Words>⟧.words kept.new) }
-    ensures other_words { (IsAsked (map string_bytes args.now) → ⊥) → (result ≡ 1) ⊎ (result ≡ 4) ⊎ (result ≡ 5) }
-    ensures every_script { (bytes : List ℕ) (script : Contents) → IsReplay (map string_bytes args.now) → IsFaultless
-        (input_of (S.left source.old) (S.left source.new) (S.faults source.old) (S.faults source.new))
-        (output_of (K.written sink.old) (K.written sink.new) (K.faults sink.old) (K.faults sink.new)) bytes → length bytes ≤ INPUT_LIMIT → IsScript bytes script → (result ≡ 0) ⊎ (result ≡ 5) }
-    ensures every_refusal { (bytes : List ℕ) (bad : Bad) → IsReplay (map string_bytes args.now) → IsFaultless
-        (input_of (S.left source.old) (S.left source.new) (S.faults source.old) (S.faults source.new))
-        (output_of (K.written sink.old) (K.written sink.new) (K.faults sink.old) (K.faults sink.new)) bytes → length bytes ≤ INPUT_LIMIT → IsBadLine bytes bad → (result ≡ 2) ⊎ (result ≡ 5) }
-    ensures every_gen { (rounds : ℕ) → IsGen (map string_bytes args.now) rounds → (Rose (K.faults sink.old) (K.faults sink.new) → ⊥) → (result ≡ 0) ⊎ (result ≡ 5) }
-    ensures every_excess { (bytes : List ℕ) → IsReading (map string_bytes args.now) → IsFaultless
-        (input_of (S.left source.old) (S.left source.new) (S.faults source.old) (S.faults source.new))
-        (output_of (K.written sink.old) (K.written sink.new) (K.faults sink.old) (K.faults sink.new)) bytes → INPUT_LIMIT < length bytes → (result ≡ 6) ⊎ (result ≡ 5) }
-    ensures every_count { (options : Options) (bytes : List ℕ) → IsCount (map string_bytes args.now) options → IsFaultless
-        (input_of (S.left source.old) (S.left source.new) (S.faults source.old) (S.faults source.new))
-        (output_of (K.written sink.old) (K.written sink.new) (K.faults sink.old) (K.faults sink.new)) bytes → length bytes ≤ INPUT_LIMIT → has_long_word bytes ≡ false → (result ≡ 0) ⊎ (result ≡ 7) ⊎ (result ≡ 5) }
-    ensures every_long_word { (options : Options) (bytes : List ℕ) → IsCount (map string_bytes args.now) options → IsFaultless
-        (input_of (S.left source.old) (S.left source.new) (S.faults source.old) (S.faults source.new))
-        (output_of (K.written sink.old) (K.written sink.new) (K.faults sink.old) (K.faults sink.new)) bytes → length bytes ≤ INPUT_LIMIT → has_long_word bytes ≡ true → (result ≡ 8) ⊎ (result ≡ 5) }
 {
-    ended(alloc, args, source, sink, kept) as u8
+    law_script_or_refusal();
+    written(alloc, args, source, sink, kept) as u8
 }

@@ -1,6 +1,8 @@
 use crate::forms::{Form, read_form};
 use crate::plain::{Kept, plain};
+use crate::threaded::run;
 use epoch_lattice::{Space, below};
+use heap_core::Core;
 use heap_words::MakeError;
 use object_layout::{
     BadSlot, Call, LogFull, NoMemory, NoPage, OutOfHeap, Reply, StackEmpty, StackFull, WORD_LIMIT,
@@ -8,7 +10,7 @@ use object_layout::{
 use script_text::{Bad, ReadError, Reason};
 use std::alloc::{AllocError, Global};
 use std::test::Fail;
-use yak_io::{Failed, MemorySink, MemorySource, ReadAllError, SureSource};
+use yak_io::{Failed, MemorySink, MemorySource, NoBrake, ReadAllError, SureSource};
 
 const FIRST_PATH: &[u8] = b"heap 4 1\n1 int 7\n1 get 1\n";
 
@@ -226,7 +228,7 @@ fn words_are_counted(rt: HostRuntime) -> Result<(), Fail> {
         assert_eq!(rt; sink.written(), written.as_bytes(), "{line}");
         let is_kept = match kept {
             Kept::Alone(core) => core.threads() == 1,
-            Kept::Nothing => false,
+            Kept::Nothing | Kept::Shared(_) => false,
         };
         assert_eq!(rt; is_kept, status == 0, "{line}");
     }
@@ -402,5 +404,67 @@ fn faults_and_limits_have_statuses(rt: HostRuntime) -> Result<(), Fail> {
     let mut kept = Kept::Nothing;
     assert_eq!(rt; plain(alloc, &args, &mut source, &mut sink, &mut kept), 6);
     assert!(rt; sink.written().is_empty());
+    Ok(())
+}
+
+#[test]
+fn threads_run_their_lines(rt: HostRuntime) -> Result<(), Fail> {
+    let alloc = rt.alloc();
+    for (line, script, status, written) in [
+        (
+            "threads",
+            "heap 4 2\n1 int 1\n2 int 2\n1 get 1\n2 get 1\n",
+            0,
+            "2 ok\n3 ok\n4 int 1\n5 int 2\n",
+        ),
+        ("threads", "heap 4 2", 0, ""),
+        ("threads", "heap 4 2\n3 pop", 2, "line 2: bad thread\n"),
+        ("replay", "heap 4 1\n1 int 7\n1 get 1", 0, "2 ok\n3 int 7\n"),
+        ("threads", "", 2, "line 1: bad header\n"),
+    ] {
+        let args = words_of(alloc, line)?;
+        let mut source = SureSource::new(Vec::from_slice(alloc, script.as_bytes())?);
+        let mut sink = MemorySink::new(alloc, 100, Vec::new(alloc))?;
+        let mut kept = Kept::Nothing;
+        let ended = run(
+            &rt,
+            alloc,
+            &args,
+            &mut source,
+            &mut sink,
+            &NoBrake,
+            &mut kept,
+        );
+        assert_eq!(rt; ended, status, "{script}");
+        assert_eq!(rt; sink.written(), written.as_bytes(), "{script}");
+    }
+    Ok(())
+}
+
+#[test]
+fn the_heap_of_threads_answers_further_calls(rt: HostRuntime) -> Result<(), Fail> {
+    let alloc = rt.alloc();
+    let args = words_of(alloc, "threads")?;
+    let mut source = SureSource::new(Vec::from_slice(alloc, FIRST_PATH)?);
+    let mut sink = MemorySink::new(alloc, 100, Vec::new(alloc))?;
+    let mut kept = Kept::Nothing;
+    let ended = run(
+        &rt,
+        alloc,
+        &args,
+        &mut source,
+        &mut sink,
+        &NoBrake,
+        &mut kept,
+    );
+    assert_eq!(rt; ended, 0);
+    let Kept::Shared(finished) = kept else {
+        panic!(rt; "no heap was kept");
+    };
+    let map = finished.map();
+    let mut core = Core::over(finished, map);
+    assert_eq!(rt; (core.pages(), core.threads()), (4, 1));
+    assert!(rt; core.threads() >= 1);
+    assert_eq!(rt; core.step(1, Call::Get(1)).reply, Reply::Int(7));
     Ok(())
 }

@@ -1,21 +1,23 @@
 //! The worked scripts of `examples`, each by its name.
 
 use crate::plain::{Kept, plain};
+use crate::threaded::run;
 use std::alloc::{AllocError, Global};
 use std::test::Fail;
-use yak_io::{MemorySink, SureSource};
+use yak_io::{MemorySink, NoBrake, SureSource};
 
-// The words that ask for a replay.
-fn replay_words(alloc: Global) -> Result<Vec<String>, AllocError> {
+// The words that are one word alone.
+fn words_of(alloc: Global, word: &str) -> Result<Vec<String>, AllocError> {
     let mut words = Vec::new(alloc);
-    words.push(String::from_str(alloc, "replay")?)?;
+    words.push(String::from_str(alloc, word)?)?;
     Ok(words)
 }
 
 #[test]
 fn worked_scripts_have_their_replies(rt: HostRuntime) -> Result<(), Fail> {
     let alloc = rt.alloc();
-    let args = replay_words(alloc)?;
+    let args = words_of(alloc, "replay")?;
+    let in_threads = words_of(alloc, "threads")?;
     for (name, script, replies) in [
         (
             "collection_frees_the_popped",
@@ -145,6 +147,24 @@ fn worked_scripts_have_their_replies(rt: HostRuntime) -> Result<(), Fail> {
         let ended = plain(alloc, &args, &mut source, &mut sink, &mut kept);
         assert_eq!(rt; ended, 0, "{name}");
         assert_eq!(rt; sink.written(), replies.as_bytes(), "{name}");
+        // The script of one thread has the same replies in threads.
+        if script.as_bytes().get(7) != Some(&b'1') {
+            continue;
+        }
+        let mut source = SureSource::new(Vec::from_slice(alloc, script.as_bytes())?);
+        let mut sink = MemorySink::new(alloc, 1000, Vec::new(alloc))?;
+        let mut kept = Kept::Nothing;
+        let ended = run(
+            &rt,
+            alloc,
+            &in_threads,
+            &mut source,
+            &mut sink,
+            &NoBrake,
+            &mut kept,
+        );
+        assert_eq!(rt; ended, 0, "{name} in threads");
+        assert_eq!(rt; sink.written(), replies.as_bytes(), "{name} in threads");
     }
     Ok(())
 }

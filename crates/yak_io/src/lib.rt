@@ -1,11 +1,13 @@
 //! Where bytes come from and go to, with a count of the faults met there.
 #![tactic(auto)]
 
+mod brakes;
 mod memory;
 mod standard;
 mod traits;
 mod whole;
 
+pub use brakes::{Brake, NoBrake};
 pub use memory::{MemorySink, MemorySource, SureSource};
 pub use standard::{StdSink, StdSource};
 pub use traits::{Failed, Sink, Source};

@@ -85,7 +85,7 @@ spread_join threads objects t region first targets inside outside caused least a
         (root.2.0, (cause.1.0, (cause.1.1.0, cause.1.1.1, root.0, root.2.1, cause.1.1.3), cause.1.2))
 
 -- the names of the objects with a target
-with_target : List Kept → List (Option Space) → names.FinSet name_cmp
+pub with_target : List Kept → List (Option Space) → names.FinSet name_cmp
 with_target [] targets = names.empty
 with_target (o ∷ rest) [] = names.empty
 with_target (o ∷ rest) (None ∷ targets) = with_target rest targets
@@ -104,7 +104,7 @@ not_with_target (o ∷ rest) (Some space ∷ targets) name h =
     names.contains-insert name_cmp_total (with_target rest targets) o.name name
     ∙ (λ i. different name o.name (λ e. h 0 (omega arith) (sym e)) i || not_with_target rest targets name (λ k lt. h (suc k) (omega arith)) i)
 
-is_with_target : (objects : List Kept) (targets : List (Option Space)) → AreDistinct objects → length targets ≡ length objects → (i : ℕ) → i < length objects → names.contains (with_target objects targets) (name_at objects i) ≡ is_some (target_at targets i)
+pub is_with_target : (objects : List Kept) (targets : List (Option Space)) → AreDistinct objects → length targets ≡ length objects → (i : ℕ) → i < length objects → names.contains (with_target objects targets) (name_at objects i) ≡ is_some (target_at targets i)
 unfolding with_target
 is_with_target [] targets distinct l i lt = absurd (omega arith)
 is_with_target (o ∷ rest) [] distinct l i lt = absurd (omega arith)
@@ -198,6 +198,33 @@ module _ (limits : Limits) (threads : List Thread) (objects : List Kept) (distin
   reached_home : (name : Name) (space : Space) → IsReachedFor start t region name space → home_of start name ≡ Some region
   reached_home name space h = walk_keeps (λ n. home_of start n ≡ Some region) (λ a b k e. e.2) (source_home h.0 space h.1) h.2
 
+  -- exactly the objects that escape have a target
+  module _ (targets : List (Option Space)) (count : length targets ≡ length objects)
+      (join : (i : ℕ) → i < length objects → IsJoinOf (IsListReached threads objects t region (name_at objects i)) (target_at targets i)) where
+    pub target_members : (name : Name) → IsTrue (names.contains (with_target objects targets) name) ↔ Escapes start t region name
+    target_members name =
+        elim (place_or_none objects name) [
+          | inl p ↦
+              let tested : names.contains (with_target objects targets) name ≡ is_some (target_at targets p.0) =
+              ap (names.contains (with_target objects targets)) (sym p.2) ∙ is_with_target objects targets distinct count p.0 p.1 in
+              elim (target_at targets p.0) as (λ o. target_at targets p.0 ≡ o → IsJoinOf (IsListReached threads objects t region (name_at objects p.0)) o → IsTrue (names.contains (with_target objects targets) name) ↔ Escapes start t region name) [
+                | None ↦ λ e j. (
+                  λ h. absurd (true≢false (sym h ∙ tested ∙ ap is_some e)),
+                  λ esc. absurd (j esc.0 (subst (λ n. IsListReached threads objects t region n esc.0) (sym p.2) (list_reached name esc.0 esc.1))),
+                )
+                | Some y ↦ λ e j. (
+                  λ h. (j.1.0, reached_of_list name j.1.0 (subst (λ n. IsListReached threads objects t region n j.1.0) p.2 j.1.1)),
+                  λ esc. tested ∙ ap is_some e,
+                )
+              ] refl (join p.0 p.1)
+          | inr absent ↦ (
+            λ h. absurd (true≢false (sym h ∙ not_with_target objects targets name absent)),
+            λ esc.
+                let p : (i : ℕ) × (i < length objects) × (name_at objects i ≡ name) × (home_at objects i ≡ region) = place_at_home name region (reached_home name esc.0 esc.1) in
+                absurd (absent p.0 p.1 p.2),
+          )
+        ]
+
   module _ (targets homes : List (Option Space)) (tight : Bool) (count : length targets ≡ length objects) (size : length homes ≡ length objects)
       (join : (i : ℕ) → i < length objects → IsJoinOf (IsListReached threads objects t region (name_at objects i)) (target_at targets i))
       (inside : (i : ℕ) → i < length objects → home_at objects i ≡ region → target_at homes i ≡ final tight (target_at targets i))
@@ -239,31 +266,7 @@ module _ (limits : Limits) (threads : List Thread) (objects : List Kept) (distin
         ]
 
     pub moved_count : Counts (Escapes start t region) (count_by is_some targets)
-    moved_count = (with_target objects targets, members, sym (len_with_target objects targets distinct count))
-      where
-        members : (name : Name) → IsTrue (names.contains (with_target objects targets) name) ↔ Escapes start t region name
-        members name =
-            elim (place_or_none objects name) [
-              | inl p ↦
-                  let tested : names.contains (with_target objects targets) name ≡ is_some (target_at targets p.0) =
-                  ap (names.contains (with_target objects targets)) (sym p.2) ∙ is_with_target objects targets distinct count p.0 p.1 in
-                  elim (target_at targets p.0) as (λ o. target_at targets p.0 ≡ o → IsJoinOf (IsListReached threads objects t region (name_at objects p.0)) o → IsTrue (names.contains (with_target objects targets) name) ↔ Escapes start t region name) [
-                    | None ↦ λ e j. (
-                      λ h. absurd (true≢false (sym h ∙ tested ∙ ap is_some e)),
-                      λ esc. absurd (j esc.0 (subst (λ n. IsListReached threads objects t region n esc.0) (sym p.2) (list_reached name esc.0 esc.1))),
-                    )
-                    | Some y ↦ λ e j. (
-                      λ h. (j.1.0, reached_of_list name j.1.0 (subst (λ n. IsListReached threads objects t region n j.1.0) p.2 j.1.1)),
-                      λ esc. tested ∙ ap is_some e,
-                    )
-                  ] refl (join p.0 p.1)
-              | inr absent ↦ (
-                λ h. absurd (true≢false (sym h ∙ not_with_target objects targets name absent)),
-                λ esc.
-                    let p : (i : ℕ) × (i < length objects) × (name_at objects i ≡ name) × (home_at objects i ≡ region) = place_at_home name region (reached_home name esc.0 esc.1) in
-                    absurd (absent p.0 p.1 p.2),
-              )
-            ]
+    moved_count = (with_target objects targets, target_members targets count join, sym (len_with_target objects targets distinct count))
 
 -- the end of the innermost epoch of a thread
 pub ends_settled : (limits : Limits) (threads : List Thread) (objects : List Kept) (distinct : AreDistinct objects) (t : ℕ) (region : Space)

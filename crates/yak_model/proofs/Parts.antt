@@ -1,9 +1,10 @@
 -- The plain machine of the spaces: from its graph and homes to a list of objects, and back.
-use Rattle.std.proofs.Common.{◌≡◌, ℕ, zero, suc, ◌-◌, ◌<◌, ◌≤◌, List, [], ◌∷◌, true, false, true≢false, length, get_or, map, replicate, refl, ◌∙◌, arith, ap, sym, subst, inl, inr, Option, Some, None, is_some}
+use Rattle.std.proofs.Common.{◌≡◌, ℕ, zero, suc, ◌+◌, ◌-◌, ◌<◌, ◌≤◌, List, [], ◌∷◌, true, false, true≢false, length, get_or, map, replicate, refl, ◌∙◌, arith, ap, sym, subst, inl, inr, Option, Some, None, is_some}
 use Rattle.std.proofs.lemmas.List.{length-replicate}
 use Rattle.std.proofs.lemmas.List.{get_or-map, length-map}
 use Rattle.std.specs.FinMap.{FinMap, empty, find, get, get-empty, from_entries, get-from_entries}
 use Rattle.object_layout.specs.declared.names.Name.{Name}
+use Rattle.object_layout.specs.declared.TheConstants.{MAX_SERIAL, OBJECT_WORDS, PAGE_WORDS}
 use Rattle.epoch_lattice.specs.declared.Space.{Space}
 use Rattle.epoch_lattice.specs.declared.Space.TheVariants.{Control}
 use Rattle.epoch_lattice.specs.declared.TheConstants.{MAX_DEPTH, MAX_THREADS}
@@ -12,15 +13,15 @@ use Rattle.yak_model.specs.declared.datum.Datum.TheVariants as datum
 use Rattle.yak_model.specs.declared.homes.Home.{Home}
 use Rattle.yak_model.specs.declared.TheConstants.{ROOT_FIELDS}
 use Rattle.yak_model.specs.Names.{name_cmp, root_name}
-use Rattle.yak_model.specs.Graph.{Content, Fields, Graph, Limits, Thread, idle, fields_at, fields_or_none, opening, standard_limits, thread_of, with_depth}
-use Rattle.yak_model.specs.Kept.{AreDistinct, AreHomesValid, IsRest, Kept, nobody, state_of}
-use Rattle.yak_model.specs.Machine.{IsSound, contents_of, home_name, home_space, homes_map, homes_of, kept_of, no_home, shown_state}
+use Rattle.yak_model.specs.Graph.{Content, Fields, Graph, Limits, Thread, idle, fields_at, fields_of, fields_or_none, opening, standard_limits, thread_of, with_depth}
+use Rattle.yak_model.specs.Kept.{AreDistinct, AreHomesValid, IsRest, Kept, fields_of_place, nobody, state_of}
+use Rattle.yak_model.specs.Machine.{IsSound, all_made, contents_of, home_name, home_space, homes_map, homes_of, kept_of, no_home, shown_state, size_at}
 use Rattle.yak_model.specs.Private.{IsMade}
 use Rattle.yak_model.specs.Spaces.{SpaceState, content_at, home_of}
 use Rattle.yak_model.proofs.Collected.{content_of_place, home_absent, home_of_place}
 use Rattle.yak_model.proofs.Lists.{replicate_cases}
 use Rattle.yak_model.proofs.Names.{find_other, find_same, get-other, get-same, name_cmp_total, same_or_other}
-use Rattle.yak_model.proofs.Settled.{find_absent, place_or_none}
+use Rattle.yak_model.proofs.Settled.{find_absent, find_place, place_or_none}
 use Rattle.yak_model.proofs.Sound.{depth_keeps, keeps_sound, pairs}
 use Rattle.yak_model.proofs.Unique.{same_maps}
 
@@ -43,13 +44,13 @@ no_content None e = refl
 no_content (Some c) e = absurd (true≢false e)
 
 module _ (g : Graph) (homes : List Home) (sound : IsSound g homes) where
-  abbrev object_of : Home → Kept
+  abbrev pub object_of : Home → Kept
   object_of h = record { name = h.name; home = h.space; content = Fields (fields_at g (datum.Object h.name)) }
 
-  at : (i : ℕ) → i < length homes → get_or (kept_of g homes) i nobody ≡ object_of (get_or homes i no_home)
+  pub at : (i : ℕ) → i < length homes → get_or (kept_of g homes) i nobody ≡ object_of (get_or homes i no_home)
   at i lt = get_or-map object_of homes i no_home nobody lt
 
-  as_long : length (kept_of g homes) ≡ length homes
+  pub as_long : length (kept_of g homes) ≡ length homes
   as_long = length-map homes object_of
 
   pub kept_distinct : AreDistinct (kept_of g homes)
@@ -118,9 +119,10 @@ both_found (k ∷ rest) name =
 -- what is left of the objects is sound
 pub rest_sound : (g : Graph) (homes : List Home) → IsSound g homes → (threads : List Thread) → length threads ≡ length g.threads
     → ((t : ℕ) → (thread_of (record g { threads = threads }) t).depth ≤ MAX_DEPTH) → ((t : ℕ) → (thread_of g t).made ≤ (thread_of (record g { threads = threads }) t).made)
+    → ((t : ℕ) → (thread_of (record g { threads = threads }) t).made ≤ MAX_SERIAL) → all_made g ≤ all_made (record g { threads = threads })
     → (objects : List Kept) → IsRest (kept_of g homes) objects
     → IsSound (record { limits = g.limits; objects = from_entries (contents_of objects); threads = threads }) (homes_of objects)
-rest_sound g homes sound threads count depths made objects rest = record {
+rest_sound g homes sound threads count depths made serials all objects rest = record {
   limits = sound.limits;
   threads = omega (arith, count, sound.threads);
   depths = depths;
@@ -140,10 +142,29 @@ rest_sound g homes sound threads count depths made objects rest = record {
       ap (λ (k : Kept). k.name) (sym (at g homes sound from.0 lj)) ∙ from.2 ∙ ap (λ (h : Home). h.name) (sym (back_at i li)) in
       let before : IsMade g (home_name (homes_of objects) i) = subst (IsMade g) same (sound.made from.0 lj) in
       omega (arith, before, made (home_name (homes_of objects) i).thread);
+  fits = fits;
+  serials = serials;
+  few = omega (arith, sound.few, rest.few, long, as_long g homes sound, all);
 }
   where
     long : length (homes_of objects) ≡ length objects
     long = length-map objects (λ (k : Kept). record { name = k.name; space = k.home })
+
+    fits : (name : Name) → size_at (record { limits = g.limits; objects = from_entries (contents_of objects); threads = threads }) name ≤ PAGE_WORDS
+    fits name =
+        elim (place_or_none objects name) [
+          | inl p ↦
+              let found : get (from_entries (contents_of objects)) name ≡ Some (get_or objects p.0 nobody).content =
+              ap (get (from_entries (contents_of objects))) (sym p.2) ∙ get-from_entries name_cmp_total _ _ ∙ find_place (λ (k : Kept). k.content) objects rest.distinct p.0 p.1 in
+              let from = rest.fields p.0 p.1 in
+              let lj : from.0 < length homes = omega (arith, from.1, as_long g homes sound) in
+              let was : fields_of_place (kept_of g homes) from.0 ≡ fields_at g (datum.Object (home_name homes from.0)) = ap (λ (k : Kept). fields_of k.content) (at g homes sound from.0 lj) in
+              let same : fields_or_none (get (from_entries (contents_of objects)) name) ≡ fields_at g (datum.Object (home_name homes from.0)) = ap fields_or_none found ∙ sym from.2 ∙ was in
+              omega (arith, ap length same, sound.fits (home_name homes from.0))
+          | inr absent ↦
+              let none : get (from_entries (contents_of objects)) name ≡ None = get-from_entries name_cmp_total _ _ ∙ find_absent (λ (k : Kept). k.content) objects name absent in
+              omega (arith, ap (λ (o : Option Content). length (fields_or_none o)) none)
+        ]
 
     back_at : (i : ℕ) → i < length objects → get_or (homes_of objects) i no_home ≡ record { name = (get_or objects i nobody).name; space = (get_or objects i nobody).home }
     back_at i lt = get_or-map (λ (k : Kept). record { name = k.name; space = k.home }) objects i nobody no_home lt
@@ -154,7 +175,7 @@ pub ended_sound : (g : Graph) (homes : List Home) → IsSound g homes → (t : �
 ended_sound g homes sound t objects rest =
     let before : Graph = record g { objects = from_entries (contents_of objects) } in
     keeps_sound before (with_depth before t ((thread_of g t).depth - 1)) (homes_of objects)
-    (rest_sound g homes sound g.threads refl sound.depths (λ u. omega arith) objects rest)
+    (rest_sound g homes sound g.threads refl sound.depths (λ u. omega arith) sound.serials (omega arith) objects rest)
     (depth_keeps before t ((thread_of g t).depth - 1) (λ deep. omega (arith, deep t)))
 
 -- ---- as the heap opens
@@ -177,6 +198,23 @@ opening_sound threads most = record {
     | inr o ↦ ap is_some (get-other empty root_name root_content n o ∙ get-empty name_cmp n) ∙ sym (ap is_some (get-other empty root_name Control n o ∙ get-empty name_cmp n))
   ];
   made = made;
+  fits = λ n. elim (same_or_other n root_name) [
+    | inl q ↦
+        let size : size_at (opening standard_limits threads) n ≡ ROOT_FIELDS + OBJECT_WORDS =
+        ap (λ m. length (fields_or_none (get root_object m)) + OBJECT_WORDS) q
+        ∙ ap (λ (o : Option Content). length (fields_or_none o) + OBJECT_WORDS) (get-same empty root_name root_content)
+        ∙ ap (λ m. m + OBJECT_WORDS) (length-replicate ROOT_FIELDS datum.Null) in
+        omega (arith, size)
+    | inr o ↦
+        let size : size_at (opening standard_limits threads) n ≡ OBJECT_WORDS =
+        ap (λ (c : Option Content). length (fields_or_none c) + OBJECT_WORDS) (get-other empty root_name root_content n o ∙ get-empty name_cmp n) in
+        omega (arith, size)
+  ];
+  serials = λ t. elim (replicate_cases threads (t - 1) first idle) [
+    | inl e ↦ omega (arith, ap (λ (x : Thread). x.made) e)
+    | inr e ↦ omega (arith, ap (λ (x : Thread). x.made) e)
+  ];
+  few = omega arith;
 }
   where
     first : Thread

@@ -1,25 +1,31 @@
 -- What is left of a list of objects after some lose their space.
-use Rattle.std.proofs.Common.{◌≡◌, ◌≢◌, ℕ, zero, suc, ◌<◌, List, [], ◌∷◌, Bool, true, false, true≢false, length, refl, ◌∙◌, arith, ap, sym, subst, inl, inr, Option, Some, None, is_some}
+use Rattle.std.proofs.Common.{◌≡◌, ◌≢◌, ℕ, zero, suc, ◌<◌, ◌≤◌, List, [], ◌∷◌, Bool, true, false, true≢false, length, refl, ◌∙◌, arith, ap, sym, subst, inl, inr, Option, Some, None, is_some}
 use Rattle.epoch_lattice.specs.declared.TheConstants.{MAX_DEPTH}
 use Rattle.epoch_lattice.specs.declared.Space.{Space}
 use Rattle.epoch_lattice.specs.Lattice.{IsValid}
-use Rattle.yak_model.specs.Kept.{AreDistinct, AreHomesValid, AreValid, IsRest, IsTargetValid, Kept, final, home_at, name_at, settled, target_at}
+use Rattle.yak_model.specs.Kept.{AreDistinct, AreHomesValid, AreValid, IsRest, IsTargetValid, Kept, fields_of_place, final, home_at, name_at, settled, target_at}
 use Rattle.yak_model.proofs.Agreement.{same_or_other_space}
 use Rattle.yak_model.proofs.Escaped.{all_valid}
 use Rattle.yak_model.proofs.Settled.{head_differs, tail_distinct}
 
 -- where an object of the rest was before
 pub settled_from : (objects : List Kept) (homes : List (Option Space)) (i : ℕ) → i < length (settled objects homes)
-    → (j : ℕ) × (j < length objects) × (name_at objects j ≡ name_at (settled objects homes) i) × (target_at homes j ≡ Some (home_at (settled objects homes) i))
+    → (j : ℕ) × (j < length objects) × (name_at objects j ≡ name_at (settled objects homes) i) × (target_at homes j ≡ Some (home_at (settled objects homes) i)) × (fields_of_place objects j ≡ fields_of_place (settled objects homes) i)
 settled_from [] homes i lt = absurd (omega arith)
 settled_from (o ∷ rest) [] i lt = absurd (omega arith)
 settled_from (o ∷ rest) (None ∷ homes) i lt =
     let r = settled_from rest homes i lt in
-    (suc r.0, omega (arith, r.1), r.2, r.3)
-settled_from (o ∷ rest) (Some home ∷ homes) zero lt = (0, omega arith, refl, refl)
+    (suc r.0, omega (arith, r.1), r.2, r.3, r.4)
+settled_from (o ∷ rest) (Some home ∷ homes) zero lt = (0, omega arith, refl, refl, refl)
 settled_from (o ∷ rest) (Some home ∷ homes) (suc i) lt =
     let r = settled_from rest homes i (omega arith) in
-    (suc r.0, omega (arith, r.1), r.2, r.3)
+    (suc r.0, omega (arith, r.1), r.2, r.3, r.4)
+
+settled_few : (objects : List Kept) (homes : List (Option Space)) → length (settled objects homes) ≤ length objects
+settled_few [] homes = omega arith
+settled_few (o ∷ rest) [] = omega arith
+settled_few (o ∷ rest) (None ∷ homes) = omega (arith, settled_few rest homes)
+settled_few (o ∷ rest) (Some home ∷ homes) = omega (arith, settled_few rest homes)
 
 settled_distinct : (objects : List Kept) (homes : List (Option Space)) → AreDistinct objects → AreDistinct (settled objects homes)
 settled_distinct [] homes distinct i j lt lu e = absurd (omega arith)
@@ -40,6 +46,8 @@ rest_settled objects homes distinct valid = record {
   distinct = settled_distinct objects homes distinct;
   valid = λ i lt. let r = settled_from objects homes i lt in valid r.0 _ r.3;
   names = λ i lt. let r = settled_from objects homes i lt in (r.0, r.1, r.2);
+  fields = λ i lt. let r = settled_from objects homes i lt in (r.0, r.1, r.4);
+  few = settled_few objects homes;
 }
 
 some_none : {X : Type 0} {x : X} → Some x ≡ None → ⊥

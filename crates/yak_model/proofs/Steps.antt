@@ -11,7 +11,7 @@ use Rattle.yak_model.specs.Graph.{Does, Graph, IsThread, answers, make, next_nam
 use Rattle.yak_model.specs.History.{Said}
 use Rattle.yak_model.specs.Machine.{CanTurn, IsSound, shown_state}
 use Rattle.yak_model.specs.Spaces.{SpaceState, Turns, homes_after, innermost}
-use Rattle.yak_model.proofs.Sound.{Keeps, answers_keep, homes_grow, keeps_itself, make_sound}
+use Rattle.yak_model.proofs.Sound.{Keeps, answers_keep, homes_grow, keeps_itself, make_sound, room_of}
 
 -- an answer to a call that makes no object leaves the homes
 same_homes : (s : SpaceState) (t : ℕ) (asked : Call) (said : Reply) → ((k : ℕ) → asked ≡ call.New k → said ≢ reply.Ok) → s.home ≡ homes_after s t asked said
@@ -109,14 +109,15 @@ allowed_by (Err e) h f = tt
 module _ (g h : Graph) (homes grown : List Home) (sound : IsSound g homes) (t : ℕ) (thread : IsThread g t) (k : ℕ) {E : Type 0} (r : Result Bool E)
     (graphs : IfOk r (λ done. done ≡ true → h ≡ make g t k))
     (lists : IfOk r (λ done. done ≡ true → grown ≡ homes ++ (record { name = next_name g t; space = innermost g t }) ∷ [])) where
-  pub made_is_sound : IfOk r (λ done. done ≡ false → h ≡ g) → IfOk r (λ done. done ≡ false → grown ≡ homes) → OnErr r (h ≡ g) → OnErr r (grown ≡ homes) → IsSound h grown
-  made_is_sound same_graph same_list err_graph err_list = by_result r graphs lists same_graph same_list err_graph err_list
+  pub made_is_sound : IfOk r (λ done. done ≡ true → refusal_of g t (call.New k) ≡ None) → IfOk r (λ done. done ≡ false → h ≡ g) → IfOk r (λ done. done ≡ false → grown ≡ homes) → OnErr r (h ≡ g) → OnErr r (grown ≡ homes) → IsSound h grown
+  made_is_sound free same_graph same_list err_graph err_list = by_result r graphs lists free same_graph same_list err_graph err_list
     where
       by_result : (r : Result Bool E) → IfOk r (λ done. done ≡ true → h ≡ make g t k) → IfOk r (λ done. done ≡ true → grown ≡ homes ++ (record { name = next_name g t; space = innermost g t }) ∷ [])
-          → IfOk r (λ done. done ≡ false → h ≡ g) → IfOk r (λ done. done ≡ false → grown ≡ homes) → OnErr r (h ≡ g) → OnErr r (grown ≡ homes) → IsSound h grown
-      by_result (Ok true) a b c d e f = subst (λ x. IsSound x grown) (sym (a refl)) (subst (IsSound (make g t k)) (sym (b refl)) (make_sound g homes sound t thread k))
-      by_result (Ok false) a b c d e f = subst (λ x. IsSound x grown) (sym (c refl)) (subst (IsSound g) (sym (d refl)) sound)
-      by_result (Err x) a b c d e f = subst (λ x. IsSound x grown) (sym e) (subst (IsSound g) (sym f) sound)
+          → IfOk r (λ done. done ≡ true → refusal_of g t (call.New k) ≡ None) → IfOk r (λ done. done ≡ false → h ≡ g) → IfOk r (λ done. done ≡ false → grown ≡ homes) → OnErr r (h ≡ g) → OnErr r (grown ≡ homes) → IsSound h grown
+      by_result (Ok true) a b free c d e f =
+          subst (λ x. IsSound x grown) (sym (a refl)) (subst (IsSound (make g t k)) (sym (b refl)) (make_sound g homes sound t thread k (room_of g t k sound.limits (free refl))))
+      by_result (Ok false) a b free c d e f = subst (λ x. IsSound x grown) (sym (c refl)) (subst (IsSound g) (sym (d refl)) sound)
+      by_result (Err x) a b free c d e f = subst (λ x. IsSound x grown) (sym e) (subst (IsSound g) (sym f) sound)
 
   pub made_turns_by : IfOk r (λ done. done ≡ true → refusal_of g t (call.New k) ≡ None) → IfOk r (λ done. done ≡ true → Turns (shown_state g homes) (Said t (call.New k) reply.Ok) (shown_state h grown))
   made_turns_by free = by_result r graphs lists free

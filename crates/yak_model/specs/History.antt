@@ -1,15 +1,10 @@
 -- Histories of calls.
 use Rattle.std.specs.Prelude.{◌≡◌, ℕ, ◌≤◌, List, [], ◌∷◌, eqb}
 use Rattle.std.specs.List.{filter}
-use Rattle.object_layout.specs.declared.calls.Call.{Call}
-use Rattle.object_layout.specs.declared.replies.Reply.{Reply}
 use Rattle.object_layout.specs.Calls.{IsCall}
 use Rattle.yak_model.specs.Graph.{Graph, IsThread, Limits, answers, opening}
-
--- a call of a thread and its reply, or a collection that a thread makes inside a call
-pub data Entry : Type 0 where
-  Said : ℕ → Call → Reply → Entry
-  Collected : ℕ → Entry
+pub use Rattle.yak_model.specs.declared.history.Entry.{Entry}
+pub use Rattle.yak_model.specs.declared.history.Entry.TheVariants.{Said, Collected}
 
 -- One entry leads from g to h.
 abbrev pub Moves : Graph → Entry → Graph → Type 0

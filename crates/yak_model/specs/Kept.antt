@@ -1,15 +1,16 @@
 -- The present objects as a list, and marks beside them.
-use Rattle.std.specs.Prelude.{◌≡◌, ◌≢◌, ℕ, ◌<◌, ◌≤◌, ◌-◌, ◌⊎◌, List, [], ◌∷◌, length, map, slice_index_or, slice_set, Bool, true, false, cond, Option, Some, None}
+use Rattle.std.specs.Prelude.{◌≡◌, ◌≢◌, ℕ, ◌+◌, ◌*◌, ◌^◌, ◌<◌, ◌≤◌, ◌-◌, ◌⊎◌, List, [], ◌∷◌, length, map, slice_index_or, slice_set, Bool, true, false, cond, Option, Some, None, is_some}
 use Rattle.std.specs.List.{Contains}
 use Rattle.std.specs.FinMap as finite
 use Rattle.object_layout.specs.declared.names.Name.{Name}
+use Rattle.object_layout.specs.declared.TheConstants.{OBJECT_WORDS, PAGE_WORDS}
 use Rattle.epoch_lattice.specs.declared.TheConstants.{MAX_DEPTH}
 use Rattle.epoch_lattice.specs.declared.Space.{Space}
 use Rattle.epoch_lattice.specs.declared.Space.TheVariants.{Control}
 use Rattle.yak_model.specs.declared.datum.Datum.{Datum}
 use Rattle.yak_model.specs.declared.datum.Datum.TheVariants as datum
 use Rattle.yak_model.specs.Names.{root_name}
-use Rattle.yak_model.specs.Graph.{Content, Fields, Limits, Thread, fields_of, idle}
+use Rattle.yak_model.specs.Graph.{Content, Fields, Limits, Thread, fields_of, idle, size_of}
 use Rattle.epoch_lattice.specs.Lattice.{IsBelow, IsLeastAbove, IsValid, join_of, parent_of}
 use Rattle.yak_model.specs.Spaces.{IsReached, SpaceState, Walk}
 
@@ -93,6 +94,17 @@ abbrev pub IsAbove : List Kept → Space → List (Option Space) → Space → N
 IsAbove objects region targets space name =
     (i : ℕ) → i < length objects → name_at objects i ≡ name → home_at objects i ≡ region → (old : Space) × (target_at targets i ≡ Some old) × IsBelow space old
 
+-- the words of the objects that have a target
+abbrev pub target_words : List Kept → List (Option Space) → ℕ
+target_words [] targets = 0
+target_words (o ∷ rest) [] = 0
+target_words (o ∷ rest) (x ∷ targets) = cond (is_some x) (size_of o.content) 0 + target_words rest targets
+
+-- Each object fits a page, and a sum of their words is a number of 64 bits.
+pub record AreSmall (objects : List Kept) : Type 0 where
+  pub fits : (i : ℕ) → i < length objects → length (fields_of_place objects i) + OBJECT_WORDS ≤ PAGE_WORDS
+  pub few : PAGE_WORDS * length objects < 2 ^ 64
+
 -- Each target is a space of a heap with epochs nested at most this deep.
 abbrev pub AreValid : ℕ → List (Option Space) → Type 0
 AreValid greatest targets = (i : ℕ) (space : Space) → target_at targets i ≡ Some space → IsValid greatest space
@@ -108,11 +120,13 @@ settled (o ∷ rest) (Some home ∷ homes) = (record o { home = home }) ∷ sett
 abbrev pub AreHomesValid : List Kept → Type 0
 AreHomesValid objects = (i : ℕ) → i < length objects → IsValid MAX_DEPTH (home_at objects i)
 
--- What is left of a list of objects: no name twice, each that of an object of the list, in a space that a heap can have.
+-- What is left of a list of objects: no name twice, each object one of the list with its fields, in a space that a heap can have.
 pub record IsRest (before after : List Kept) : Type 0 where
   pub distinct : AreDistinct after
   pub valid : AreHomesValid after
   pub names : (i : ℕ) → i < length after → (j : ℕ) × (j < length before) × (name_at before j ≡ name_at after i)
+  pub fields : (i : ℕ) → i < length after → (j : ℕ) × (j < length before) × (fields_of_place before j ≡ fields_of_place after i)
+  pub few : length after ≤ length before
 
 -- A slot of some stack refers to the object.
 abbrev pub IsHeld : List Thread → Name → Type 0

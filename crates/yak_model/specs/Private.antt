@@ -1,5 +1,5 @@
 -- What one thread alone knows: a finite map from the names of some of its objects to their fields.
-use Rattle.std.specs.Prelude.{◌≡◌, ◌≢◌, ℕ, ◌≤◌, None, Some, IsSome, replicate, slice_set}
+use Rattle.std.specs.Prelude.{◌≡◌, ◌≢◌, ℕ, ◌≤◌, List, None, Some, IsSome, replicate, slice_set}
 use Rattle.std.specs.List.{Contains}
 use Rattle.std.specs.FinMap as finite
 use Rattle.object_layout.specs.declared.names.Name.{Name}
@@ -11,8 +11,8 @@ use Rattle.object_layout.specs.declared.replies.Reply.TheVariants as reply
 use Rattle.yak_model.specs.declared.datum.Datum.{Datum}
 use Rattle.yak_model.specs.declared.datum.Datum.TheVariants as datum
 use Rattle.yak_model.specs.Names.{name_cmp}
-use Rattle.yak_model.specs.Graph.{Content, Fields, Graph, Limits, fields_or_none, next_name, size_of, slot_of, thread_of}
-use Rattle.yak_model.specs.History.{Entry, Said, Collected, Moves}
+use Rattle.yak_model.specs.Graph.{Content, Fields, Graph, Limits, fields_or_none, next_name, opening, size_of, slot_of, thread_of}
+use Rattle.yak_model.specs.History.{Entry, Said, Collected, Leads, Moves}
 use Rattle.yak_model.specs.Spaces.{IsOnStack, Refers, Walk, content_at}
 
 -- a finite map from names to what the objects hold
@@ -67,6 +67,15 @@ abbrev pub KnownAfter : Graph → ℕ → KnownObjects → Entry → KnownObject
 KnownAfter g t known (Said u asked said) after = (u ≡ t → OwnCall g t known asked said after) × (u ≢ t → after ≡ known)
 KnownAfter g t known (Collected u) after = after ≡ known
 
+-- ---- parts of what is known
+
+-- Some of the known objects, as they are known, into which no other known object refers.
+pub record IsPart (known part : KnownObjects) : Type 0 where
+  pub contents : (name : Name) → IsKnown part name → finite.get part name ≡ finite.get known name
+  pub closed : (from to : Name) → RefersKnown known from to → IsKnown part to → IsKnown part from
+
+-- ---- names of objects that were made
+
 -- The thread has made the object of this name, as far as the serial number goes.
 abbrev pub IsMade : Graph → Name → Type 0
 IsMade g name = name.serial ≤ (thread_of g name.thread).made
@@ -76,6 +85,19 @@ pub record AreMade (g : Graph) : Type 0 where
   pub objects : (name : Name) → IsSome (content_at g name) → IsMade g name
   pub stacks : (u : ℕ) (name : Name) → IsOnStack g u name → IsMade g name
   pub fields : (from name : Name) → Refers g from name → IsMade g name
+
+-- ---- after a history
+
+-- Whatever graph the history leaves, the thread alone knows these objects in it, and they fit pages.
+pub record PrivateAfter (limits : Limits) (threads : ℕ) (history : List Entry) (t : ℕ) (known : KnownObjects) : Type 0 where
+  pub alone : (g : Graph) → Leads (opening limits threads) history g → IsPrivate g t known
+  pub fits : FitPages limits known
+
+-- Whatever graph the history leaves, the entry makes the other known objects of the ones.
+abbrev pub BecomesKnown : Limits → ℕ → List Entry → ℕ → KnownObjects → Entry → KnownObjects → Type 0
+BecomesKnown limits threads history t known entry after = (g : Graph) → Leads (opening limits threads) history g → KnownAfter g t known entry after
+
+-- ---- laws
 
 -- What one thread alone knows stays so, whatever entry comes.
 abbrev pub PrivacyIsKept : Type 0
@@ -92,3 +114,14 @@ abbrev pub FittingIsKept : Type 0
 FittingIsKept =
     (g : Graph) (entry : Entry) (h : Graph) (t : ℕ) (known after : KnownObjects)
     → OBJECT_WORDS ≤ g.limits.page → Moves g entry h → FitPages g.limits known → KnownAfter g t known entry after → FitPages g.limits after
+
+-- A part of what a thread alone knows is so known, and stays such a part, whatever entry comes.
+abbrev pub PartsAreKept : Type 0
+PartsAreKept =
+    (g : Graph) (entry : Entry) (t : ℕ) (known part after part_after : KnownObjects)
+    → AreMade g → IsPrivate g t known → IsPart known part → KnownAfter g t known entry after → KnownAfter g t part entry part_after
+    → IsPrivate g t part × IsPart after part_after
+
+-- Each entry makes some map of what is known.
+abbrev pub SomethingIsKnown : Type 0
+SomethingIsKnown = (g : Graph) (t : ℕ) (known : KnownObjects) (entry : Entry) → (after : KnownObjects) × KnownAfter g t known entry after

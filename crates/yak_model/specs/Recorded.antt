@@ -42,3 +42,11 @@ pub record RecordedAs (m : Areas) (c : Contents) (s : State) (at : Name → ℕ)
 -- The crossing references of a state are recorded in the words that stand for it.
 abbrev pub Recorded : (m : Areas) (c : Contents) (s : SpaceState) → Stands m c s → Type 0
 Recorded m c s stands = RecordedAs m c (view s) stands.places.at
+
+-- The words stand for a state, and its crossing references are recorded.
+abbrev pub StandsRecorded : Areas → Contents → SpaceState → Type 0
+StandsRecorded m c s = (h : Stands m c s) × Recorded m c s h
+
+-- The words stand so for some state.
+abbrev pub SomeRecorded : Areas → Contents → Type 0
+SomeRecorded m c = ∥ ((s : SpaceState) × (h : Stands m c s) × Recorded m c s h) ∥₁

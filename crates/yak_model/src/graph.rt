@@ -1,6 +1,6 @@
 //! The heap as a graph of objects, without spaces.
-ghost use Rattle.std.specs.Prelude.{◌≡◌, ◌≢◌, ℕ, ◌+◌, ◌-◌, ◌^◌, ◌<◌, ◌≤◌, ◌++◌, ◌∷◌, [], IfOk, OnErr, OnOk, IsTrue, ◌↔◌, take, length, replicate, slice_set, slice_index_or, true, false};
-ghost use Rattle.std.specs.List.{Contains};
+ghost use Rattle.std.specs.Prelude.{◌≡◌, ◌≢◌, ℕ, ◌+◌, ◌-◌, ◌*◌, ◌^◌, ◌<◌, ◌≤◌, ◌++◌, ◌∷◌, [], IfOk, OnErr, OnOk, IsTrue, ◌↔◌, take, length, replicate, slice_set, slice_index_or, true, false};
+ghost use Rattle.std.specs.List.{Contains, sum_by};
 ghost use Rattle.yak_model.specs.Graph.{Thread, Graph, Fields, Does, IsEnded, IsThread, answers, fields_at, opening, make, push, drop_top, with_depth, with_object, put_field, refusal_of, shown, slot_of, stack_of, standard_limits, thread_of};
 ghost use Rattle.yak_model.specs.declared.datum.Datum.TheVariants as datum;
 ghost use Rattle.object_layout.specs.declared.calls.Call.TheVariants as asked;
@@ -169,6 +169,24 @@ impl Model for GraphState {
     ghost coded = { Prim.hlevel (codes, code) };
 
     ghost view = { λ a. record { limits = record { page = a.page; depth = a.depth }; objects = from_entries a.writes.items; threads = a.threads.items } };
+}
+
+/// A finite map from names to objects, for what steps on a shared heap tell. No value of it is made.
+#[derive(Drop)]
+pub struct ObjectMap {
+    writes: VecDeque<Written>,
+}
+
+impl Model for ObjectMap {
+    ghost use Rattle.std.specs.FinMap.{code, from_entries};
+    ghost use Rattle.std.specs.Coded.{codes};
+    ghost use Rattle.yak_model.specs.Private.{KnownObjects};
+
+    ghost Value = { KnownObjects };
+
+    ghost coded = { Prim.hlevel (codes, code) };
+
+    ghost view = { λ a. from_entries a.writes.items };
 }
 
 /// What a thread has as the heap opens: a reference to the root.
@@ -677,6 +695,20 @@ impl GraphState {
             Some(found) => *found,
             None => Datum::Null,
         }
+    }
+
+    /// The depths of all threads together: how many regions are open.
+    pub(crate) fn open_regions(&self) -> u32
+        requires few { length self.now.threads ≤ MAX_THREADS }
+        requires depths { (t : ℕ) → (thread_of self.now t).depth ≤ MAX_DEPTH }
+        ensures sum { result ≡ sum_by (λ state. state.depth) self.now.threads }
+        ensures few { result ≤ MAX_THREADS * MAX_DEPTH }
+    {
+        let mut open = 0;
+        for state in &self.threads {
+            open += u32::from(state.depth());
+        }
+        open
     }
 
     /// The threads, of which the first has the number 1.

@@ -1,6 +1,6 @@
 //! Laws over the definitions alone.
 ghost use Rattle.yak_model.specs.Agreement.{MachinesAgree};
-ghost use Rattle.yak_model.specs.Private.{FittingIsKept, NamesStayMade, PrivacyIsKept};
+ghost use Rattle.yak_model.specs.Private.{FittingIsKept, NamesStayMade, PartsAreKept, PrivacyIsKept, SomethingIsKnown};
 ghost use Rattle.yak_model.specs.Unique.{StatesAreUnique};
 
 /// The graph and the spaces agree along every history.
@@ -26,4 +26,14 @@ pub fn freshness()
 /// What one thread alone knows fits pages, whatever entry comes.
 pub fn fitting()
     ensures { FittingIsKept }
+{}
+
+/// A part of what one thread alone knows is so known, and stays such a part, whatever entry comes.
+pub fn parts()
+    ensures { PartsAreKept }
+{}
+
+/// Each entry makes some map of what one thread alone knows.
+pub fn knowing()
+    ensures { SomethingIsKnown }
 {}

@@ -5,6 +5,7 @@
 pub mod caller;
 pub mod datum;
 pub mod graph;
+pub mod history;
 mod homes;
 pub mod laws;
 pub mod space_state;
@@ -14,11 +15,14 @@ mod tests;
 
 pub use caller::Caller;
 pub use datum::Datum;
-pub use graph::GraphState;
+pub use graph::{GraphState, ObjectMap};
+pub use history::Entry;
 pub use space_state::SpaceState;
 
 /// The greatest number of slots of a stack.
 pub const STACK_SLOTS: usize = 64;
+/// The most words that the objects of a heap take: each fits a page, and there are the root and what each thread made.
+pub const MOST_WORDS: u64 = 576460752303421696;
 /// The fields of the root object.
 pub const ROOT_FIELDS: usize = 16;
 /// The fields of a count table: its buckets, each null or the first entry of a chain.

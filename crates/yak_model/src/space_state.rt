@@ -1,5 +1,5 @@
 //! The heap as a graph of present objects in spaces.
-ghost use Rattle.std.specs.Prelude.{◌≡◌, ◌≢◌, ◌≤◌, ◌<◌, ◌++◌, ◌∷◌, [], IfOk, IfSome, IfNone, OnErr, OnOk, IsSome, MatchOption, true, false, ℕ, length};
+ghost use Rattle.std.specs.Prelude.{◌≡◌, ◌≢◌, ◌*◌, ◌≤◌, ◌<◌, ◌++◌, ◌∷◌, [], IfOk, IfSome, IfNone, OnErr, OnOk, IsSome, MatchOption, true, false, ℕ, length};
 ghost use Rattle.std.specs.FinMap.{from_entries};
 ghost use Rattle.object_layout.specs.Calls.{IsCall};
 ghost use Rattle.object_layout.specs.declared.calls.Call.TheVariants as asked;
@@ -7,14 +7,18 @@ ghost use Rattle.object_layout.specs.declared.replies.Reply.TheVariants as said;
 ghost use Rattle.yak_model.specs.Graph.{IsThread, make, next_name, refusal_of, standard_limits, thread_of};
 ghost use Rattle.yak_model.specs.History.{Said};
 ghost use Rattle.yak_model.specs.Kept.{IsRest};
-ghost use Rattle.yak_model.specs.Machine.{CanTurn, IsSound, contents_of, homes_of, shown_state};
-ghost use Rattle.yak_model.specs.Spaces.{Collects, EndsEpoch, Turns, innermost, opening_spaces};
+ghost use Rattle.std.specs.List.{sum_by};
+ghost use Rattle.yak_model.specs.Lawful.{HasWords, control_words, open_regions, region_words};
+ghost use Rattle.yak_model.specs.Machine.{CanTurn, IsSound, contents_of, control_size, homes_of, region_size, shown_state, size_at};
+ghost use Rattle.yak_model.specs.Spaces.{Collects, EndsEpoch, Escapes, Turns, innermost, opening_spaces};
 
+use crate::MOST_WORDS;
+use crate::datum::Datum;
 use crate::graph::GraphState;
 use crate::homes::{Home, homes_of, kept_objects, next_home, writes_of};
-use crate::spaces::{KeptObject, collect, end_epoch};
-use epoch_lattice::{Space, inner};
-use object_layout::{Call, MAX_THREADS, Name, NoMemory, Reply};
+use crate::spaces::{KeptObject, collect, end_epoch, escape_words};
+use epoch_lattice::{MAX_DEPTH, Space, inner};
+use object_layout::{Call, MAX_THREADS, Name, NoMemory, OBJECT_WORDS, PAGE_WORDS, Reply};
 use std::alloc::{AllocError, Global};
 use std::marker::Model;
 
@@ -167,6 +171,63 @@ fn end_innermost(
     Ok(moved as u64)
 }
 
+/// The words of the object of a home.
+fn size_of(graph: &GraphState, home: Home) -> u64
+    requires { size_at graph.now home.name ≤ PAGE_WORDS }
+    ensures size { result ≡ size_at graph.now home.name }
+    ensures few { result ≤ PAGE_WORDS }
+{
+    graph.fields_at(Datum::Object(home.name)).len() as u64 + u64::from(OBJECT_WORDS)
+}
+
+/// The words of the objects of the control space.
+fn words_in_control(graph: &GraphState, homes: &[Home]) -> u64
+    requires { IsSound graph.now homes.now }
+    ensures words { result ≡ sum_by (control_size graph.now) homes.now }
+    ensures few { result ≤ MOST_WORDS }
+{
+    let mut words = 0;
+    for home in homes {
+        if home.space == Space::Control {
+            words += size_of(graph, *home);
+        }
+    }
+    words
+}
+
+/// The words of the objects of all regions.
+fn words_in_regions(graph: &GraphState, homes: &[Home]) -> u64
+    requires { IsSound graph.now homes.now }
+    ensures words { result ≡ sum_by (region_size graph.now) homes.now }
+    ensures few { result ≤ MOST_WORDS }
+{
+    let mut words = 0;
+    for home in homes {
+        if home.space != Space::Control {
+            words += size_of(graph, *home);
+        }
+    }
+    words
+}
+
+/// The words of the objects that escape from the innermost region of a thread.
+fn words_escaping(
+    alloc: Global,
+    graph: &GraphState,
+    homes: &[Home],
+    thread: u8,
+) -> Result<u64, AllocError>
+    requires sound { IsSound graph.now homes.now }
+    requires thread { IsThread graph.now thread }
+    requires open_epoch { 0 < (thread_of graph.now thread).depth }
+    ensures words { IfOk result (λ words. HasWords (shown_state graph.now homes.now) (Escapes (shown_state graph.now homes.now) thread (innermost graph.now thread)) words) }
+    ensures few { IfOk result (λ words. words ≤ MOST_WORDS) }
+{
+    let region = inner(thread, graph.depth_of(thread));
+    let objects = kept_objects(alloc, graph, homes)?;
+    escape_words(alloc, &objects, graph.threads(), thread, region)
+}
+
 /// The home of the root object.
 fn root_home(alloc: Global) -> Result<Vec<Home>, AllocError>
     ensures { IfOk result (λ homes. homes.items ≡ (record { name = record { thread = 0; serial = 0 }; space = Space.Control }) ∷ []) }
@@ -249,5 +310,46 @@ impl SpaceState {
         ensures threads { length self.new.graph.threads ≡ length self.old.graph.threads }
     {
         collect_objects(self.alloc, &mut self.graph, &mut self.homes).map_err(|_| NoMemory)
+    }
+    /// The words of the objects of the control space.
+    pub fn control_words(&self) -> u64
+        ensures words { result ≡ control_words self.now }
+        ensures few { result ≤ MOST_WORDS }
+    {
+        words_in_control(&self.graph, &self.homes)
+    }
+
+    /// The words of the objects of all regions.
+    pub fn region_words(&self) -> u64
+        ensures words { result ≡ region_words self.now }
+        ensures few { result ≤ MOST_WORDS }
+    {
+        words_in_regions(&self.graph, &self.homes)
+    }
+
+    /// The number of open regions.
+    pub fn open_regions(&self) -> u32
+        ensures regions { result ≡ open_regions self.now }
+        ensures few { result ≤ MAX_THREADS * MAX_DEPTH }
+    {
+        self.graph.open_regions()
+    }
+
+    /// The depth of a thread's epochs.
+    pub fn depth(&self, thread: u8) -> u8
+        requires { IsThread self.now.graph thread }
+        ensures { result ≡ (thread_of self.now.graph thread).depth }
+    {
+        self.graph.depth_of(thread)
+    }
+
+    /// The words of the objects that escape from the innermost region of a thread.
+    pub fn escape_words(&self, thread: u8) -> Result<u64, NoMemory>
+        requires thread { IsThread self.now.graph thread }
+        requires open_epoch { 0 < (thread_of self.now.graph thread).depth }
+        ensures words { IfOk result (λ words. HasWords self.now (Escapes self.now thread (innermost self.now.graph thread)) words) }
+        ensures few { IfOk result (λ words. words ≤ MOST_WORDS) }
+    {
+        words_escaping(self.alloc, &self.graph, &self.homes, thread).map_err(|_| NoMemory)
     }
 }

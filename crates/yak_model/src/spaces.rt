@@ -1,19 +1,20 @@
 //! The heap as a graph of objects in spaces.
-ghost use Rattle.std.specs.Prelude.{◌≡◌, ◌≢◌, ℕ, ◌+◌, ◌-◌, ◌<◌, ◌≤◌, List, length, IfOk, IfSome, IfNone, OnErr, OnOk, IsTrue, ◌↔◌, ◌⊎◌, cond, count_by, is_some, slice_index_or, true, false};
+ghost use Rattle.std.specs.Prelude.{◌≡◌, ◌≢◌, ℕ, ◌+◌, ◌-◌, ◌*◌, ◌<◌, ◌≤◌, List, length, IfOk, IfSome, IfNone, OnErr, OnOk, IsTrue, ◌↔◌, ◌⊎◌, cond, count_by, is_some, slice_index_or, true, false};
 ghost use Rattle.std.specs.List.{Contains};
 ghost use Rattle.object_layout.specs.declared.names.Name.{Name};
 ghost use Rattle.yak_model.specs.declared.datum.Datum.TheVariants as datum;
 ghost use Rattle.epoch_lattice.specs.Lattice.{IsBelow, IsValid, inner_of};
 ghost use Rattle.epoch_lattice.specs.declared.Space.{Space};
 ghost use Rattle.epoch_lattice.specs.declared.Space.TheVariants as space;
-ghost use Rattle.yak_model.specs.Kept.{AreDistinct, AreHomesValid, AreValid, IsFieldSource, IsHeldBy, IsJoinOf, IsListReached, IsListSource, IsRest, IsTargetValid, IsAbove, IsLedTo, IsLiveName, IsMarked, IsMarkedName, ListInside, ListRefers, IsFirst, IsHeld, final, home_at, settled, joined, name_at, fields_of_place, state_of, target_at, threads_at};
-ghost use Rattle.yak_model.specs.Graph.{Fields, Limits, fields_of, idle};
-ghost use Rattle.yak_model.specs.Spaces.{Collects, EndsEpoch, IsReached};
+ghost use Rattle.yak_model.specs.Kept.{AreDistinct, AreHomesValid, AreValid, IsFieldSource, IsHeldBy, IsJoinOf, IsListReached, IsListSource, IsRest, IsTargetValid, IsAbove, IsLedTo, IsLiveName, IsMarked, IsMarkedName, ListInside, ListRefers, IsFirst, IsHeld, final, home_at, settled, joined, name_at, fields_of_place, state_of, target_at, target_words, threads_at, AreSmall};
+ghost use Rattle.yak_model.specs.Graph.{Fields, Limits, fields_of, idle, size_of};
+ghost use Rattle.yak_model.specs.Lawful.{HasWords};
+ghost use Rattle.yak_model.specs.Spaces.{Collects, EndsEpoch, Escapes, IsReached};
 
 use crate::datum::Datum;
 use crate::graph::ThreadState;
 use epoch_lattice::{MAX_DEPTH, Space, join, parent};
-use object_layout::Name;
+use object_layout::{Name, OBJECT_WORDS, PAGE_WORDS};
 use std::alloc::{AllocError, Global};
 use std::marker::Model;
 
@@ -68,6 +69,13 @@ impl KeptObject {
         ensures { self.new ≡ record self.old { home = home } }
     {
         self.home = home;
+    }
+
+    /// The words of the object in a heap.
+    fn size(&self) -> u64
+        ensures { result ≡ size_of self.now.content }
+    {
+        self.fields.len() as u64 + u64::from(OBJECT_WORDS)
     }
 
     /// The fields of the object.
@@ -571,4 +579,40 @@ pub(crate) fn end_epoch(
     let homes = homes_after(alloc, objects, region, &targets, tight)?;
     settle(objects, &homes);
     Ok(count_targets(&targets))
+}
+
+/// The words of the objects that have a target.
+fn target_words(objects: &[KeptObject], targets: &[Option<Space>]) -> u64
+    requires size { length targets.now ≡ length objects.now }
+    requires small { AreSmall objects.now }
+    ensures words { result ≡ target_words objects.now targets.now }
+    ensures few { result ≤ PAGE_WORDS * length objects.now }
+{
+    let mut words = 0;
+    for (i, kept) in objects.iter().enumerate() {
+        if targets[i].is_some() {
+            words += kept.size();
+        }
+    }
+    words
+}
+
+/// The words of the objects that escape from the region of a thread.
+pub(crate) fn escape_words(
+    alloc: Global,
+    objects: &[KeptObject],
+    threads: &[ThreadState],
+    t: u8,
+    region: Space,
+) -> Result<u64, AllocError>
+    requires distinct { AreDistinct objects.now }
+    requires homes { AreHomesValid objects.now }
+    requires small { AreSmall objects.now }
+    requires region { IsValid MAX_DEPTH region }
+    requires thread { (1 ≤ t) × (t ≤ length threads.now) }
+    ensures few { IfOk result (λ words. words ≤ PAGE_WORDS * length objects.now) }
+    ensures words { IfOk result (λ words. (limits : Limits) → HasWords (state_of limits threads.now objects.now) (Escapes (state_of limits threads.now objects.now) t region) words) }
+{
+    let targets = escape_targets(alloc, objects, threads, t, region)?;
+    Ok(target_words(objects, &targets))
 }

@@ -2,7 +2,7 @@ use Rattle.std.proofs.Math.Logic.{∥∥₁_map}
 use Rattle.std.proofs.Common.{length, ◌≡◌, arith, ap}
 use Rattle.heap_words.specs.Contents.{Contents, contents, depth_of, stack_of}
 use Rattle.heap_words.proofs.Contents.{length-sets}
-use Rattle.forwarding.proofs.Logs.{buffers-told, sets-told}
+use Rattle.standing_calls.proofs.Logs.{buffers-told, sets-told}
 use Rattle.escape_closure.proofs.Filing.{begun, few_filed, filed_recorded, filed_stands, none_logged}
 use Rattle.escape_closure.proofs.beginning.begin_end.Goals as goal
 

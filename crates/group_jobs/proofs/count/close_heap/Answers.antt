@@ -1,7 +1,7 @@
 use Rattle.std.proofs.Common.{sym, subst}
 use Rattle.heap_words.specs.Contents.{contents}
 use Rattle.yak_model.specs.Stands.{Stands}
-use Rattle.heap_core.specs.Records.{SomeRecorded}
+use Rattle.yak_model.specs.Recorded.{SomeRecorded}
 use Rattle.group_jobs.specs.Alone.{HoldsCounts}
 use Rattle.group_jobs.proofs.Holding.{holds_worker}
 use Rattle.group_jobs.proofs.count.close_heap.Goals as goal

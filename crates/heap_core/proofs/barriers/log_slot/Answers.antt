@@ -1,6 +1,6 @@
 use Rattle.std.proofs.Common.{inr}
 use Rattle.heap_words.specs.Contents.{contents}
-use Rattle.heap_core.proofs.Logged.{after_filing}
+use Rattle.standing_calls.proofs.Logged.{after_filing}
 use Rattle.heap_core.proofs.barriers.log_slot.Goals as goal
 
 pub returns-in-Err-clause-logs : goal.returns-in-Err-clause-logs

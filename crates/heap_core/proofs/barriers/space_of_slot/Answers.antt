@@ -1,6 +1,6 @@
 use Rattle.std.proofs.Math.Logic.{∥∥₁_map}
 use Rattle.heap_words.specs.Contents.{contents}
-use Rattle.heap_core.proofs.Homes.{no_slot_home, slot_value}
+use Rattle.standing_calls.proofs.Homes.{no_slot_home, slot_value}
 use Rattle.heap_core.proofs.barriers.space_of_slot.Goals as goal
 
 pub space_of_word-requires-clause-value : goal.space_of_word-requires-clause-value

@@ -1,6 +1,6 @@
 use Rattle.std.proofs.Common.{◌∙◌}
 use Rattle.heap_words.specs.Contents.{contents}
-use Rattle.heap_core.proofs.Homes.{no_header, no_home, space_own, space_told, word_within}
+use Rattle.standing_calls.proofs.Homes.{no_header, no_home, space_own, space_told, word_within}
 use Rattle.heap_core.proofs.barriers.space_of_word.Goals as goal
 
 pub returns-in_default-clause-space : goal.returns-in_default-clause-space

@@ -1,6 +1,6 @@
 use Rattle.std.proofs.Math.Logic.{∥∥₁_map}
 use Rattle.heap_words.specs.Contents.{contents}
-use Rattle.heap_core.proofs.Told.{pool-told}
+use Rattle.standing_calls.proofs.Told.{pool-told}
 use Rattle.heap_core.proofs.collections.count_pages.Goals as goal
 
 pub census-pages-requires-clause-pool : goal.census-pages-requires-clause-pool

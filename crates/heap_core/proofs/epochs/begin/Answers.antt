@@ -1,7 +1,7 @@
 use Rattle.std.proofs.Common.{◌≡◌, ◌≤◌, ◌<◌, ◌+◌, ap, subst, ◌∙◌}
 use Rattle.object_layout.specs.declared.TheConstants.{MAX_DEPTH}
 use Rattle.heap_words.specs.Contents.{Contents, contents, with_depth}
-use Rattle.heap_core.proofs.Begins.{begin_turns, too_deep}
+use Rattle.standing_calls.proofs.Begins.{begin_turns, too_deep}
 use Rattle.heap_core.proofs.epochs.begin.Goals as goal
 
 pub returns-then-before-ge-MAX_DEPTH-clause-turns : goal.returns-then-before-ge-MAX_DEPTH-clause-turns

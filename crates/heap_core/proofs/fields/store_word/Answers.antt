@@ -1,5 +1,5 @@
 use Rattle.heap_words.specs.Contents.{contents}
-use Rattle.heap_core.proofs.Storing.{is_stored}
+use Rattle.standing_calls.proofs.Storing.{is_stored}
 use Rattle.heap_core.proofs.fields.store_word.Goals as goal
 
 pub returns-clause-stored : goal.returns-clause-stored

@@ -2,7 +2,7 @@ use Rattle.std.proofs.Common.{◌∙◌}
 use Rattle.heap_words.specs.Contents.{contents}
 use Rattle.heap_words.proofs.Contents.{length-made}
 use Rattle.region_pages.proofs.Shapes.{shape}
-use Rattle.heap_core.proofs.Makes.{make_turns}
+use Rattle.standing_calls.proofs.Makes.{make_turns}
 use Rattle.heap_core.proofs.objects.make.Goals as goal
 
 pub new_place-requires-clause-stands : goal.new_place-requires-clause-stands

@@ -1,8 +1,8 @@
 use Rattle.std.proofs.Common.{◌≡◌, true, None, refl, sym, ap, ◌∙◌, arith, inl, inr, length}
 use Rattle.heap_words.specs.Contents.{contents, made_of, stack_of}
 use Rattle.heap_core.specs.Collecting.{IsCollected}
-use Rattle.heap_core.proofs.Makes.{out_of_heap}
-use Rattle.heap_core.proofs.Told.{pool-told}
+use Rattle.standing_calls.proofs.Makes.{out_of_heap}
+use Rattle.standing_calls.proofs.Told.{pool-told}
 use Rattle.heap_core.proofs.Gathered.{full_counts, kept-made, kept-slots, some-collected, some-stands}
 use Rattle.heap_core.proofs.objects.make_collected.Goals as goal
 

@@ -6,7 +6,7 @@ use Rattle.object_layout.specs.declared.replies.Refusal.TheVariants.{NamesSpent,
 use Rattle.heap_words.specs.declared.TheConstants.{STACK_SLOTS}
 use Rattle.heap_words.specs.Contents.{contents, made_of, stack_of}
 use Rattle.heap_core.specs.Steps.{plain}
-use Rattle.heap_core.proofs.Makes.{names_spent, new_stack_full, too_long}
+use Rattle.standing_calls.proofs.Makes.{names_spent, new_stack_full, too_long}
 use Rattle.heap_core.proofs.objects.new_object.Goals as goal
 
 pub returns-then-k-clause-made : goal.returns-then-k-clause-made

@@ -1,5 +1,5 @@
 use Rattle.heap_words.specs.Contents.{contents}
-use Rattle.heap_core.proofs.Told.{currents-told, inner-is_own, inner-is_space, pool-told, table-told}
+use Rattle.standing_calls.proofs.Told.{currents-told, inner-is_own, inner-is_space, pool-told, table-told}
 use Rattle.heap_core.proofs.objects.new_place.Goals as goal
 
 pub place-requires-clause-space : goal.place-requires-clause-space

@@ -1,7 +1,7 @@
 use Rattle.std.proofs.Common.{◌∙◌, arith}
 use Rattle.heap_words.specs.Contents.{contents}
 use Rattle.heap_words.proofs.Contents.{length-heap}
-use Rattle.heap_core.proofs.Makes.{written-start, written-more}
+use Rattle.standing_calls.proofs.Makes.{written-start, written-more}
 use Rattle.heap_core.proofs.objects.write_object.Goals as goal
 
 pub loop-i-init : goal.loop-i-init

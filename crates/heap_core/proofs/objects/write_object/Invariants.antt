@@ -1,6 +1,6 @@
 use Rattle.std.proofs.Common.{◌≡◌}
 use Rattle.heap_words.specs.Contents.{contents, Sound}
-use Rattle.heap_core.specs.Objects.{IsWritten}
+use Rattle.standing_calls.specs.Objects.{IsWritten}
 use Rattle.heap_core.proofs.objects.write_object.Given as goal
 
 abbrev pub invariant-loop-i : goal.invariant-loop-i

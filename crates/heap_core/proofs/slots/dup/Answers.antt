@@ -1,5 +1,5 @@
 use Rattle.heap_words.specs.Contents.{contents}
-use Rattle.heap_core.proofs.Steps.{dup_turns, dup_refused}
+use Rattle.standing_calls.proofs.Steps.{dup_turns, dup_refused}
 use Rattle.heap_core.proofs.slots.dup.Goals as goal
 
 pub returns-in-Ok-clause-turns : goal.returns-in-Ok-clause-turns

@@ -4,7 +4,7 @@ use Rattle.std.proofs.Math.Logic.{∥∥₁_elim}
 use Rattle.heap_words.specs.Map.{heap_length}
 use Rattle.heap_words.specs.Contents.{contents}
 use Rattle.yak_model.proofs.Data.{Tells}
-use Rattle.heap_core.proofs.Steps.{got, get_refused, shows_int, shows_null, shows_object, no_other, object_at}
+use Rattle.standing_calls.proofs.Steps.{got, get_refused, shows_int, shows_null, shows_object, no_other, object_at}
 use Rattle.heap_core.proofs.slots.get.Goals as goal
 
 pub returns-in_default-clause-turns : goal.returns-in_default-clause-turns

@@ -1,5 +1,5 @@
 use Rattle.heap_words.specs.Contents.{contents}
-use Rattle.heap_core.proofs.Steps.{null_turns}
+use Rattle.standing_calls.proofs.Steps.{null_turns}
 use Rattle.heap_core.proofs.slots.null.Goals as goal
 
 pub returns-clause-turns : goal.returns-clause-turns

@@ -1,6 +1,6 @@
 use Rattle.std.proofs.Common.{sym, ◌∙◌}
 use Rattle.heap_words.specs.Contents.{contents}
-use Rattle.heap_core.proofs.Steps.{same_turns, differ_turns, same_refused, same_refused_too}
+use Rattle.standing_calls.proofs.Steps.{same_turns, differ_turns, same_refused, same_refused_too}
 use Rattle.heap_core.proofs.slots.same.Goals as goal
 
 pub returns-in_default-clause-turns : goal.returns-in_default-clause-turns

@@ -4,8 +4,8 @@ use Rattle.heap_words.specs.declared.map.Areas.{Areas}
 use Rattle.heap_words.specs.declared.memory.Image.{Image}
 use Rattle.heap_words.specs.Map.{IsAreas, total_of}
 use Rattle.heap_words.specs.Contents.{contents}
-use Rattle.heap_core.specs.Records.{SomeRecorded}
-use Rattle.heap_core.proofs.Logged.{hold-told}
+use Rattle.yak_model.specs.Recorded.{SomeRecorded}
+use Rattle.standing_calls.proofs.Logged.{hold-told}
 use Rattle.heap_core.proofs.Sound.{sound-from}
 use Rattle.heap_core.proofs.tests.recorded_slots.Goals as goal
 

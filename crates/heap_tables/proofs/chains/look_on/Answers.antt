@@ -1,100 +1,121 @@
-use Rattle.heap_tables.proofs.RunOn.{ran_more}
-use Rattle.std.proofs.Common.{◌∙◌, ap, sym, refl, arith, get_or, true≢false}
+use Rattle.std.proofs.Common.{◌+◌, ◌++◌, ◌∙◌, ap, sym, subst, arith, get_or, length}
+use Rattle.yak_model.specs.Graph.{Thread}
 use Rattle.yak_model.specs.declared.datum.Datum.TheVariants as datum
-use Rattle.heap_tables.specs.Runs.{popped}
-use Rattle.heap_tables.proofs.Effects.{popped_pushed, slot_after, top_after, size_after}
-use Rattle.heap_tables.proofs.Looks.{looked_end, looked_found, looked_further, first_entry}
+use Rattle.yak_model.specs.Tables.{IsChain}
+use Rattle.heap_tables.specs.Runs.{without_top}
+use Rattle.heap_tables.proofs.Climbs.{climbed_place, climbed_size, climbed_slot}
+use Rattle.heap_tables.proofs.Effects.{drop_pushes, size_after, slot_after, top_after}
+use Rattle.heap_tables.proofs.RunOn.{ran_more}
 use Rattle.heap_tables.proofs.chains.look_on.Goals as goal
 
 pub load-requires-clause-field : goal.load-requires-clause-field
 load-requires-clause-field g c = let h = c.requires.chain in (h.0, h.1, h.2, h.4, h.5.0, h.5.1)
 
-pub slot_is_null-requires-clause-some : goal.slot_is_null-requires-clause-some
-slot_is_null-requires-clause-some g c = let h = c.requires.chain in (h.0, c.load.ensures.keeps h.0 h.4)
+pub climb-said-requires-clause-chain : goal.climb-said-requires-clause-chain
+climb-said-requires-clause-chain g c =
+    let h = c.requires.chain in
+    let own = (g.C.Caller.standing c.args.caller.now).own in
+    let e = c.load.ensures.pushed h.0 h.1 h.2 h.4 h.5.0 h.5.1 in
+    let front = top_after own _ (get_or h.2 c.args.bucket datum.Null) c.args.top e c.requires.top in
+    let chain = subst (λ v. IsChain h.0 v h.3) (sym front) h.5.2 in
+    (h.0, h.3, c.load.ensures.keeps h.0 h.4, chain)
 
-pub slot_is_null-requires-clause-slot : goal.slot_is_null-requires-clause-slot
-slot_is_null-requires-clause-slot g c =
+pub climb-said-requires-clause-room : goal.climb-said-requires-clause-room
+climb-said-requires-clause-room g c =
+    let h = c.requires.chain in
+    let e = c.load.ensures.pushed h.0 h.1 h.2 h.4 h.5.0 h.5.1 in
+    omega (arith, c.requires.room, size_after (g.C.Caller.standing c.args.caller.now).own _ (get_or h.2 c.args.bucket datum.Null) e)
+
+pub climb-said-requires-clause-top : goal.climb-said-requires-clause-top
+climb-said-requires-clause-top g c =
     let h = c.requires.chain in
     let e = c.load.ensures.pushed h.0 h.1 h.2 h.4 h.5.0 h.5.1 in
     omega (arith, c.requires.top, size_after (g.C.Caller.standing c.args.caller.now).own _ (get_or h.2 c.args.bucket datum.Null) e)
 
-pub pop-requires-clause-some : goal.pop-requires-clause-some
-pop-requires-clause-some g c = let h = c.requires.chain in (h.0, c.slot_is_null.ensures.keeps h.0 (c.load.ensures.keeps h.0 h.4))
+pub overflow_add-top : goal.overflow_add-top
+overflow_add-top g c = omega (arith, c.requires.top, c.requires.room, c.climb-said.ensures.few)
 
-pub pop-requires-clause-slot : goal.pop-requires-clause-slot
-pop-requires-clause-slot g c =
+pub overflow_add-n : goal.overflow_add-n
+overflow_add-n g c = omega (arith, c.climb-said.ensures.few)
+
+pub store-requires-clause-field : goal.store-requires-clause-field
+store-requires-clause-field g c =
     let h = c.requires.chain in
+    let own = (g.C.Caller.standing c.args.caller.now).own in
     let e = c.load.ensures.pushed h.0 h.1 h.2 h.4 h.5.0 h.5.1 in
-    omega (arith, size_after (g.C.Caller.standing c.args.caller.now).own _ (get_or h.2 c.args.bucket datum.Null) (c.slot_is_null.ensures.own ∙ e))
+    let front = top_after own _ (get_or h.2 c.args.bucket datum.Null) c.args.top e c.requires.top in
+    let chain = subst (λ v. IsChain h.0 v h.3) (sym front) h.5.2 in
+    let up = c.climb-said.ensures.climbed h.0 h.3 (c.load.ensures.keeps h.0 h.4) chain in
+    let size = climbed_size (g.C.Caller.standing c.load.new.caller).own h.0 c.args.word.now h.3 c.args.top _ _ _ up in
+    let deep = size_after own _ (get_or h.2 c.args.bucket datum.Null) e in
+    let slot = climbed_slot (g.C.Caller.standing c.load.new.caller).own h.0 c.args.word.now h.3 c.args.top _ _ _ up c.args.table h.1 h.2 (slot_after own _ (get_or h.2 c.args.bucket datum.Null) h.0 c.args.table h.1 h.2 e h.5.0) in
+    (h.0, h.1, h.2, c.climb-said.ensures.keeps h.0 (c.load.ensures.keeps h.0 h.4), slot, h.5.1)
 
-pub returns-then-slot_is_null-clause-looked : goal.returns-then-slot_is_null-clause-looked
-returns-then-slot_is_null-clause-looked g c known name values links k at =
+pub store-requires-clause-value : goal.store-requires-clause-value
+store-requires-clause-value g c =
+    let h = c.requires.chain in
+    let own = (g.C.Caller.standing c.args.caller.now).own in
+    let e = c.load.ensures.pushed h.0 h.1 h.2 h.4 h.5.0 h.5.1 in
+    let front = top_after own _ (get_or h.2 c.args.bucket datum.Null) c.args.top e c.requires.top in
+    let chain = subst (λ v. IsChain h.0 v h.3) (sym front) h.5.2 in
+    let up = c.climb-said.ensures.climbed h.0 h.3 (c.load.ensures.keeps h.0 h.4) chain in
+    let size = climbed_size (g.C.Caller.standing c.load.new.caller).own h.0 c.args.word.now h.3 c.args.top _ _ _ up in
+    let deep = size_after own _ (get_or h.2 c.args.bucket datum.Null) e in
+    omega (arith, size, deep, c.requires.top)
+
+pub pop_all-requires-clause-some : goal.pop_all-requires-clause-some
+pop_all-requires-clause-some g c =
+    let h = c.requires.chain in
+    let own = (g.C.Caller.standing c.args.caller.now).own in
+    let e = c.load.ensures.pushed h.0 h.1 h.2 h.4 h.5.0 h.5.1 in
+    let front = top_after own _ (get_or h.2 c.args.bucket datum.Null) c.args.top e c.requires.top in
+    let chain = subst (λ v. IsChain h.0 v h.3) (sym front) h.5.2 in
+    let up = c.climb-said.ensures.climbed h.0 h.3 (c.load.ensures.keeps h.0 h.4) chain in
+    let size = climbed_size (g.C.Caller.standing c.load.new.caller).own h.0 c.args.word.now h.3 c.args.top _ _ _ up in
+    let deep = size_after own _ (get_or h.2 c.args.bucket datum.Null) e in
+    let slot = climbed_slot (g.C.Caller.standing c.load.new.caller).own h.0 c.args.word.now h.3 c.args.top _ _ _ up c.args.table h.1 h.2 (slot_after own _ (get_or h.2 c.args.bucket datum.Null) h.0 c.args.table h.1 h.2 e h.5.0) in
+    (_, c.store.ensures.stored h.0 h.1 h.2 (c.climb-said.ensures.keeps h.0 (c.load.ensures.keeps h.0 h.4)) slot h.5.1)
+
+pub pop_all-requires-clause-slots : goal.pop_all-requires-clause-slots
+pop_all-requires-clause-slots g c =
+    let h = c.requires.chain in
+    let own = (g.C.Caller.standing c.args.caller.now).own in
+    let e = c.load.ensures.pushed h.0 h.1 h.2 h.4 h.5.0 h.5.1 in
+    let front = top_after own _ (get_or h.2 c.args.bucket datum.Null) c.args.top e c.requires.top in
+    let chain = subst (λ v. IsChain h.0 v h.3) (sym front) h.5.2 in
+    let up = c.climb-said.ensures.climbed h.0 h.3 (c.load.ensures.keeps h.0 h.4) chain in
+    let size = climbed_size (g.C.Caller.standing c.load.new.caller).own h.0 c.args.word.now h.3 c.args.top _ _ _ up in
+    let deep = size_after own _ (get_or h.2 c.args.bucket datum.Null) e in
+    omega (arith, size, deep, ap (λ (o : Thread). length o.stack) c.store.ensures.own)
+
+pub returns-clause-ran : goal.returns-clause-ran
+returns-clause-ran g c =
+    let C = g.C.Caller in
+    let up = ran_more C.base C.tells C.tells_known C.standing _ _ _ c.load.ensures.ran c.climb-said.ensures.ran in
+    ran_more C.base C.tells C.tells_known C.standing _ _ _ (ran_more C.base C.tells C.tells_known C.standing _ _ _ up c.store.ensures.ran) c.pop_all.ensures.ran
+
+pub returns-clause-own : goal.returns-clause-own
+returns-clause-own g c =
+    let h = c.requires.chain in
+    let own = (g.C.Caller.standing c.args.caller.now).own in
+    let e = c.load.ensures.pushed h.0 h.1 h.2 h.4 h.5.0 h.5.1 in
+    let front = top_after own _ (get_or h.2 c.args.bucket datum.Null) c.args.top e c.requires.top in
+    let chain = subst (λ v. IsChain h.0 v h.3) (sym front) h.5.2 in
+    let up = c.climb-said.ensures.climbed h.0 h.3 (c.load.ensures.keeps h.0 h.4) chain in
+    let size = climbed_size (g.C.Caller.standing c.load.new.caller).own h.0 c.args.word.now h.3 c.args.top _ _ _ up in
+    let deep = size_after own _ (get_or h.2 c.args.bucket datum.Null) e in
+    c.pop_all.ensures.popped
+    ∙ ap (λ o. without_top o (c.climb-said.result.1 + 1)) (c.store.ensures.own ∙ up.stack ∙ ap (λ (o : Thread). record o { stack = o.stack ++ up.pushes }) e)
+    ∙ drop_pushes own (get_or h.2 c.args.bucket datum.Null) up.pushes c.climb-said.result.1 up.size
+
+pub returns-clause-passed : goal.returns-clause-passed
+returns-clause-passed g c known name values links k at apart =
+    let own = (g.C.Caller.standing c.args.caller.now).own in
     let e = c.load.ensures.pushed known name values k at.0 at.1 in
-    let null = c.if-slot_is_null.ensures.answer.0 refl in
-    let there = top_after (g.C.Caller.standing c.args.caller.now).own _ (get_or values c.args.bucket datum.Null) c.args.top e c.requires.top in
-    looked_end (g.C.Caller.standing c.args.caller.now) known name values c.args.bucket c.args.word.now _ (g.C.Caller.knows c.pop.new.caller) links at.2 (sym there ∙ null)
-    (c.pop.ensures.popped ∙ ap popped (c.slot_is_null.ensures.own ∙ e) ∙ popped_pushed _ _)
-    (c.pop.ensures.keeps known (c.slot_is_null.ensures.keeps known (c.load.ensures.keeps known k)))
-
-pub examine-requires-clause-place : goal.examine-requires-clause-place
-examine-requires-clause-place g c =
-    let h = c.requires.chain in
-    let e = c.load.ensures.pushed h.0 h.1 h.2 h.4 h.5.0 h.5.1 in
-    let there = top_after (g.C.Caller.standing c.args.caller.now).own _ (get_or h.2 c.args.bucket datum.Null) c.args.top e c.requires.top in
-    let after = c.slot_is_null.ensures.own ∙ e in
-    let first = first_entry (g.C.Caller.standing c.args.caller.now) h.0 h.1 h.2 c.args.bucket c.args.word.now (g.C.Caller.standing c.args.caller.now).own (g.C.Caller.knows c.args.caller.now) h.3 h.5.2 (λ null. true≢false (sym (c.if-slot_is_null.ensures.answer.1 (there ∙ null)))) in (
-      h.0,
-      h.1,
-      h.2,
-      first.0,
-      first.1,
-      c.slot_is_null.ensures.keeps h.0 (c.load.ensures.keeps h.0 h.4),
-      slot_after (g.C.Caller.standing c.args.caller.now).own _ (get_or h.2 c.args.bucket datum.Null) h.0 c.args.table h.1 h.2 after h.5.0,
-      h.5.1,
-      (top_after (g.C.Caller.standing c.args.caller.now).own _ (get_or h.2 c.args.bucket datum.Null) c.args.top after c.requires.top ∙ first.2, first.3),
-    )
-
-pub examine-requires-clause-room : goal.examine-requires-clause-room
-examine-requires-clause-room g c =
-    let h = c.requires.chain in
-    let e = c.load.ensures.pushed h.0 h.1 h.2 h.4 h.5.0 h.5.1 in
-    omega (arith, c.requires.room, size_after (g.C.Caller.standing c.args.caller.now).own _ (get_or h.2 c.args.bucket datum.Null) (c.slot_is_null.ensures.own ∙ e))
-
-pub examine-requires-clause-top : goal.examine-requires-clause-top
-examine-requires-clause-top g c =
-    let h = c.requires.chain in
-    let e = c.load.ensures.pushed h.0 h.1 h.2 h.4 h.5.0 h.5.1 in
-    omega (arith, c.requires.top, size_after (g.C.Caller.standing c.args.caller.now).own _ (get_or h.2 c.args.bucket datum.Null) (c.slot_is_null.ensures.own ∙ e))
-
-pub returns-then-examine-clause-looked : goal.returns-then-examine-clause-looked
-returns-then-examine-clause-looked g c known name values links k at =
-    let e = c.load.ensures.pushed known name values k at.0 at.1 in
-    let there = top_after (g.C.Caller.standing c.args.caller.now).own _ (get_or values c.args.bucket datum.Null) c.args.top e c.requires.top in
-    let after = c.slot_is_null.ensures.own ∙ e in
-    looked_found (g.C.Caller.standing c.args.caller.now) known name values c.args.bucket c.args.word.now _ (g.C.Caller.knows c.examine.new.caller) (g.C.Caller.standing c.slot_is_null.new.caller) links at.2
-    (λ null. true≢false (sym (c.if-slot_is_null.ensures.answer.1 (there ∙ null))))
-    (λ next link head entry. c.if-examine.ensures.examined known name values next link (c.slot_is_null.ensures.keeps known (c.load.ensures.keeps known k))
-    (slot_after (g.C.Caller.standing c.args.caller.now).own _ (get_or values c.args.bucket datum.Null) known c.args.table name values after at.0) at.1
-    (top_after (g.C.Caller.standing c.args.caller.now).own _ (get_or values c.args.bucket datum.Null) c.args.top after c.requires.top ∙ head, entry))
-    after
-
-pub returns-else-examine-clause-looked : goal.returns-else-examine-clause-looked
-returns-else-examine-clause-looked g c known name values links k at =
-    let e = c.load.ensures.pushed known name values k at.0 at.1 in
-    let there = top_after (g.C.Caller.standing c.args.caller.now).own _ (get_or values c.args.bucket datum.Null) c.args.top e c.requires.top in
-    let after = c.slot_is_null.ensures.own ∙ e in
-    looked_further (g.C.Caller.standing c.args.caller.now) known name values c.args.bucket c.args.word.now _ (g.C.Caller.knows c.examine.new.caller) (g.C.Caller.standing c.slot_is_null.new.caller) links at.2
-    (λ null. true≢false (sym (c.if-slot_is_null.ensures.answer.1 (there ∙ null))))
-    (λ next link head entry. c.if-examine.ensures.examined known name values next link (c.slot_is_null.ensures.keeps known (c.load.ensures.keeps known k))
-    (slot_after (g.C.Caller.standing c.args.caller.now).own _ (get_or values c.args.bucket datum.Null) known c.args.table name values after at.0) at.1
-    (top_after (g.C.Caller.standing c.args.caller.now).own _ (get_or values c.args.bucket datum.Null) c.args.top after c.requires.top ∙ head, entry))
-    after
-
-pub returns-then-slot_is_null-clause-ran : goal.returns-then-slot_is_null-clause-ran
-returns-then-slot_is_null-clause-ran g c = let C = g.C.Caller in ran_more C.base C.tells C.tells_known C.standing _ _ _ (ran_more C.base C.tells C.tells_known C.standing _ _ _ c.load.ensures.ran c.if-slot_is_null.ensures.ran) c.pop.ensures.ran
-
-pub returns-then-examine-clause-ran : goal.returns-then-examine-clause-ran
-returns-then-examine-clause-ran g c = let C = g.C.Caller in ran_more C.base C.tells C.tells_known C.standing _ _ _ (ran_more C.base C.tells C.tells_known C.standing _ _ _ c.load.ensures.ran c.if-slot_is_null.ensures.ran) c.if-examine.ensures.ran
-
-pub returns-else-examine-clause-ran : goal.returns-else-examine-clause-ran
-returns-else-examine-clause-ran g c = let C = g.C.Caller in ran_more C.base C.tells C.tells_known C.standing _ _ _ (ran_more C.base C.tells C.tells_known C.standing _ _ _ c.load.ensures.ran c.if-slot_is_null.ensures.ran) c.if-examine.ensures.ran
+    let front = top_after own _ (get_or values c.args.bucket datum.Null) c.args.top e c.requires.top in
+    let chain = subst (λ v. IsChain known v links) (sym front) at.2 in
+    let up = c.climb-said.ensures.climbed known links (c.load.ensures.keeps known k) chain in
+    let slot = climbed_slot (g.C.Caller.standing c.load.new.caller).own known c.args.word.now links c.args.top _ _ _ up c.args.table name values (slot_after own _ (get_or values c.args.bucket datum.Null) known c.args.table name values e at.0) in
+    let stored = c.store.ensures.stored known name values (c.climb-said.ensures.keeps known (c.load.ensures.keeps known k)) slot at.1 in
+    climbed_place (g.C.Caller.standing c.load.new.caller).own known c.args.word.now links c.args.top c.climb-said.result.0 c.climb-said.result.1 _ up name values c.args.bucket apart c.climb-said.ensures.all
+    (g.C.Caller.knows c.pop_all.new.caller) (c.pop_all.ensures.keeps _ stored)

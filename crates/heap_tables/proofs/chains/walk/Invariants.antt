@@ -1,4 +1,4 @@
-use Rattle.std.proofs.Common.{◌≡◌, List, length}
+use Rattle.std.proofs.Common.{◌≡◌, ◌≤◌, List, length}
 use Rattle.object_layout.specs.declared.names.Name.{Name}
 use Rattle.yak_model.specs.declared.datum.Datum.{Datum}
 use Rattle.yak_model.specs.Private.{KnownObjects}
@@ -12,5 +12,5 @@ invariant-loop-i g l = let C = g.C.Caller in record {
   ran : Ran C.base C.tells C.tells_known C.standing l.fn.caller l.caller 0;
   own : (C.standing l.caller).own ≡ (C.standing l.fn.caller).own;
   place : (known : KnownObjects) (name : Name) (values : List Datum) (links : List Link) → C.knows l.fn.caller known → IsAtChain (C.standing l.fn.caller) known l.fn.table l.fn.bucket name values links → IsApart name links
-      → (passed : List Link) × (rest : List Link) × (length passed ≡ l.i) × IsPlace known name values l.fn.bucket l.fn.word links (C.knows l.caller) passed rest;
+      → (passed : List Link) × (rest : List Link) × (l.i ≤ length passed) × IsPlace known name values l.fn.bucket l.fn.word links (C.knows l.caller) passed rest;
 }

@@ -10,7 +10,7 @@ use Rattle.remember_sets.specs.Filed.{IsFiled}
 use Rattle.forwarding.specs.Crossing.{AreMoved, IsCrossing}
 use Rattle.region_pages.proofs.Shapes.{shape}
 use Rattle.mark_compact.proofs.Tables.{length-table}
-use Rattle.forwarding.proofs.Logs.{buffers-told, sets-told}
+use Rattle.standing_calls.proofs.Logs.{buffers-told, sets-told}
 use Rattle.mark_compact.proofs.Logged.{cleared-stands, sets-rebuilt}
 use Rattle.mark_compact.proofs.After.{collected, data-after, holds-after, valid-after}
 use Rattle.heap_words.proofs.Contents.{length-currents}

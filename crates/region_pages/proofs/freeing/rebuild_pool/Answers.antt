@@ -13,7 +13,7 @@ returns-clause-rebuilt g c =
     let s : Shape m old = shape m (g.W.Words.words c.args.words.now) c.requires in
     let pages : List ℕ = free_below old.table m.pages in
     let filled : Contents = record old { pool = pool_with pages old.pool } in
-    let new : contents m (g.W.Words.words c.set_head-2.new.words) ≡ rebuilt_at m.pages old = c.set_head-2.ensures.set ∙ ap (λ (x : Contents). with_head x 2 c.from.result) c.set_head.ensures.set ∙ ap (λ (x : Contents). with_head (with_head x 1 0) 2 c.from.result) c.fill_pool-length.ensures.filled ∙ ap (λ (n : ℕ). with_head (with_head filled 1 0) 2 n) (c.from.ensures ∙ c.fill_pool-length.ensures.count) in
+    let new : contents m (g.W.Words.words c.open_pool.new.words) ≡ rebuilt_at m.pages old = c.open_pool.ensures.opened ∙ ap (λ (x : Contents). with_head (with_head x 1 0) 2 c.fill_pool-length.result) c.fill_pool-length.ensures.filled ∙ ap (λ (n : ℕ). with_head (with_head filled 1 0) 2 n) c.fill_pool-length.ensures.count in
     new ∙ ap (λ (n : ℕ). rebuilt_at n old) (sym s.table)
 
 pub returns-clause-pool : goal.returns-clause-pool
@@ -23,7 +23,7 @@ returns-clause-pool g c =
     let s : Shape m old = shape m (g.W.Words.words c.args.words.now) c.requires in
     let pages : List ℕ = free_below old.table m.pages in
     let filled : Contents = record old { pool = pool_with pages old.pool } in
-    let new : contents m (g.W.Words.words c.set_head-2.new.words) ≡ rebuilt_at m.pages old = c.set_head-2.ensures.set ∙ ap (λ (x : Contents). with_head x 2 c.from.result) c.set_head.ensures.set ∙ ap (λ (x : Contents). with_head (with_head x 1 0) 2 c.from.result) c.fill_pool-length.ensures.filled ∙ ap (λ (n : ℕ). with_head (with_head filled 1 0) 2 n) (c.from.ensures ∙ c.fill_pool-length.ensures.count) in
+    let new : contents m (g.W.Words.words c.open_pool.new.words) ≡ rebuilt_at m.pages old = c.open_pool.ensures.opened ∙ ap (λ (x : Contents). with_head (with_head x 1 0) 2 c.fill_pool-length.result) c.fill_pool-length.ensures.filled ∙ ap (λ (n : ℕ). with_head (with_head filled 1 0) 2 n) c.fill_pool-length.ensures.count in
     subst (λ (x : Contents). PoolStands m x.heads x.pool x.table) (sym new) (rebuilt_stands m old.heads old.pool old.table s.heads)
 
 pub returns-clause-free : goal.returns-clause-free
@@ -33,5 +33,5 @@ returns-clause-free g c =
     let s : Shape m old = shape m (g.W.Words.words c.args.words.now) c.requires in
     let pages : List ℕ = free_below old.table m.pages in
     let filled : Contents = record old { pool = pool_with pages old.pool } in
-    let new : contents m (g.W.Words.words c.set_head-2.new.words) ≡ rebuilt_at m.pages old = c.set_head-2.ensures.set ∙ ap (λ (x : Contents). with_head x 2 c.from.result) c.set_head.ensures.set ∙ ap (λ (x : Contents). with_head (with_head x 1 0) 2 c.from.result) c.fill_pool-length.ensures.filled ∙ ap (λ (n : ℕ). with_head (with_head filled 1 0) 2 n) (c.from.ensures ∙ c.fill_pool-length.ensures.count) in
+    let new : contents m (g.W.Words.words c.open_pool.new.words) ≡ rebuilt_at m.pages old = c.open_pool.ensures.opened ∙ ap (λ (x : Contents). with_head (with_head x 1 0) 2 c.fill_pool-length.result) c.fill_pool-length.ensures.filled ∙ ap (λ (n : ℕ). with_head (with_head filled 1 0) 2 n) c.fill_pool-length.ensures.count in
     subst (λ (x : Contents). free_pages x.heads x.pool ≡ free_below x.table m.pages) (sym new) (rebuilt_free old.heads pages old.pool s.heads)

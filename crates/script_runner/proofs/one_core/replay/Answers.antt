@@ -3,7 +3,7 @@ use Rattle.std.proofs.lemmas.List.{take_more}
 use Rattle.heap_words.specs.declared.map.Areas.{Areas}
 use Rattle.object_layout.specs.declared.calls.Call.TheVariants.{Int}
 use Rattle.heap_words.specs.Contents.{contents}
-use Rattle.heap_core.specs.Records.{StandsRecorded}
+use Rattle.yak_model.specs.Recorded.{StandsRecorded}
 use Rattle.script_text.specs.Contents.{Contents}
 use Rattle.yak_model.specs.Graph.{standard_limits}
 use Rattle.yak_model.specs.Spaces.{opening_spaces}

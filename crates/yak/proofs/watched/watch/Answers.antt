@@ -2,7 +2,7 @@ use Rattle.std.proofs.Common.{◌≡◌, ◌∙◌, ap, sym, subst}
 use Rattle.heap_words.specs.declared.map.Areas.{Areas}
 use Rattle.heap_words.specs.declared.memory.Image.{Image}
 use Rattle.heap_words.specs.Contents.{contents}
-use Rattle.heap_core.specs.Records.{SomeRecorded}
+use Rattle.yak_model.specs.Recorded.{SomeRecorded}
 use Rattle.yak.proofs.watched.watch.Goals as goal
 
 pub over-requires-clause-stands : goal.over-requires-clause-stands

@@ -28,7 +28,7 @@ returns-clause-sound c =
     let lists = c.in_ok-put_objects.ensures.homes ∙ ap homes_of seen in
     subst (λ (x : Graph). IsSound x c.put_objects.new.homes.items) (sym graphs)
     (subst (IsSound (record g { objects = from_entries (contents_of objects) })) (sym lists)
-    (rest_sound g homes c.requires g.threads refl c.requires.depths (λ t. omega arith) objects rest))
+    (rest_sound g homes c.requires g.threads refl c.requires.depths (λ t. omega arith) c.requires.serials (omega arith) objects rest))
 
 pub returns-clause-ok : goal.returns-clause-ok
 returns-clause-ok c =

@@ -12,7 +12,7 @@ use Rattle.yak_model.proofs.space_state.make_call.Goals as goal
 pub returns-in-Some-clause-sound : goal.returns-in-Some-clause-sound
 returns-in-Some-clause-sound c =
     made_is_sound c.args.graph.now c.make_object.new.graph c.args.homes.now.items c.make_object.new.homes.items c.requires.sound c.args.thread c.requires.thread c.in-Some.k c.make_object.result
-    c.make_object.ensures.graph c.make_object.ensures.homes c.make_object.ensures.same_graph c.make_object.ensures.same_homes c.make_object.ensures.err_graph c.make_object.ensures.err_homes
+    c.make_object.ensures.graph c.make_object.ensures.homes c.make_object.ensures.allowed c.make_object.ensures.same_graph c.make_object.ensures.same_homes c.make_object.ensures.err_graph c.make_object.ensures.err_homes
 
 pub returns-in-Some-clause-allowed : goal.returns-in-Some-clause-allowed
 returns-in-Some-clause-allowed c =

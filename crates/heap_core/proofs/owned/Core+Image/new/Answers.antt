@@ -1,7 +1,7 @@
 use Rattle.std.proofs.Common.{◌≡◌, ap, sym, subst, ◌∙◌}
 use Rattle.heap_words.specs.declared.map.Areas.{Areas}
 use Rattle.heap_words.specs.Contents.{contents}
-use Rattle.heap_core.specs.Records.{StandsRecorded}
+use Rattle.yak_model.specs.Recorded.{StandsRecorded}
 use Rattle.yak_model.specs.Graph.{standard_limits}
 use Rattle.yak_model.specs.Spaces.{opening_spaces}
 use Rattle.heap_core.proofs.owned.Core+Image.new.Goals as goal

@@ -2,7 +2,7 @@ use Rattle.std.proofs.Common.{ap, sym, ◌∙◌, subst}
 use Rattle.std.proofs.Math.Logic.{∥∥₁_map}
 use Rattle.heap_words.specs.Map.{IsAreas}
 use Rattle.heap_words.specs.Contents.{contents}
-use Rattle.heap_core.specs.Records.{SomeRecorded}
+use Rattle.yak_model.specs.Recorded.{SomeRecorded}
 use Rattle.heap_core.proofs.Sound.{sound-from}
 use Rattle.heap_core.proofs.owned.Core.depth.Goals as goal
 

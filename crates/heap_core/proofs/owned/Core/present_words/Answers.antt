@@ -4,7 +4,7 @@ use Rattle.std.proofs.Props.{props}
 use Rattle.heap_words.specs.Map.{IsAreas}
 use Rattle.heap_words.specs.Contents.{contents}
 use Rattle.region_pages.proofs.Shapes.{shape}
-use Rattle.heap_core.specs.Records.{SomeRecorded}
+use Rattle.yak_model.specs.Recorded.{SomeRecorded}
 use Rattle.heap_core.proofs.Filling.{mark-within}
 use Rattle.heap_core.proofs.Sound.{sound-from}
 use Rattle.heap_core.proofs.Weights.{words-used}

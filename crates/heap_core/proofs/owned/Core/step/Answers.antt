@@ -3,7 +3,7 @@ use Rattle.std.proofs.Math.Logic.{∥∥₁_map}
 use Rattle.heap_words.specs.Map.{IsAreas}
 use Rattle.heap_words.specs.Contents.{contents}
 use Rattle.object_layout.specs.declared.calls.Call.{Call}
-use Rattle.heap_core.specs.Done.{PacksControl}
+use Rattle.yak_model.specs.Continued.{PacksControl}
 use Rattle.heap_core.proofs.Bounds.{every-region}
 use Rattle.heap_core.proofs.Recognized.{recorded-told}
 use Rattle.heap_core.proofs.Sound.{sound-from}
@@ -20,6 +20,9 @@ invariant_of-self g c = record {
   own = c.args.self.now.own ∙ ap g.W.Words.map (sym c.answer.ensures.base);
   stands = ∥∥₁_map c.args.self.now.stands (λ p. let q = c.answer.ensures.done.turns p.0 p.1 p.2 in (q.0, q.2, q.3 p.2));
 }
+
+pub returns-clause-done : goal.returns-clause-done
+returns-clause-done g c = c.answer.ensures.done
 
 pub returns-clause-turns : goal.returns-clause-turns
 returns-clause-turns g c =

@@ -1,0 +1,39 @@
+-- What a call in flight has put into the words that isn't there yet in the state, or isn't there any more.
+use Rattle.std.specs.Prelude.{◌≡◌, ◌≢◌, ℕ, List, [], Option, None, slice_index_or}
+use Rattle.std.specs.List.{All}
+
+-- A covered place: the word that stands there, and the word that the state shows there.
+pub record Cover : Type 0 where
+  pub place : ℕ
+  pub stands : ℕ
+  pub shown : ℕ
+
+-- A region of which a thread becomes a reader.
+pub record Reading : Type 0 where
+  pub owner : ℕ
+  pub depth : ℕ
+
+-- A call in flight of a thread: its covers, the pages that it has claimed and not entered yet, the region of which it has yet to
+-- become a reader, and the claims that it may still make.
+pub record Flight : Type 0 where
+  pub thread : ℕ
+  pub covers : List Cover
+  pub claimed : List ℕ
+  pub reading : Option Reading
+  pub claims : ℕ
+
+-- No call of the thread is in flight.
+abbrev pub at_rest : ℕ → Flight
+at_rest t = record { thread = t; covers = []; claimed = []; reading = None; claims = 0 }
+
+-- No call is in flight at all.
+abbrev pub AreAtRest : List Flight → Type 0
+AreAtRest fs = All (λ (f : Flight). f ≡ at_rest f.thread) fs
+
+-- The call in flight at a place of a list of them, in which each thread of the heap has one.
+abbrev pub flight_at : List Flight → ℕ → Flight
+flight_at fs i = slice_index_or fs i (at_rest 0)
+
+-- No cover lies at the place.
+abbrev pub IsBare : List Cover → ℕ → Type 0
+IsBare covers a = All (λ (k : Cover). k.place ≢ a) covers

@@ -1,0 +1,11 @@
+pub mod Flight
+pub mod Whole
+pub mod Owning
+pub mod Fits
+pub mod Stepped
+pub mod Knowing
+pub mod Kinds
+pub mod Steps
+pub mod Shared
+pub mod Fields
+pub mod Making

@@ -1,0 +1,2 @@
+//! Calls in flight over the words of a heap: what the words stand for while threads are in the middle of their calls.
+#![tactic(auto)]

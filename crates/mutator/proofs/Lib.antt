@@ -1,0 +1,4 @@
+pub mod Stepped
+pub mod Telling
+pub mod Flushed
+pub mod Rested

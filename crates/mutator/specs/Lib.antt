@@ -1,0 +1,5 @@
+pub mod Resting
+pub mod Running
+pub mod Calls
+pub mod Callers
+pub mod Finishing

@@ -1,0 +1,4 @@
+mod Adding
+mod Bounds
+mod Parts
+mod Texts

@@ -1,0 +1,15 @@
+//! Traces of scripts: the entries of a run, one by one, made, printed, read back and checked.
+#![tactic(auto)]
+
+mod checking;
+mod cursors;
+mod making;
+mod printing;
+mod rooms;
+mod traces;
+mod turning;
+
+pub use checking::check;
+pub use making::trace;
+pub use printing::print_trace;
+pub use traces::{Entry, TraceError, TraceText};
