@@ -1,8 +1,7 @@
 -- Histories that go on by the entries of a call.
-use Rattle.std.proofs.Common.{◌≡◌, ◌≢◌, ◌+◌, ◌-◌, ◌≤◌, ℕ, List, [], ◌∷◌, ◌++◌, Bool, true, false, cond, eqb, get_or-set_other, refl, sym, ap, subst, ◌∙◌, arith, append_assoc, ne_eqb, eq-eqb}
+use Rattle.std.proofs.Common.{◌≡◌, ◌≢◌, ◌-◌, ◌≤◌, ℕ, List, [], ◌∷◌, ◌++◌, Bool, true, false, cond, eqb, get_or-set_other, refl, sym, ap, subst, ◌∙◌, arith, append_assoc, ne_eqb, eq-eqb}
 use Rattle.std.proofs.lemmas.List.{append-nil}
 use Rattle.std.proofs.lemmas.List.Elements.{filter-append}
-use Rattle.epoch_lattice.specs.declared.Space.TheVariants.{Control}
 use Rattle.object_layout.specs.declared.calls.Call.{Call}
 use Rattle.object_layout.specs.declared.calls.Call.TheVariants as call
 use Rattle.object_layout.specs.declared.calls.Event.{Event}
@@ -10,11 +9,10 @@ use Rattle.object_layout.specs.declared.replies.Reply.{Reply}
 use Rattle.object_layout.specs.declared.replies.Reply.TheVariants as reply
 use Rattle.heap_words.specs.declared.map.Areas.{Areas}
 use Rattle.heap_words.specs.Contents.{Contents}
-use Rattle.yak_model.specs.Continued.{AreLawful, Continues, Explains, PackedIfAsked, PacksControl, StandsStill, entries_told}
+use Rattle.yak_model.specs.Continued.{Continues, Explains, PackedIfAsked, PacksControl, StandsStill, entries_told}
 use Rattle.yak_model.specs.Graph.{Graph, Thread, idle, standard_limits, thread_of}
 use Rattle.yak_model.specs.History.{Entry, Said, Collected, caller, part}
 use Rattle.yak_model.specs.Lawful.{EndsAsked}
-use Rattle.yak_model.specs.Packed.{IsPacked}
 use Rattle.yak_model.specs.Recorded.{StandsRecorded}
 use Rattle.yak_model.specs.Spaces.{SpaceState, Turns, TurnsAll, opening_spaces, spaces}
 use Rattle.yak_model.specs.Standing.{entries_of}

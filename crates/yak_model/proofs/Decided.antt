@@ -1,5 +1,5 @@
 -- Whether walks along edges that can be decided lead from one name to another.
-use Rattle.std.proofs.Common.{◌≡◌, ◌⊎◌, List, [], ◌∷◌, refl, sym, subst, inl, inr}
+use Rattle.std.proofs.Common.{◌≡◌, ◌⊎◌, List, [], ◌∷◌, refl, subst, inl, inr}
 use Rattle.object_layout.specs.declared.names.Name.{Name}
 use Rattle.yak_model.specs.Spaces.{Walk, here, onward}
 use Rattle.yak_model.proofs.Names.{same_or_other}

@@ -1,5 +1,5 @@
 -- What becomes of the known objects, and of their parts.
-use Rattle.std.proofs.Common.{◌≡◌, ◌≢◌, ◌⊎◌, ℕ, List, [], ◌∷◌, Bool, true, false, true≢false, cond, map, replicate, set, refl, ◌∙◌, ap, sym, subst, arith, inl, inr, Option, Some, None, IsSome, is_some}
+use Rattle.std.proofs.Common.{◌≡◌, ℕ, List, [], ◌∷◌, Bool, true, false, true≢false, cond, map, replicate, set, refl, ◌∙◌, ap, sym, subst, arith, inl, inr, Some, None, IsSome, is_some}
 use Rattle.std.specs.List.{Contains}
 use Rattle.std.specs.FinMap.{entries, find, get, get-entries, insert, retain_keys, get-retain_keys}
 use Rattle.object_layout.specs.declared.names.Name.{Name}
@@ -14,7 +14,7 @@ use Rattle.yak_model.specs.History.{Entry, Said, Collected}
 use Rattle.yak_model.specs.Names.{name_cmp}
 use Rattle.yak_model.specs.Spaces.{Walk, here, onward}
 use Rattle.yak_model.specs.Private.{AreMade, GivesAway, IsKnown, IsPart, IsPrivate, KnownAfter, KnownObjects, LosesAll, OwnCall, PartsAreKept, RefersKnown, SomethingIsKnown, StoresKnown}
-use Rattle.yak_model.proofs.Names.{different, find_other, get-same, get-other, name_cmp-IsAntisymmetric, same_or_other}
+use Rattle.yak_model.proofs.Names.{find_other, get-same, get-other, name_cmp-IsAntisymmetric, same_or_other}
 use Rattle.yak_model.proofs.Lists.{contains_cases, contains_cons, contains_replicate, contains_set}
 use Rattle.yak_model.proofs.Agreement.{no_null, same_or_other_number}
 use Rattle.yak_model.proofs.Walks.{walk_map}

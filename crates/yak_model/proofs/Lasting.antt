@@ -1,5 +1,5 @@
 -- What one thread alone knows after a history.
-use Rattle.std.proofs.Common.{◌≡◌, ◌≢◌, ◌⊎◌, ℕ, ◌-◌, ◌≤◌, List, [], ◌∷◌, ◌++◌, Bool, true, false, true≢false, replicate, refl, ◌∙◌, ap, sym, subst, arith, inl, inr, Option, Some, None, IsSome, is_some, MatchOption}
+use Rattle.std.proofs.Common.{◌≡◌, ◌≢◌, ℕ, ◌-◌, ◌≤◌, List, [], ◌∷◌, ◌++◌, Bool, true, false, true≢false, replicate, refl, ◌∙◌, ap, sym, subst, arith, inl, inr, Option, Some, None, IsSome, is_some, MatchOption}
 use Rattle.std.specs.List.{Contains}
 use Rattle.std.specs.FinMap.{empty, get, get-empty}
 use Rattle.object_layout.specs.declared.names.Name.{Name}
@@ -14,10 +14,10 @@ use Rattle.yak_model.specs.declared.datum.Datum.{Datum}
 use Rattle.yak_model.specs.declared.datum.Datum.TheVariants as datum
 use Rattle.yak_model.specs.declared.TheConstants.{ROOT_FIELDS}
 use Rattle.yak_model.specs.Continued.{entries_told}
-use Rattle.yak_model.specs.Graph.{Content, Does, Fields, Graph, IsThread, Limits, Thread, answers, fields_or_none, idle, opening, put_field, refusal_of, slot_of, thread_of}
+use Rattle.yak_model.specs.Graph.{Does, Fields, Graph, Limits, Thread, fields_or_none, idle, opening, put_field, refusal_of, slot_of}
 use Rattle.yak_model.specs.History.{Entry, Said, Collected, IsLegal, Leads, Moves}
 use Rattle.yak_model.specs.Names.{name_cmp, root_name}
-use Rattle.yak_model.specs.Private.{AreMade, BecomesKnown, FitPages, IsKnown, IsMade, IsPrivate, KnownAfter, KnownObjects, PrivateAfter}
+use Rattle.yak_model.specs.Private.{AreMade, BecomesKnown, FitPages, IsKnown, IsMade, KnownAfter, KnownObjects, PrivateAfter}
 use Rattle.yak_model.specs.Spaces.{IsOnStack, Refers, content_at}
 use Rattle.yak_model.specs.Standing.{entries_of}
 use Rattle.yak_model.proofs.Agreement.{no_null}

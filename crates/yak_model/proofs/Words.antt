@@ -1,8 +1,6 @@
 -- The words of present objects, summed over their homes, and bounds on such sums.
-use Rattle.std.proofs.Common.{◌≡◌, ◌≢◌, ℕ, zero, suc, ◌+◌, ◌*◌, ◌-◌, ◌<◌, ◌≤◌, ◌^◌, List, [], ◌∷◌, Bool, true, false, true≢false, cond, length, get_or, drop, map, refl, ◌∙◌, arith, ap, sym, subst, inl, inr, Option, Some, None, is_some, Result, Ok, Err, IfOk}
-use Rattle.std.proofs.lemmas.List.{length-map}
+use Rattle.std.proofs.Common.{◌≡◌, ℕ, suc, ◌+◌, ◌*◌, ◌-◌, ◌<◌, ◌≤◌, List, [], ◌∷◌, Bool, true, false, true≢false, cond, length, get_or, map, refl, ◌∙◌, arith, ap, sym, subst, Option, Some, None, is_some, Result, Ok, Err, IfOk}
 use Rattle.std.proofs.lemmas.List.Sums.{sum_by-cons}
-use Rattle.std.specs.Prelude.{IsTrue, ◌↔◌}
 use Rattle.std.specs.List.{sum_by}
 use Rattle.std.specs.FinMap as finite
 use Rattle.std.specs.FinMap.{find, put}
@@ -10,18 +8,16 @@ use Rattle.std.specs.FinSet as names
 use Rattle.std.specs.Ordering.{is_eq, match_ordering}
 use Rattle.std.specs.declared.cmp.Ordering.TheVariants.{Less, Equal, Greater}
 use Rattle.object_layout.specs.declared.names.Name.{Name}
-use Rattle.object_layout.specs.declared.TheConstants.{MAX_SERIAL, OBJECT_WORDS, PAGE_WORDS}
+use Rattle.object_layout.specs.declared.TheConstants.{MAX_SERIAL, PAGE_WORDS}
 use Rattle.epoch_lattice.specs.declared.Space.{Space}
-use Rattle.epoch_lattice.specs.declared.Space.TheVariants.{Control, Region}
-use Rattle.epoch_lattice.specs.declared.TheConstants.{MAX_THREADS}
 use Rattle.yak_model.specs.declared.datum.Datum.TheVariants as datum
 use Rattle.yak_model.specs.declared.homes.Home.{Home}
 use Rattle.yak_model.specs.declared.TheConstants.{MOST_WORDS}
 use Rattle.yak_model.specs.Names.{name_cmp}
-use Rattle.yak_model.specs.Graph.{Content, Fields, Graph, Limits, Thread, fields_at, fields_of, idle, size_of, thread_of}
-use Rattle.yak_model.specs.Kept.{AreDistinct, AreSmall, IsJoinOf, IsListReached, Kept, fields_of_place, name_at, nobody, state_of, target_at, target_words}
+use Rattle.yak_model.specs.Graph.{Content, Fields, Graph, Limits, Thread, fields_at, fields_of, idle, size_of}
+use Rattle.yak_model.specs.Kept.{AreDistinct, AreSmall, IsJoinOf, IsListReached, Kept, name_at, nobody, state_of, target_at, target_words}
 use Rattle.yak_model.specs.Lawful.{HasWords, control_words, is_control, region_words}
-use Rattle.yak_model.specs.Machine.{IsSound, all_made, contents_of, control_size, home_name, kept_of, region_size, shown_state, size_at}
+use Rattle.yak_model.specs.Machine.{IsSound, contents_of, control_size, home_name, kept_of, region_size, shown_state, size_at}
 use Rattle.yak_model.specs.Spaces.{Escapes, SpaceState, home_of}
 use Rattle.yak_model.proofs.Collected.{home_of_place}
 use Rattle.yak_model.proofs.Escaped.{is_with_target, target_members, with_target}

@@ -4,7 +4,7 @@ use Rattle.epoch_lattice.specs.declared.Space.{Space}
 use Rattle.epoch_lattice.specs.Lattice.{inner_of}
 use Rattle.yak_model.specs.declared.TheConstants.{MOST_WORDS}
 use Rattle.yak_model.specs.Graph.{Limits}
-use Rattle.yak_model.specs.Kept.{AreDistinct, AreHomesValid, AreSmall, Kept, state_of}
+use Rattle.yak_model.specs.Kept.{AreDistinct, AreHomesValid, AreSmall, state_of}
 use Rattle.yak_model.specs.Lawful.{HasWords}
 use Rattle.yak_model.specs.Machine.{kept_of, shown_state}
 use Rattle.yak_model.specs.Spaces.{Escapes, SpaceState, innermost}

@@ -1,4 +1,4 @@
-use Rattle.std.proofs.Common.{◌≡◌, ℕ, ap, sym, subst, ◌∙◌, length}
+use Rattle.std.proofs.Common.{◌≡◌, ℕ, ap, sym, subst, ◌∙◌}
 use Rattle.yak_model.specs.Kept.{state_of, target_words}
 use Rattle.yak_model.specs.Lawful.{HasWords}
 use Rattle.yak_model.specs.Spaces.{Escapes}
