@@ -13,7 +13,7 @@ use Rattle.heap_core.specs.Steps.{entries}
 use Rattle.safepoint_gate.specs.declared.rule.Place.TheVariants.{Inside}
 use Rattle.safepoint_gate.specs.declared.rule.View.{View}
 use Rattle.safepoint_gate.specs.Rule.{AllMine}
-use Rattle.safepoint_gate.specs.Steps.{first_known, first_thread, told, with_own}
+use Rattle.safepoint_gate.specs.Steps.{first_known, first_thread, told}
 
 -- The thread of the view v made a call behind the closed gate, with this outcome, and has the view w then. Its own list has the
 -- entries of the call more, and between the words of the closing and those of the opening all is done that a step does. The one

@@ -1,5 +1,5 @@
 -- Steps that add entries to the history keep the rule.
-use Rattle.std.proofs.Common.{◌≡◌, ◌≢◌, ◌==◌, ℕ, zero, suc, ◌+◌, ◌-◌, ◌*◌, ◌%◌, ◌^◌, ◌<◌, ◌≤◌, Bool, true, false, List, [], ◌∷◌, ◌++◌, length, get_or, set, refl, sym, ap, ◌∙◌, subst, arith, bit_and, eq-eqb, get_or-set_same, set-set, Some, lit≤, append_assoc}
+use Rattle.std.proofs.Common.{◌≡◌, ◌≢◌, ◌==◌, ℕ, zero, suc, ◌%◌, ◌≤◌, Bool, true, List, [], ◌∷◌, ◌++◌, length, get_or, set, refl, sym, ap, ◌∙◌, subst, arith, bit_and, eq-eqb, get_or-set_same, set-set, Some, lit≤, append_assoc}
 use Rattle.std.proofs.lemmas.List.{append-nil}
 use Rattle.std.specs.Prelude.{if◌then◌else◌}
 use Rattle.std.proofs.lemmas.Nat.{and_mask}
@@ -22,8 +22,8 @@ use Rattle.safepoint_gate.specs.declared.rule.Own.{Own}
 use Rattle.safepoint_gate.specs.declared.rule.Place.{Place}
 use Rattle.safepoint_gate.specs.declared.rule.Place.TheVariants.{Inside, Closed}
 use Rattle.safepoint_gate.specs.declared.rule.View.{View}
-use Rattle.safepoint_gate.specs.Rule.{total, present, inner, asking, closed, present_at, inner_at, asking_at, closed_at, times, stands_for, numbers, hidden, thread_told, AllMine, Counted, Mine, Knows, Fits, Kept}
-use Rattle.safepoint_gate.specs.Steps.{MayOpen, OpenedWith, Sat, with_own, with_entries, told, first_known, first_thread, opens_with}
+use Rattle.safepoint_gate.specs.Rule.{present, inner, asking, closed, present_at, inner_at, asking_at, closed_at, times, stands_for, hidden, thread_told, AllMine, Counted, Mine, Kept}
+use Rattle.safepoint_gate.specs.Steps.{MayOpen, Sat, with_own, with_entries, told, first_known, first_thread, opens_with}
 use Rattle.safepoint_gate.proofs.Totals.{total_set, total_at, total_two}
 use Rattle.safepoint_gate.proofs.Keeps.{St, gate_of, changes, bounds, some_words}
 use Rattle.safepoint_gate.proofs.Closers.{others_open}
