@@ -8,7 +8,7 @@ use Rattle.yak.specs.declared.endings.Status.{Status}
 use Rattle.yak.specs.declared.endings.Status.TheVariants.{Done, Usage, Refused, ReadFault, WriteFault, NoMemory, TooLarge, OutOfHeap, LongWord}
 use Rattle.yak.specs.declared.forms.Options.{Options}
 use Rattle.yak.specs.Keeping.{Keeping}
-use Rattle.yak.specs.Endings.{EndsCut, EndsLong, EndsOut, EndsRefused, Input, IsTooLarge, KeepsNothing, Output, WritesNothing, ends, number_of, usage_line}
+use Rattle.yak.specs.Endings.{EndsLong, EndsOut, EndsRefused, Input, IsTooLarge, KeepsNothing, Output, WritesNothing, ends, number_of, usage_line}
 use Rattle.yak.specs.Answers.{Answers}
 use Rattle.yak.specs.Forms.{IsAsked, IsCount, IsReading, IsReplay}
 use Rattle.yak.proofs.Statuses.{Never, count_ends, counted_so, excess_ends, gen_ends, generated_so, long_ends, other_words, refusal_ends, replayed_so, script_ends}
