@@ -10,3 +10,4 @@ pub mod Digits
 pub mod ReadTo
 pub mod Dropping
 pub mod Single
+pub mod Printed

@@ -1,5 +1,5 @@
 -- Reading lines of entries one after the other.
-use Rattle.std.proofs.Common.{◌≡◌, ℕ, ◌+◌, List, [], ◌∷◌, ◌++◌, refl, sym, subst, append_assoc, inl, inr}
+use Rattle.std.proofs.Common.{◌≡◌, ◌≤◌, ℕ, ◌+◌, List, [], ◌∷◌, ◌++◌, refl, sym, subst, append_assoc, inl, inr, length, arith}
 use Rattle.std.proofs.lemmas.List.{append-nil}
 use Rattle.trace_check.specs.declared.traces.Entry.{Entry}
 use Rattle.trace_check.specs.declared.traces.Entry.TheVariants as entry
@@ -47,3 +47,10 @@ held_threads threads [] entries none = subst (AreOfThreads threads) (sym none) t
 held_threads threads (line ∷ lines) entries (inl (silent, held)) = held_threads threads lines entries held
 held_threads threads (line ∷ lines) entries (inr (told, others, is, whole, held)) =
     subst (AreOfThreads threads) (sym whole) (of_entry threads told is.possible, held_threads threads lines others held)
+
+-- ---- how many entries are held
+
+pub held_few : (threads : ℕ) (lines : List (List ℕ)) (entries : List Entry) → HoldsEntries threads lines entries → length entries ≤ length lines
+held_few threads [] entries none = rw none (omega arith)
+held_few threads (line ∷ lines) entries (inl (silent, held)) = let rest = held_few threads lines entries held in omega (arith, rest)
+held_few threads (line ∷ lines) entries (inr (told, others, is, whole, held)) = let rest = held_few threads lines others held in rw whole (omega (arith, rest))

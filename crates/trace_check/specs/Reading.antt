@@ -42,6 +42,21 @@ abbrev pub IsEntry : ℕ → Entry → Type 0
 IsEntry threads (entry.Said number reply) = (number ≤ 4294967295) × IsReply reply
 IsEntry threads (entry.Collected thread) = (1 ≤ thread) × (thread ≤ threads)
 
+-- the numbers of an entry are those of its type
+abbrev pub HasNumbers : Entry → Type 0
+HasNumbers (entry.Said number reply) = (number ≤ 4294967295) × IsReply reply
+HasNumbers (entry.Collected thread) = Unit {0}
+
+-- so are those of each entry
+abbrev pub HaveNumbers : List Entry → Type 0
+HaveNumbers [] = Unit {0}
+HaveNumbers (first ∷ rest) = HasNumbers first × HaveNumbers rest
+
+-- each entry may stand where there are so many threads
+abbrev pub AreEntries : ℕ → List Entry → Type 0
+AreEntries threads [] = Unit {0}
+AreEntries threads (first ∷ rest) = IsEntry threads first × AreEntries threads rest
+
 -- a line of an entry
 pub record IsEntryLine (threads : ℕ) (line : List ℕ) (told : Entry) : Type 0 where
   pub loud : IsSilent line → ⊥

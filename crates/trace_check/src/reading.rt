@@ -113,6 +113,7 @@ fn read_entries(
     requires short { length bytes.now ≤ INPUT_LIMIT }
     requires few { skipped ≤ INPUT_LIMIT }
     ensures found { IfOk result (λ entries. HoldsEntries threads (drop skipped (lines bytes.now)) entries.items) }
+    ensures few { IfOk result (λ entries. length entries.items ≤ length bytes.now) }
     ensures bad { IfErr result (λ error. RefusesEntries threads (skipped + 1) (drop skipped (lines bytes.now)) error) }
 {
     let mut rest = text_lines(bytes);
@@ -151,6 +152,7 @@ fn read_parts(alloc: Global, bytes: &[u8]) -> Result<TraceText, TraceError>
     requires { length bytes.now ≤ INPUT_LIMIT }
     ensures found { IfOk result (λ text. IsTraceOf (lines bytes.now) text) }
     ensures valid { IfOk result (λ text. IsValid text.script × AreOfThreads text.script.heap.threads text.entries) }
+    ensures few { IfOk result (λ text. length text.entries ≤ length bytes.now) }
     ensures refused { IfErr result (λ error. RefusesTrace (lines bytes.now) error) }
 {
     let Some(before) = mark_at(bytes) else {
@@ -174,6 +176,7 @@ pub fn read_trace(alloc: Global, bytes: &[u8]) -> Result<TraceText, TraceError>
     requires { length bytes.now ≤ INPUT_LIMIT }
     ensures found { IfOk result (λ text. IsTraceOf (lines bytes.now) text) }
     ensures valid { IfOk result (λ text. IsValid text.script × AreOfThreads text.script.heap.threads text.entries) }
+    ensures few { IfOk result (λ text. length text.entries ≤ length bytes.now) }
     ensures refused { IfErr result (λ error. RefusesTrace (lines bytes.now) error) }
     ensures every_trace { (text : Trace) → IsTraceOf (lines bytes.now) text → (result ≡ Ok text) ⊎ (result ≡ Err Memory) }
     ensures every_bad_script { (bad : Bad) → IsBadScript (lines bytes.now) bad → (result ≡ Err (Script bad)) ⊎ (result ≡ Err Memory) }
