@@ -12,16 +12,16 @@ use Rattle.script_text.specs.Commands.{command_words}
 use Rattle.script_text.specs.Contents.{Contents}
 use Rattle.script_text.specs.Printing.{script_text, spaced}
 use Rattle.script_text.specs.Replies.{reply_text, reply_words}
-use Rattle.script_text.specs.Scripts.{Holds, IsScript, IsScriptOf, IsSilent}
+use Rattle.script_text.specs.Scripts.{Holds, IsScript, IsScriptOf}
 use Rattle.script_text.specs.Words.{lines, words}
-use Rattle.script_text.proofs.Joined.{EndsLine, fed_ends, script_ends}
+use Rattle.script_text.proofs.Joined.{script_ends}
 use Rattle.script_text.proofs.Replied.{are_reply, reply_some, spaced_reply}
 use Rattle.script_text.proofs.Spelling.{AreWords, Inline, IsWord, after_spaces, decimal_word, inline_spaced, lines_more, not_comment, spaced_first, word_by, words_spaced}
 use Rattle.trace_check.specs.declared.traces.Entry.{Entry}
 use Rattle.trace_check.specs.declared.traces.Entry.TheVariants as entry
-use Rattle.trace_check.specs.Reading.{AreEntries, HasNoMark, HasNumbers, HaveNumbers, HoldsEntries, IsEntry, IsEntryLine, IsMark, IsMarked, IsTraceOf, entry_words, text_line}
+use Rattle.trace_check.specs.Reading.{AreEntries, HasNoMark, HasNumbers, HaveNumbers, HoldsEntries, IsEntry, IsEntryLine, IsMark, IsTraceOf, entry_words}
 use Rattle.trace_check.specs.Texts.{entries_text, entry_line, mark_line, trace_text}
-use Rattle.trace_check.specs.Traces.{AreOfThreads, IsOfThreads, Trace}
+use Rattle.trace_check.specs.Traces.{AreOfThreads, IsOfThreads}
 
 -- ---- no line of a script is a mark
 

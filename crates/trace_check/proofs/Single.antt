@@ -1,5 +1,5 @@
 -- A text is one trace at most, and refused for one reason at most.
-use Rattle.std.proofs.Common.{◌≡◌, ◌<◌, ◌≤◌, ◌+◌, ◌⊎◌, ◌^◌, ℕ, List, [], ◌∷◌, drop, length, take, refl, sym, subst, ap, ◌∙◌, inl, inr, arith}
+use Rattle.std.proofs.Common.{◌≡◌, ◌≤◌, ◌+◌, ◌⊎◌, ℕ, List, [], ◌∷◌, drop, take, refl, sym, subst, ap, ◌∙◌, inl, inr, arith}
 use Rattle.std.specs.Prelude.{codes, decimal, IfErr, IfOk, Result, Ok, Err}
 use Rattle.std.proofs.lemmas.Bool.{cases_lt}
 use Rattle.std.proofs.lemmas.Fmt.{decimal_injective}
@@ -8,7 +8,6 @@ use Rattle.script_text.specs.Contents.{Contents}
 use Rattle.script_text.specs.declared.faults.Bad.{Bad}
 use Rattle.script_text.specs.Replies.{reply_words}
 use Rattle.script_text.specs.Scripts.{IsBadOf, IsScriptOf, IsSilent}
-use Rattle.script_text.specs.Words.{words}
 use Rattle.script_text.proofs.Replied.{same_reply}
 use Rattle.script_text.proofs.Single.{not_both_texts, one_fault, one_script}
 use Rattle.trace_check.specs.declared.traces.Entry.{Entry}

@@ -3,7 +3,7 @@ use Rattle.script_text.specs.Printing.{script_text}
 use Rattle.script_text.specs.Scripts.{IsScript}
 use Rattle.script_text.specs.Words.{lines}
 use Rattle.trace_check.specs.Reading.{IsTraceOf}
-use Rattle.trace_check.specs.Texts.{entries_text, mark_line, trace_text}
+use Rattle.trace_check.specs.Texts.{trace_text}
 use Rattle.trace_check.proofs.Printed.{are_entries, reads_back}
 use Rattle.trace_check.proofs.printing.print_trace.Goals as goal
 

@@ -1,4 +1,4 @@
-use Rattle.std.proofs.Common.{◌≡◌, ◌<◌, ℕ, List, length, ap, subst, arith, below_more}
+use Rattle.std.proofs.Common.{◌<◌, ℕ, List, length, ap, subst, arith, below_more}
 use Rattle.trace_check.specs.Reading.{IsMark, text_line}
 use Rattle.trace_check.proofs.Dropping.{line_is, rest_is}
 use Rattle.trace_check.proofs.reading.mark_at.Goals as goal

@@ -1,4 +1,4 @@
-use Rattle.std.proofs.Common.{◌≡◌, ◌+◌, ◌<◌, ◌≤◌, ℕ, drop, length}
+use Rattle.std.proofs.Common.{◌≡◌, ◌+◌, ◌<◌, ℕ, drop, length}
 use Rattle.trace_check.specs.Reading.{IsMark, text_line}
 use Rattle.trace_check.proofs.reading.mark_at.Given as goal
 

@@ -1,5 +1,4 @@
-use Rattle.std.proofs.Common.{◌≡◌, ◌<◌, ◌≤◌, ◌+◌, ℕ, List, [], length, length-drop, drop, ap, sym, subst, ◌∙◌, arith}
-use Rattle.std.proofs.lemmas.List.{drop_all}
+use Rattle.std.proofs.Common.{◌≡◌, ◌<◌, ◌+◌, ℕ, List, length, length-drop, drop, ap, subst, ◌∙◌, arith}
 use Rattle.script_text.specs.Words.{lines}
 use Rattle.trace_check.specs.Reading.{HoldsEntries}
 use Rattle.trace_check.proofs.Dropping.{rest_is}

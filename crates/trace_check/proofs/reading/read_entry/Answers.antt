@@ -1,4 +1,4 @@
-use Rattle.std.proofs.Common.{◌≡◌, [], ◌∷◌, List, sym, ◌∙◌}
+use Rattle.std.proofs.Common.{◌≡◌, [], ◌∷◌, sym, ◌∙◌}
 use Rattle.std.specs.Prelude.{codes, decimal}
 use Rattle.script_text.specs.Words.{words}
 use Rattle.trace_check.specs.declared.traces.Entry.TheVariants as entry
