@@ -3,6 +3,7 @@
 
 mod checking;
 mod cursors;
+mod laws;
 mod making;
 mod printing;
 mod reading;
@@ -11,6 +12,7 @@ mod traces;
 mod turning;
 
 pub use checking::check;
+pub use laws::{law_lawful_or_breaks, law_one_trace};
 pub use making::trace;
 pub use printing::print_trace;
 pub use reading::read_trace;
