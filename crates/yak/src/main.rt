@@ -9,6 +9,7 @@ mod summaries;
 #[cfg(test)]
 mod tests;
 mod threaded;
+mod traced;
 #[cfg(test)]
 mod watched;
 #[cfg(test)]

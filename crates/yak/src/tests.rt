@@ -15,7 +15,7 @@ use yak_io::{Failed, MemorySink, MemorySource, NoBrake, ReadAllError, SureSource
 const FIRST_PATH: &[u8] = b"heap 4 1\n1 int 7\n1 get 1\n";
 
 const USAGE: &[u8] =
-    b"usage: yak replay | threads | count [--workers n] [--task lines] [--pages p] | gen n\n";
+    b"usage: yak replay | threads | count [--workers n] [--task lines] [--pages p] | gen n | trace | check\n";
 
 // The words of a line.
 fn words_of(alloc: Global, line: &str) -> Result<Vec<String>, AllocError> {
