@@ -121,7 +121,7 @@ fn threads<R: Threads + Wait + Sync, S: Source, K: Sink, B: Brake + Sync>(
 
 /// Whether the words ask for a run in threads.
 #[tactic(auto, using(crate::proofs::Unasked::threads_form, crate::proofs::Unasked::unthreaded, crate::proofs::Unasked::none_threads))]
-fn asks_threads(args: &[String]) -> bool
+pub(crate) fn asks_threads(args: &[String]) -> bool
     ensures { MatchBool result (IsThreads (map string_bytes args.now)) (IsThreads (map string_bytes args.now) → ⊥) }
 {
     match read_form(args) {
