@@ -1,6 +1,8 @@
 //! Runs a script of calls on a heap, or counts the words of a text in one, and writes a line for each reply or word.
 #![tactic(auto)]
 
+#[cfg(test)]
+mod checked;
 mod endings;
 mod forms;
 mod generator;
