@@ -15,7 +15,7 @@ use yak_io::{Failed, MemorySink, MemorySource, NoBrake, ReadAllError, SureSource
 const FIRST_PATH: &[u8] = b"heap 4 1\n1 int 7\n1 get 1\n";
 
 const USAGE: &[u8] =
-    b"usage: yak replay | threads | count [--workers n] [--task lines] [--pages p] | gen n\n";
+    b"usage: yak replay | threads | count [--workers n] [--task lines] [--pages p] | gen n | trace | check\n";
 
 // The words of a line.
 fn words_of(alloc: Global, line: &str) -> Result<Vec<String>, AllocError> {
@@ -54,13 +54,17 @@ fn other_words_give_the_usage_line(rt: HostRuntime) -> Result<(), Fail> {
         ("gen +1", 1),
         ("gen 1 1", 1),
         ("threads", 1),
+        ("trace", 0),
+        ("trace x", 1),
+        ("check", 9),
+        ("check --all", 1),
         ("count 1", 1),
         ("count --workers 2 --task=1", 1),
         ("count --workers 8", 1),
     ] {
         let args = words_of(alloc, line)?;
         let mut source = SureSource::new(Vec::from_slice(alloc, FIRST_PATH)?);
-        let mut sink = MemorySink::new(alloc, 100, Vec::new(alloc))?;
+        let mut sink = MemorySink::new(alloc, 200, Vec::new(alloc))?;
         let mut kept = Kept::Nothing;
         let ended = plain(alloc, &args, &mut source, &mut sink, &mut kept);
         assert_eq!(rt; ended, status, "{line}");
