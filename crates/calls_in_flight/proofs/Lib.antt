@@ -5,7 +5,7 @@ pub mod Apart
 pub mod Claimed
 pub mod Grounds
 pub mod Quiet
-pub mod Known
+pub mod OwnWords
 pub mod Events
 pub mod Claims
 pub mod Readers

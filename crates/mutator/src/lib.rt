@@ -3,8 +3,12 @@
 
 mod caller;
 mod closed_calls;
+mod field_calls;
 mod finishing;
 mod heap;
+mod new_objects;
+mod quick;
+mod quick_calls;
 mod resting;
 mod running;
 
