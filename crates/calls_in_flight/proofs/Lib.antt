@@ -20,3 +20,4 @@ pub mod Knowing
 pub mod Keeping
 pub mod Gate
 pub mod Pushing
+pub mod Acting
