@@ -2,3 +2,5 @@ pub mod Stepped
 pub mod Telling
 pub mod Flushed
 pub mod Rested
+pub mod Answering
+pub mod Looking
