@@ -23,3 +23,4 @@ pub mod Pushing
 pub mod Acting
 pub mod ViewWords
 pub mod ViewSees
+pub mod ViewMeets
