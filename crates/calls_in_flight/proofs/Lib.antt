@@ -24,3 +24,4 @@ pub mod Acting
 pub mod ViewWords
 pub mod ViewSees
 pub mod ViewMeets
+pub mod ViewTells
