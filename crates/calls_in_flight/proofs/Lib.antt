@@ -21,3 +21,5 @@ pub mod Keeping
 pub mod Gate
 pub mod Pushing
 pub mod Acting
+pub mod ViewActs
+pub mod ViewPool
