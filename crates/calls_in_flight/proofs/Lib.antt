@@ -23,3 +23,5 @@ pub mod Pushing
 pub mod Acting
 pub mod ViewActs
 pub mod ViewPool
+pub mod ViewWords
+pub mod ViewSees
