@@ -21,3 +21,9 @@ pub mod Keeping
 pub mod Gate
 pub mod Pushing
 pub mod Acting
+pub mod ViewActs
+pub mod ViewPool
+pub mod ViewWords
+pub mod ViewSees
+pub mod ViewMeets
+pub mod ViewTells
