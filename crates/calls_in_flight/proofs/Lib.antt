@@ -25,3 +25,5 @@ pub mod ViewActs
 pub mod ViewPool
 pub mod ViewWords
 pub mod ViewSees
+pub mod ViewReach
+pub mod ViewStores
