@@ -27,3 +27,4 @@ pub mod ViewWords
 pub mod ViewSees
 pub mod ViewReach
 pub mod ViewStores
+pub mod ViewPushes
