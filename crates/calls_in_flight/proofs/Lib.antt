@@ -28,3 +28,4 @@ pub mod ViewSees
 pub mod ViewReach
 pub mod ViewStores
 pub mod ViewPushes
+pub mod ViewFields
