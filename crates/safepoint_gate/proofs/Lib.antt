@@ -1,5 +1,9 @@
 pub mod Totals
+pub mod Flying
+pub mod Quiet
+pub mod Ranges
 pub mod Keeps
+pub mod Changing
 pub mod Closers
 pub mod Deals
 pub mod Events
