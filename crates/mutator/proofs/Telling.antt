@@ -1,6 +1,6 @@
 -- What a call behind the closed gate does to what a caller tells.
-use Rattle.std.proofs.Common.{◌≡◌, ◌≢◌, ◌↔◌, ℕ, ◌+◌, ◌-◌, ◌^◌, ◌≤◌, List, [], ◌∷◌, ◌++◌, Bool, true, false, true≢false, cond, min, get_or, refl, sym, ap, ◌∙◌, subst, arith, Option, Some, None, inl, inr, is_some, MatchOption, lit≤}
-use Rattle.std.specs.FinMap.{empty, get, get-empty}
+use Rattle.std.proofs.Common.{◌≡◌, ◌≢◌, ℕ, ◌+◌, ◌-◌, ◌^◌, ◌≤◌, List, [], ◌∷◌, ◌++◌, Bool, true, false, true≢false, min, get_or, refl, sym, ap, ◌∙◌, subst, arith, Option, Some, None, inl, inr, is_some, lit≤}
+use Rattle.std.specs.FinMap.{empty, get-empty}
 use Rattle.object_layout.specs.declared.names.Name.{Name}
 use Rattle.object_layout.specs.declared.TheConstants.{OBJECT_WORDS}
 use Rattle.object_layout.specs.declared.calls.Call.{Call}
@@ -13,11 +13,11 @@ use Rattle.heap_words.specs.Contents.{Contents, contents}
 use Rattle.yak_model.specs.Continued.{Explains, entries_told}
 use Rattle.yak_model.specs.Graph.{Graph, Limits, Thread, answers, idle, opening, standard_limits, thread_of}
 use Rattle.yak_model.specs.declared.history.Entry.{Entry}
-use Rattle.yak_model.specs.declared.history.Entry.TheVariants.{Said, Collected}
-use Rattle.yak_model.specs.History.{IsLegal, Leads, Moves}
+use Rattle.yak_model.specs.declared.history.Entry.TheVariants.{Said}
+use Rattle.yak_model.specs.History.{IsLegal, Leads}
 use Rattle.yak_model.specs.Names.{name_cmp}
-use Rattle.yak_model.specs.Private.{BecomesKnown, FitPages, IsKnown, IsPart, IsPrivate, KnownAfter, KnownObjects, PrivateAfter, RefersKnown}
-use Rattle.yak_model.specs.Standing.{AddsEntries, Counted, IsLast, MayCollect, MovesKnown, counted_on, entries_of, words_made}
+use Rattle.yak_model.specs.Private.{BecomesKnown, FitPages, IsKnown, KnownObjects}
+use Rattle.yak_model.specs.Standing.{AddsEntries, Counted, IsLast, MayCollect, MovesKnown, counted_on, words_made}
 use Rattle.yak_model.specs.Stands.{Stands}
 use Rattle.yak_model.specs.Spaces.{SpaceState}
 use Rattle.yak_model.proofs.Agreement.{machines_agree}
@@ -27,7 +27,7 @@ use Rattle.yak_model.proofs.Lasting.{around, leads_unique, limits_after, made_af
 use Rattle.heap_core.specs.declared.owned.Stepped.{Stepped}
 use Rattle.heap_core.specs.Callers.{words_asked}
 use Rattle.heap_core.specs.Collecting.{CountsFull}
-use Rattle.heap_core.specs.Done.{CollectsWhere, Done, FillsHeap, TellsFull}
+use Rattle.heap_core.specs.Done.{CollectsWhere, FillsHeap, TellsFull}
 use Rattle.heap_core.specs.Steps.{entries}
 use Rattle.heap_core.proofs.Filling.{full-answer, new-or-other, not-full}
 use Rattle.safepoint_gate.specs.declared.rule.Own.{Own}

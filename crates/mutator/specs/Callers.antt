@@ -1,5 +1,5 @@
 -- What one thread's way to a shared heap tells.
-use Rattle.std.specs.Prelude.{◌≡◌, ℕ, List, [], ◌∷◌, Option, Some}
+use Rattle.std.specs.Prelude.{ℕ, List, [], ◌∷◌, Option, Some}
 use Rattle.object_layout.specs.declared.replies.Census.{Census}
 use Rattle.yak_model.specs.Graph.{Thread, idle, standard_limits}
 use Rattle.yak_model.specs.Private.{FitPages, IsPart, KnownObjects}
