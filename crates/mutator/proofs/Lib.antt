@@ -1,3 +1,4 @@
+pub mod Buffers
 pub mod Stepped
 pub mod Telling
 pub mod Flushed
