@@ -5,3 +5,4 @@ pub mod Flushed
 pub mod Rested
 pub mod Answering
 pub mod Looking
+pub mod Meanwhile
