@@ -299,7 +299,7 @@ module _ (m : Areas) (o : Own) (z : View) (s : St) (k : Kept m s) (id : ℕ) (at
   told_plain : (now : List ℕ) (gs : List Flight) (asked : Call) (said : Reply) (f : Flight) (lasting : List Known) → Event_moves now gs asked said f lasting → IsPlainEntry (Said o.thread asked said)
   told_plain now gs asked said f lasting v = All-head IsPlainEntry (Said o.thread asked said) [] (step-plain m (hidden s.words) k.underway.flights (o.thread - 1) now gs (Said o.thread asked said ∷ []) 0 v.step)
 
-  told_lawful : (now : List ℕ) (gs : List Flight) (asked : Call) (said : Reply) (f : Flight) (lasting : List Known) → Event_moves now gs asked said f lasting → IsLawful standard_limits m.threads m.pages (k.history ++ Said o.thread asked said ∷ [])
+  pub told_lawful : (now : List ℕ) (gs : List Flight) (asked : Call) (said : Reply) (f : Flight) (lasting : List Known) → Event_moves now gs asked said f lasting → IsLawful standard_limits m.threads m.pages (k.history ++ Said o.thread asked said ∷ [])
   told_lawful now gs asked said f lasting v =
       let start = opening_spaces standard_limits m.threads in
       let leaves = told_leaves now gs asked said f lasting v in
