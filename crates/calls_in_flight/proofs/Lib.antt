@@ -29,3 +29,4 @@ pub mod ViewReach
 pub mod ViewStores
 pub mod ViewPushes
 pub mod ViewFields
+pub mod ViewMakes
