@@ -30,3 +30,4 @@ pub mod ViewStores
 pub mod ViewPushes
 pub mod ViewFields
 pub mod ViewMakes
+pub mod ViewEvents
