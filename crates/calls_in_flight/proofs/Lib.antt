@@ -31,3 +31,5 @@ pub mod ViewPushes
 pub mod ViewFields
 pub mod ViewMakes
 pub mod ViewEvents
+pub mod ViewMeets
+pub mod ViewTells
