@@ -27,3 +27,4 @@ pub mod ViewWords
 pub mod ViewSees
 pub mod ViewMeets
 pub mod ViewTells
+pub mod ViewMakes
