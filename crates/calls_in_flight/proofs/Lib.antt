@@ -27,4 +27,7 @@ pub mod ViewWords
 pub mod ViewSees
 pub mod ViewMeets
 pub mod ViewTells
+pub mod ViewReach
+pub mod ViewStores
+pub mod ViewPushes
 pub mod ViewMakes

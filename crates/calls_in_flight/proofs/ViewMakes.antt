@@ -1,40 +1,34 @@
 -- An object made by a view: what is stored when the stack's length is, and the entry of the call.
-use Rattle.std.proofs.Common.{◌≡◌, ◌≢◌, ◌⊎◌, ℕ, ◌+◌, ◌-◌, ◌<◌, List, [], ◌∷◌, length, get_or, set, refl, sym, ap, subst, ◌∙◌, arith, inl, inr, get_or-set_same}
+use Rattle.std.proofs.Common.{◌≡◌, ◌≢◌, ◌⊎◌, ℕ, ◌+◌, ◌<◌, List, [], ◌∷◌, length, get_or, set, refl, sym, ap, subst, ◌∙◌, arith, inl, inr, get_or-set_same}
 use Rattle.std.specs.List.{All, Contains}
-use Rattle.std.proofs.lemmas.List.Elements.{All-cons, All-nil}
+use Rattle.std.proofs.lemmas.List.Elements.{All-cons}
 use Rattle.std.proofs.Math.Logic.{⊎_elim}
 use Rattle.object_layout.specs.declared.calls.Call.TheVariants.{New}
 use Rattle.object_layout.specs.declared.replies.Reply.TheVariants.{Ok}
 use Rattle.heap_words.specs.declared.map.Areas.{Areas}
 use Rattle.heap_words.specs.Map.{heap_at, page_at, page_words}
-use Rattle.heap_words.specs.Contents.{depth_of, stack_of}
 use Rattle.epoch_lattice.specs.Lattice.{inner_of, space_index}
-use Rattle.yak_model.specs.declared.history.Entry.{Entry}
 use Rattle.yak_model.specs.declared.history.Entry.TheVariants.{Said}
-use Rattle.yak_model.specs.Graph.{Thread}
 use Rattle.yak_model.specs.Placed.{space_word}
 use Rattle.yak_model.specs.Spaces.{SpaceState}
 use Rattle.yak_model.specs.Stands.{current}
 use Rattle.region_pages.specs.declared.TheConstants.{USED_MARK}
-use Rattle.standing_calls.proofs.Named.{depth-shown}
 use Rattle.calls_in_flight.specs.Actors.{Actor, HasOnly, Shows, under}
-use Rattle.calls_in_flight.specs.Differing.{MayDiffer}
 use Rattle.calls_in_flight.specs.Fits.{StandInFlight}
 use Rattle.calls_in_flight.specs.Flight.{Cover, Flight, IsBare, at_rest, flight_at}
 use Rattle.calls_in_flight.specs.Kinds.{IsStep, makes, makes_claimed}
-use Rattle.calls_in_flight.specs.Knowing.{IsLasting, Known}
 use Rattle.calls_in_flight.specs.Making.{IsNew, LiesAt, Makes, MakesInCurrent, MakesOnClaimed}
 use Rattle.calls_in_flight.specs.OwnStores.{HasNoRoomFor, IsInCurrent, IsLaid, IsMade, Placing, done_by, entry_laid, front_of, in_current, made_laid, mark_laid, on_claimed, page_laid, placed_words, slot_laid}
 use Rattle.calls_in_flight.specs.Steps.{current_at, depth_at, length_at, made_at, slot_at, with_covers}
 use Rattle.calls_in_flight.specs.Whole.{whole}
-use Rattle.calls_in_flight.proofs.Acting.{Acts, StoresEvent, acting_in, place_of}
+use Rattle.calls_in_flight.proofs.Acting.{Acts, StoresEvent, place_of}
 use Rattle.calls_in_flight.proofs.Apart.{named-page}
 use Rattle.calls_in_flight.proofs.Grounds.{holds_at, named}
-use Rattle.calls_in_flight.proofs.Keeping.{step-keeps}
-use Rattle.calls_in_flight.proofs.OwnWords.{own-current, own-depth, own-length}
+use Rattle.calls_in_flight.proofs.OwnWords.{own-current}
 use Rattle.calls_in_flight.proofs.Ready.{bare-before}
-use Rattle.calls_in_flight.proofs.ViewActs.{bare-word, block-own, contains-front, inside, own-place}
-use Rattle.calls_in_flight.proofs.ViewWords.{current-shown, length-told, met-word}
+use Rattle.calls_in_flight.proofs.ViewActs.{bare-word, contains-front, inside}
+use Rattle.calls_in_flight.proofs.ViewPushes.{bare-depth, bare-length, ends-call, length-place}
+use Rattle.calls_in_flight.proofs.ViewWords.{current-shown, met-word}
 
 module _ (m : Areas) (ws : List ℕ) (fs : List Flight) (s : SpaceState) (h : StandInFlight m ws fs s) (a : Actor) (acts : Acts m ws fs s h a) (p : Placing m a) where
   -- ---- bare places
@@ -64,9 +58,6 @@ module _ (m : Areas) (ws : List ℕ) (fs : List Flight) (s : SpaceState) (h : St
 
   -- ---- what stands in the words
 
-  depth-told : depth_of (whole m ws fs) a.thread ≡ a.told.depth
-  depth-told = ap (λ ds. get_or ds (a.thread - 1) 0) h.stands.stands.depths ∙ depth-shown s a.thread ∙ ap (λ (x : Thread). x.depth) acts.told
-
   stands-new : IsMade m a p → IsNew m ws (front_of p) p.fields (inner_of a.thread a.told.depth) (record { thread = a.thread; serial = a.told.made + 1 })
   stands-new made = record {
     header = met-word m ws fs s h a acts (heap_at m + front_of p) _ made.header;
@@ -76,18 +67,16 @@ module _ (m : Areas) (ws : List ℕ) (fs : List Flight) (s : SpaceState) (h : St
 
   making : (ks : List Cover) → a.flight.covers ≡ ks → IsBare ks (length_at m a.thread) → IsBare ks (depth_at m a.thread) → IsMade m a p → Makes m ws fs (place_of a) p.fields
   making ks e bare_length bare_depth made =
-      let i : ℕ = place_of a in
-      let li = inside m ws fs s h a acts in
       record {
-        inside = li;
+        inside = inside m ws fs s h a acts;
         few = p.few;
         n = length a.told.stack;
-        count = own-length m ws fs s i h li (bare_at ks (length_at m) e bare_length) ∙ ap (λ t. length (stack_of (whole m ws fs) t)) acts.numbered ∙ length-told m ws fs s h a acts;
+        count = subst (λ t. get_or ws (length_at m t) 0 ≡ length a.told.stack) (sym acts.numbered) (bare-length m ws fs s h a acts (subst (λ (js : List Cover). IsBare js (length_at m a.thread)) (sym e) bare_length));
         room = made.room;
         made = a.told.made;
         unspent = made.unspent;
         depth = a.told.depth;
-        deep = own-depth m ws fs s i h li (bare_at ks (depth_at m) e bare_depth) ∙ ap (depth_of (whole m ws fs)) acts.numbered ∙ depth-told;
+        deep = subst (λ t. get_or ws (depth_at m t) 0 ≡ a.told.depth) (sym acts.numbered) (bare-depth m ws fs s h a acts (subst (λ (js : List Cover). IsBare js (depth_at m a.thread)) (sym e) bare_depth));
         page = p.page;
         used = p.used;
         fits = p.fits;
@@ -103,21 +92,11 @@ module _ (m : Areas) (ws : List ℕ) (fs : List Flight) (s : SpaceState) (h : St
   told step =
       let i : ℕ = place_of a in
       let t : ℕ = a.thread in
-      let now : List ℕ = set ws (length_at m t) (length a.told.stack + 1) in
       let gs : List Flight = set fs i (at_rest t) in
-      let done : List Entry = Said t (New p.fields) Ok ∷ [] in
-      let mine : StepsTo t = subst StepsTo acts.numbered step in
-      let st = step-keeps m ws fs i s h now gs done 0 mine in
       record {
-        is_place = own-place m ws fs s h a (length_at m t) acts (block-own m ws fs s h a (length_at m t) acts (omega arith) (omega arith));
+        is_place = length-place m ws fs s h a acts;
         others = gs;
-        moves = record {
-          step = mine;
-          stepped = st;
-          flight = get_or-set_same fs i (at_rest t) (at_rest 0) (inside m ws fs s h a acts);
-          knows = All-nil (λ (k : Known). (get_or now k.place 0 ≡ k.word) × IsLasting m now gs st.after st.later i k.place);
-          differs = All-nil (MayDiffer m (acting_in a st.after (at_rest t) []));
-        };
+        moves = ends-call m ws fs s h a acts (set ws (length_at m t) (length a.told.stack + 1)) gs (Said t (New p.fields) Ok ∷ []) (subst StepsTo acts.numbered step) (get_or-set_same fs i (at_rest t) (at_rest 0) (inside m ws fs s h a acts));
       }
 
   -- ---- in the current page

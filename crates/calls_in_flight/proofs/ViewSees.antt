@@ -46,10 +46,10 @@ module _ (m : Areas) (ws : List ℕ) (fs : List Flight) (s : SpaceState) (h : St
 
   -- ---- its block
 
-  depth-same : depth_of (whole m ws fs) a.thread ≡ a.told.depth
+  pub depth-same : depth_of (whole m ws fs) a.thread ≡ a.told.depth
   depth-same = ap (λ ds. get_or ds (a.thread - 1) 0) h.stands.stands.depths ∙ depth-shown s a.thread ∙ ap (λ (x : Thread). x.depth) acts.told
 
-  made-same : made_of (whole m ws fs) a.thread ≡ a.told.made
+  pub made-same : made_of (whole m ws fs) a.thread ≡ a.told.made
   made-same = ap (λ ks. get_or ks (a.thread - 1) 0) h.stands.stands.made ∙ made-shown s a.thread ∙ ap (λ (x : Thread). x.made) acts.told
 
   depth-seen : (n : ℕ) → Shows a (depth_at m a.thread) n → n ≡ a.told.depth
