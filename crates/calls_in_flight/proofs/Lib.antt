@@ -31,3 +31,4 @@ pub mod ViewReach
 pub mod ViewStores
 pub mod ViewPushes
 pub mod ViewMakes
+pub mod ViewFields

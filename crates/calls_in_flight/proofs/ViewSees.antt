@@ -84,7 +84,7 @@ module _ (m : Areas) (ws : List ℕ) (fs : List Flight) (s : SpaceState) (h : St
   slot-datum : (k : ℕ) → IsDatum (object_of s) (slot_told a k)
   slot-datum k = subst (IsDatum (object_of s)) (slot-same k) (slot-fits m (whole m ws fs) s h.stands a.thread k)
 
-  word-for : (d : Datum) → IsDatum (object_of s) d → IsWordFor m d (datum_word h.stands.places.at d)
+  pub word-for : (d : Datum) → IsDatum (object_of s) d → IsWordFor m d (datum_word h.stands.places.at d)
   word-for datum.Null fits = refl
   word-for (datum.Int i) fits = refl
   word-for (datum.Object n) fits =
