@@ -25,11 +25,11 @@ pub mod ViewActs
 pub mod ViewPool
 pub mod ViewWords
 pub mod ViewSees
+pub mod ViewMeets
+pub mod ViewTells
 pub mod ViewReach
 pub mod ViewStores
 pub mod ViewPushes
-pub mod ViewFields
 pub mod ViewMakes
+pub mod ViewFields
 pub mod ViewEvents
-pub mod ViewMeets
-pub mod ViewTells

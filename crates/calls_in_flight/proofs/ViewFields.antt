@@ -1,26 +1,24 @@
 -- Loads and stores of fields by a view.
-use Rattle.std.proofs.Common.{◌≡◌, ◌≢◌, ◌⊎◌, ℕ, ◌+◌, ◌*◌, ◌-◌, ◌≤◌, ◌<◌, List, [], ◌∷◌, ◌++◌, Some, None, Option, length, get_or, set, refl, sym, ap, subst, ◌∙◌, arith, inl, inr, get_or-set_same, length-append}
+use Rattle.std.proofs.Common.{◌≡◌, ◌≢◌, ℕ, ◌+◌, ◌*◌, ◌-◌, ◌<◌, List, [], ◌∷◌, ◌++◌, Some, None, Option, length, get_or, set, refl, sym, ap, subst, ◌∙◌, arith, inr, get_or-set_same, length-append}
 use Rattle.std.specs.Prelude.{MatchOption}
 use Rattle.std.specs.List.{All, Contains}
 use Rattle.std.proofs.lemmas.Bool.{cases_eq}
 use Rattle.std.proofs.lemmas.List.Elements.{All-cons, All-nil, Contains-get_or}
 use Rattle.std.proofs.Math.Logic.{⊎_elim}
-use Rattle.object_layout.specs.declared.TheConstants.{MAX_ADDRESS, MAX_DEPTH, OBJECT_WORDS}
+use Rattle.object_layout.specs.declared.TheConstants.{OBJECT_WORDS}
 use Rattle.object_layout.specs.declared.calls.Call.{Call}
 use Rattle.object_layout.specs.declared.calls.Call.TheVariants.{Load, Store}
 use Rattle.object_layout.specs.declared.headers.Header.{Header}
-use Rattle.object_layout.specs.declared.names.Name.{Name}
 use Rattle.object_layout.specs.declared.replies.Refusal.{Refusal}
 use Rattle.object_layout.specs.declared.replies.Reply.TheVariants as reply
 use Rattle.object_layout.specs.Layout.{IsHeader, header_word}
 use Rattle.heap_words.specs.declared.map.Areas.{Areas}
-use Rattle.heap_words.specs.declared.TheConstants.{STACK_SLOTS}
-use Rattle.heap_words.specs.Map.{heap_at, heap_length, total_of}
+use Rattle.heap_words.specs.Map.{heap_at, heap_length}
 use Rattle.heap_words.specs.Contents.{Contents, buffer_of, stack_of}
 use Rattle.heap_words.proofs.Contents.{buffer_of-fits, buffer_of-length_word, buffer_of-word}
 use Rattle.epoch_lattice.specs.declared.Space.{Space}
 use Rattle.epoch_lattice.specs.declared.Space.TheVariants.{Control, Region}
-use Rattle.epoch_lattice.specs.Lattice.{IsValid, space_index}
+use Rattle.epoch_lattice.specs.Lattice.{space_index}
 use Rattle.epoch_lattice.proofs.Numbers.{number-own}
 use Rattle.yak_model.specs.declared.datum.Datum.{Datum}
 use Rattle.yak_model.specs.declared.datum.Datum.TheVariants as datum
@@ -32,15 +30,15 @@ use Rattle.yak_model.specs.Recorded.{Enters}
 use Rattle.yak_model.specs.Spaces.{SpaceState, TurnsAll}
 use Rattle.yak_model.specs.State.{IsDatum, Thing, object_of, view}
 use Rattle.yak_model.specs.Stands.{Stands}
-use Rattle.yak_model.proofs.Data.{home-index, in_heap, some-of}
+use Rattle.yak_model.proofs.Data.{home-index, some-of}
 use Rattle.standing_calls.specs.Fields.{IsFieldOf}
 use Rattle.standing_calls.specs.Records.{Crosses, IsWordOf, home_at}
 use Rattle.standing_calls.proofs.Homes.{home-open, home-shown, homed, no_home, slot_value, space_told}
 use Rattle.standing_calls.proofs.Loads.{field_word}
 use Rattle.standing_calls.proofs.Told.{space-valid}
-use Rattle.calls_in_flight.specs.Actors.{Actor, HasSpace, IsAtRest, RefersTo, Shows}
+use Rattle.calls_in_flight.specs.Actors.{Actor, HasSpace, RefersTo, Shows}
 use Rattle.calls_in_flight.specs.Differing.{MayDiffer, loaded_length, loaded_slot}
-use Rattle.calls_in_flight.specs.FieldSteps.{FieldLoaded, IsLogged, IsWordFor, LoadsFrom, MayStoreField, MeetsCrossing, MeetsNone, StoresInto, crosses_not, in_control, length_loaded, no_reference, slot_loaded}
+use Rattle.calls_in_flight.specs.FieldSteps.{IsLogged, IsWordFor, LoadsFrom, MayStoreField, MeetsCrossing, MeetsNone, StoresInto, crosses_not, in_control, length_loaded, no_reference, slot_loaded}
 use Rattle.calls_in_flight.specs.Fields.{IsEntered, LoadsField, StoresField}
 use Rattle.calls_in_flight.specs.Fits.{StandInFlight}
 use Rattle.calls_in_flight.specs.Flight.{Cover, Flight, IsBare, Reading, at_rest, flight_at}
@@ -58,7 +56,7 @@ use Rattle.calls_in_flight.proofs.ViewActs.{contains-front, inside}
 use Rattle.calls_in_flight.proofs.ViewPushes.{bare-length, ends-call}
 use Rattle.calls_in_flight.proofs.ViewReach.{loads-in, stores-in}
 use Rattle.calls_in_flight.proofs.ViewSees.{sees, word-for}
-use Rattle.calls_in_flight.proofs.ViewWords.{few-told, header-same, length-told, own-in_block, shows-word, slot-shown, stood}
+use Rattle.calls_in_flight.proofs.ViewWords.{header-same, length-told, own-in_block, shows-word, slot-shown, stood}
 
 -- ---- what a reference crosses
 
@@ -167,10 +165,10 @@ module _ (m : Areas) (ws : List ℕ) (fs : List Flight) (s : SpaceState) (h : St
         slot = subst (λ u. x.from < length (stack_of c u)) (sym acts.numbered) (omega (arith, x.there, length-told m ws fs s h a acts));
         word = subst (λ u. word ≡ get_or (stack_of c u) x.from 0) (sym acts.numbered) (sym (slot-shown m ws fs s h a acts x.from word x.there x.value));
         logged = subst (λ u. (r : SpaceState) → Stands m c r → Crosses (home_at r (slot_of r.graph u x.slot)) (home_at r (slot_of r.graph u x.from)) → Contains (buffer_of c u) A) (sym acts.numbered)
-        (λ r g crosses. ⊎_elim
-        (λ (y : MeetsCrossing m a at word × IsLogged m a A). logged-in A y.1)
-        (λ (y : MeetsNone m a at word). absurd (crosses-not asked at field word x y r g crosses))
-        may.recorded);
+            (λ r g crosses. ⊎_elim
+            (λ (y : MeetsCrossing m a at word × IsLogged m a A). logged-in A y.1)
+            (λ (y : MeetsNone m a at word). absurd (crosses-not asked at field word x y r g crosses))
+            may.recorded);
       } in
       let step : IsStep m ws fs i now fs (Said t told reply.Ok ∷ []) 0 = subst (λ u. IsStep m ws fs i now fs (Said u told reply.Ok ∷ []) 0) acts.numbered (kinds.stores x.slot field x.from A word stands) in
       subst (λ (k : Call). StoresValue m ws fs s h a k at field word) (sym x.call)
@@ -234,9 +232,9 @@ module _ (m : Areas) (ws : List ℕ) (fs : List Flight) (s : SpaceState) (h : St
         reading = r.0;
         entered = subst (λ (y : Option Space). IsEntered a.thread y r.0) (sym home) r.1;
         leads = λ to e.
-        let same : at n ≡ to = omega (arith, laid, e) in
-        let has : HasSpace m (record a { lasting = lasting }) (at n) x = (length o.fields, space-valid m x h.fit.areas own, (is_header, contains-front known [])) in
-        (x, subst (λ y. HasSpace m (record a { lasting = lasting }) y x) same has, r.1);
+            let same : at n ≡ to = omega (arith, laid, e) in
+            let has : HasSpace m (record a { lasting = lasting }) (at n) x = (length o.fields, space-valid m x h.fit.areas own, (is_header, contains-front known [])) in
+            (x, subst (λ y. HasSpace m (record a { lasting = lasting }) y x) same has, r.1);
         leads_not = λ never. absurd (never (at n) laid);
       }
 
