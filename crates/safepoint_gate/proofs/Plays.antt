@@ -21,6 +21,7 @@ use Rattle.calls_in_flight.specs.Flight.{at_rest}
 use Rattle.calls_in_flight.specs.OwnStores.{MayStore, above_stack, begins, behind_buffer, counts, done_by, enters, in_object, logs, makes, marks, pops, pushes, settles, turns}
 use Rattle.calls_in_flight.specs.Steps.{logged_at}
 use Rattle.calls_in_flight.proofs.Acting.{Moves}
+use Rattle.calls_in_flight.proofs.ViewEvents.{stores_event}
 use Rattle.calls_in_flight.proofs.ViewFields as Fields
 use Rattle.calls_in_flight.proofs.ViewMeets as Met
 use Rattle.calls_in_flight.proofs.ViewPool.{claims_pool, differs-same, loads_pool, sets_reader}
@@ -250,3 +251,87 @@ module _ (m : Areas) where
       subst (λ e. Allows (Kept m) slots id (v, cs) i (λ _. n) (λ _. play.stores_field e (step slots i n 0 none) (v, cs) n)) (sym is)
       (in_plain m v map inside single (λ x. i ≡ heap_at x.map + (object + OBJECT_WORDS + field) → MayStoreField x.map (actor x) asked object field n → Allows (Kept m) slots id (x, cs) i (λ _. n) (λ _. play.stores_field (done_by asked) (step slots i n 0 none) (x, cs) n))
       (λ o. stores_field_plain slots id i n o v cs asked object field) place may)
+
+  -- ---- stores of own words that tell an event
+
+  puts_with_plain : (slots id i n : ℕ) (o : Own) (z : View) (cs : List (ℕ × Unit {0})) (asked : Call) (said : Reply) → MayStore m (actor_of o z.lasting) i n (Some (record { call = asked; reply = said; collected = false }))
+      → Allows (Kept m) slots id (plain m o z, cs) i (λ _. n) (λ _. play.puts_with (record { call = asked; reply = said; collected = false }) (step slots i n 0 none) (plain m o z, cs) n)
+  puts_with_plain slots id i n o z cs asked said may s k _ at _ =
+      let h = stands m o z s k id at in
+      let a : Actor = actor_of o z.lasting in
+      let event : Event = record { call = asked; reply = said; collected = false } in
+      let ws : List ℕ = hidden s.words in
+      let law = stores_event m ws k.underway.flights h.state h.stands a (acting m o z s k id at) i n event may in
+      let from = law.is_place.0 in
+      let p : Own = teller m o z s k id at (set ws i n) law.others asked said (at_rest o.thread) [] o.loads law.moves in (
+        after_step m z p [],
+        keeps,
+        tt,
+        told_keeps m o z s k id at i n cs from (set ws i n) (hides s.words i n from) law.others asked said (at_rest o.thread) [] o.loads law.moves,
+        (told_says m o z s k id at (set ws i n) law.others asked said (at_rest o.thread) [] o.loads law.moves, refl),
+      )
+
+  -- such an event tells of no collection
+  abbrev Alone : Option Event → Type 0
+  Alone None = Unit {0}
+  Alone (Some event) = event.collected ≡ false
+
+  store_alone : (a : Actor) (i n : ℕ) (event : Option Event) → MayStore m a i n event → Alone event
+  store_alone a _ _ _ (above_stack k word from room bare) = tt
+  store_alone a _ _ _ (behind_buffer e word shows room bare) = tt
+  store_alone a _ _ _ (in_object p j word lj bare) = tt
+  store_alone a _ _ _ (marks p bare) = tt
+  store_alone a _ _ _ (counts p bare) = tt
+  store_alone a _ _ _ (enters p claimed bare) = tt
+  store_alone a _ _ _ (turns p claimed bare) = tt
+  store_alone a _ _ _ (settles c rest covers from to) = tt
+  store_alone a _ _ _ (logs e c asked at field word shows room only place stands stores crossing) = tt
+  store_alone a _ _ _ (pushes asked c push room only place) = refl
+  store_alone a _ _ _ (pops e count rests) = refl
+  store_alone a _ _ _ (makes p made) = refl
+  store_alone a _ _ _ (begins deep rests) = refl
+
+  pub puts_with_keeps : (slots id i n : ℕ) (v : View) (cs : List (ℕ × Unit {0})) (event : Event) → v.map ≡ m → v.place ≡ Inside → length v.own ≡ 1 → MayStore v.map (actor v) i n (Some event)
+      → Allows (Kept m) slots id (v, cs) i (λ _. n) (λ _. play.puts_with event (step slots i n 0 none) (v, cs) n)
+  puts_with_keeps slots id i n v cs event map inside single =
+      in_plain m v map inside single (λ x. MayStore x.map (actor x) i n (Some event) → Allows (Kept m) slots id (x, cs) i (λ _. n) (λ _. play.puts_with event (step slots i n 0 none) (x, cs) n))
+      (λ o may. in_lone event (store_alone (actor_of o v.lasting) i n (Some event) may) (λ e. MayStore m (actor_of o v.lasting) i n (Some e) → Allows (Kept m) slots id (plain m o v, cs) i (λ _. n) (λ _. play.puts_with e (step slots i n 0 none) (plain m o v, cs) n))
+      (puts_with_plain slots id i n o v cs event.call event.reply) may)
+
+  -- ---- loads of fields
+
+  loads_field_plain : (slots id i : ℕ) (o : Own) (z : View) (cs : List (ℕ × Unit {0})) (asked : Call) (object field : ℕ) → i ≡ heap_at m + (object + OBJECT_WORDS + field) → LoadsFrom m (actor_of o z.lasting) asked object field
+      → Allows (Kept m) slots id (plain m o z, cs) i (λ n. n) (play.loads_field (done_by asked) (step slots i 0 0 none) (plain m o z, cs))
+  loads_field_plain slots id i o z cs asked object field place may s k _ at _ =
+      let h = stands m o z s k id at in
+      let a : Actor = actor_of o z.lasting in
+      let ws : List ℕ = hidden s.words in
+      let law = Fields.loads_value m ws k.underway.flights h.state h.stands a (acting m o z s k id at) asked object field may in
+      let from : 1 ≤ i = omega (arith, place, law.is_place.0) in
+      let p : Own = teller m o z s k id at ws law.others asked reply.Ok law.flight law.lasting o.loads law.moves in
+      let word : get_or ws (heap_at m + (object + OBJECT_WORDS + field)) 0 ≡ get_or s.words i 0 = ap (λ y. get_or ws y 0) (sym place) ∙ word_there s.words i from in
+      subst (λ n. Found m s id i (get_or s.words i 0) cs (λ w rest. play.loads_field (done_by asked) (step slots i 0 0 none) (plain m o z, cs) n (w, rest))) word
+      (
+        after_step m z p law.lasting,
+        keeps,
+        tt,
+        told_keeps m o z s k id at i (get_or s.words i 0) cs from ws (ap hidden (set-get_or s.words i 0)) law.others asked reply.Ok law.flight law.lasting o.loads law.moves,
+        (
+          record {
+            flight = law.flight;
+            lasting = law.lasting;
+            tells = told_says m o z s k id at ws law.others asked reply.Ok law.flight law.lasting o.loads law.moves;
+            value = law.value;
+            pushed = law.pushed;
+            loaded = law.loaded;
+          },
+          refl,
+        ),
+      )
+
+  pub loads_field_keeps : (slots id i : ℕ) (v : View) (cs : List (ℕ × Unit {0})) (event : Event) (asked : Call) (object field : ℕ) → event ≡ done_by asked → v.map ≡ m → v.place ≡ Inside → length v.own ≡ 1 → i ≡ heap_at v.map + (object + OBJECT_WORDS + field) → LoadsFrom v.map (actor v) asked object field
+      → Allows (Kept m) slots id (v, cs) i (λ n. n) (play.loads_field event (step slots i 0 0 none) (v, cs))
+  loads_field_keeps slots id i v cs event asked object field is map inside single place may =
+      subst (λ e. Allows (Kept m) slots id (v, cs) i (λ n. n) (play.loads_field e (step slots i 0 0 none) (v, cs))) (sym is)
+      (in_plain m v map inside single (λ x. i ≡ heap_at x.map + (object + OBJECT_WORDS + field) → LoadsFrom x.map (actor x) asked object field → Allows (Kept m) slots id (x, cs) i (λ n. n) (play.loads_field (done_by asked) (step slots i 0 0 none) (x, cs)))
+      (λ o. loads_field_plain slots id i o v cs asked object field) place may)

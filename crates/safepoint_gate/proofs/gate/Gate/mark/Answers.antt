@@ -11,4 +11,4 @@ fetch_or-requires c =
     let v = c.args.seat.now.me.0 in
     let map : v.map ≡ gate.table.shared.key = c.requires.gate.1 ∙ sym gate.keyed in
     let words : total_of v.map ≡ gate.table.shared.table_id.words = ap (λ (m : Areas). total_of m) c.requires.gate.1 ∙ sym gate.wide in
-    (search rules, ?)
+    (search rules, ?, ?)
