@@ -34,7 +34,7 @@ use Rattle.safepoint_gate.specs.Rule.{Kept, StandsOpen, actor_of, hidden}
 use Rattle.safepoint_gate.specs.Singles as play
 use Rattle.safepoint_gate.specs.Singles.{actor}
 use Rattle.safepoint_gate.proofs.Keeps.{St}
-use Rattle.safepoint_gate.proofs.Singly.{acting, after_step, call, few_after, flying, hides, in_lone, in_plain, kept_after, left_by, lone, mine_flying, plain, so_after, stands, stands_after, still_differs, still_keeps, still_leaves, teller, told_keeps, told_says, unmoved, word_there}
+use Rattle.safepoint_gate.proofs.Singly.{acting, after_step, call, few_after, flying, hides, in_lone, in_plain, kept_after, left_by, lone, mine_flying, plain, so_after, stands, stands_after, still_differs, still_keeps, still_leaves, teller, told_keeps, told_says, told_shows, unmoved, word_there}
 
 -- an answer at a number that was found
 abbrev Found : (m : Areas) (s : St) (id i n : ℕ) (cs : List (ℕ × Unit {0})) → ((w : View) → List (ℕ × Unit {0}) → Type 0) → Type 0
@@ -285,7 +285,7 @@ module _ (m : Areas) where
   store_alone a _ _ _ (enters p claimed bare) = tt
   store_alone a _ _ _ (turns p claimed bare) = tt
   store_alone a _ _ _ (settles c rest covers from to) = tt
-  store_alone a _ _ _ (logs e c asked at field word shows room only place stands stores crossing) = tt
+  store_alone a _ _ _ (logs e c asked at field word shows room only place stood stores crossing) = tt
   store_alone a _ _ _ (pushes asked c push room only place) = refl
   store_alone a _ _ _ (pops e count rests) = refl
   store_alone a _ _ _ (makes p made) = refl
@@ -309,6 +309,7 @@ module _ (m : Areas) where
       let law = Fields.loads_value m ws k.underway.flights h.state h.stands a (acting m o z s k id at) asked object field may in
       let from : 1 ≤ i = omega (arith, place, law.is_place.0) in
       let p : Own = teller m o z s k id at ws law.others asked reply.Ok law.flight law.lasting o.loads law.moves in
+      let shows = told_shows m o z s k id at ws law.others asked reply.Ok law.flight law.lasting o.loads law.moves in
       let word : get_or ws (heap_at m + (object + OBJECT_WORDS + field)) 0 ≡ get_or s.words i 0 = ap (λ y. get_or ws y 0) (sym place) ∙ word_there s.words i from in
       subst (λ n. Found m s id i (get_or s.words i 0) cs (λ w rest. play.loads_field (done_by asked) (step slots i 0 0 none) (plain m o z, cs) n (w, rest))) word
       (
@@ -320,9 +321,9 @@ module _ (m : Areas) where
           record {
             flight = law.flight;
             lasting = law.lasting;
-            tells = told_says m o z s k id at ws law.others asked reply.Ok law.flight law.lasting o.loads law.moves;
+            tells = shows.0;
             value = law.value;
-            pushed = law.pushed;
+            pushed = shows.1 ∙ law.pushed;
             loaded = law.loaded;
           },
           refl,

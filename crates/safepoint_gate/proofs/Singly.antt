@@ -365,6 +365,12 @@ module _ (m : Areas) (o : Own) (z : View) (s : St) (k : Kept m s) (id : ℕ) (at
         view = refl;
       }
 
+  -- and what the thread has then
+  pub told_shows : (now : List ℕ) (gs : List Flight) (asked : Call) (said : Reply) (f : Flight) (lasting loads : List Known) (v : Event_moves now gs asked said f lasting)
+      → (t : Tells (plain m o z) (event_of asked said) f lasting loads (after_step m z (teller now gs asked said f lasting loads v) lasting)) × (t.says.has ≡ thread_of v.stepped.after.graph o.thread)
+  unfolding told_says
+  told_shows now gs asked said f lasting loads v = (told_says now gs asked said f lasting loads v, refl)
+
   -- a load that leaves all as it was
   pub unmoved : (f : Flight) (lasting : List Known) → flight_at k.underway.flights (o.thread - 1) ≡ f → knowing.Knows m (hidden s.words) k.underway.flights stands.state stands.stands (o.thread - 1) lasting → LeftBy (hidden s.words) k.underway.flights stands.state stands.stands f 0 lasting
   unmoved f lasting flight knows = record {

@@ -14,5 +14,5 @@ store-requires g c =
     let map : v.map ≡ gate.table.shared.key = c.requires.gate.1 ∙ sym gate.keyed in
     let words : total_of v.map ≡ gate.table.shared.table_id.words = ap (λ (m : Areas). total_of m) c.requires.gate.1 ∙ sym gate.wide in
     let within = c.requires.field.stores.within in
-    let place : c.field-at.result ≡ heap_at v.map + (c.args.object.field-0 + OBJECT_WORDS + c.args.field) = c.field-at.ensures ∙ ap (λ (m : Areas). heap_at m + (c.args.object.field-0 + OBJECT_WORDS + c.args.field)) (sym c.requires.gate.1) in
-    (search rules, omega (arith, within, words, place), stores_field_keeps gate.table.shared.key _ _ _ _ v _ _ c.args.call c.args.object.field-0 c.args.field c.requires.picked map c.requires.inside c.requires.single place c.requires.field)
+    let place : c.field-at.result ≡ heap_at v.map + (c.args.object.0 + OBJECT_WORDS + c.args.field) = c.field-at.ensures ∙ ap (λ (m : Areas). heap_at m + (c.args.object.0 + OBJECT_WORDS + c.args.field)) (sym c.requires.gate.1) in
+    (search rules, omega (arith, within, words, place), stores_field_keeps gate.table.shared.key _ _ _ _ v _ _ c.args.call c.args.object.0 c.args.field c.requires.picked map c.requires.inside c.requires.single place c.requires.field)
