@@ -56,8 +56,7 @@ module _ (m : Areas) where
       let p : Own = flying o o.flight loads o.put in
       let l = unmoved m o z s k id at o.flight lasting (call m o z s k id at).flight_is law.knows in
       let differs : DiffersOnly m (actor_of p lasting) = differs-same m a o.flight lasting (call m o z s k id at).differs refl (λ q x. x) in
-      subst (λ n. Found m s id i (get_or s.words i 0) cs (λ w rest. play.meets (step slots i 0 0 none) (plain m o z, cs) n (w, rest))) (word_there s.words i law.is_place.0)
-      (
+      subst (λ n. Found m s id i (get_or s.words i 0) cs (λ w rest. play.meets (step slots i 0 0 none) (plain m o z, cs) n (w, rest))) (word_there s.words i law.is_place.0) (
         after_step m z p lasting,
         keeps,
         tt,
@@ -91,8 +90,7 @@ module _ (m : Areas) where
       let moves = Told.tells m ws fs h.state h.stands a (acting m o z s k id at) event tell in
       let loads : List Known = o.loads ++ record { place = i; word = get_or ws i 0 } ∷ [] in
       let p : Own = teller m o z s k id at ws fs asked said (at_rest o.thread) [] loads moves in
-      subst (λ n. Found m s id i (get_or s.words i 0) cs (λ w rest. play.meets_with event (step slots i 0 0 none) (plain m o z, cs) n (w, rest))) (word_there s.words i law.is_place.0)
-      (
+      subst (λ n. Found m s id i (get_or s.words i 0) cs (λ w rest. play.meets_with event (step slots i 0 0 none) (plain m o z, cs) n (w, rest))) (word_there s.words i law.is_place.0) (
         after_step m z p [],
         keeps,
         tt,
@@ -149,8 +147,7 @@ module _ (m : Areas) where
       let l = left_by m o z s k id at ws law.others law.flight [] 0 law.lasting law.moves in
       let leaves = still_leaves m o z s k id at ws law.others law.flight 0 law.lasting law.moves in
       let differs = still_differs m o z s k id at ws law.others law.flight loads o.put 0 law.lasting law.moves in
-      subst (λ n. Found m s id i (get_or s.words i 0) cs (λ w rest. play.loads_pool (step slots i 0 0 none) (plain m o z, cs) n (w, rest))) (word_there s.words i law.is_place.0)
-      (
+      subst (λ n. Found m s id i (get_or s.words i 0) cs (λ w rest. play.loads_pool (step slots i 0 0 none) (plain m o z, cs) n (w, rest))) (word_there s.words i law.is_place.0) (
         after_step m z (flying o law.flight loads o.put) law.lasting,
         keeps,
         tt,
@@ -185,8 +182,7 @@ module _ (m : Areas) where
       let next : ℕ = (get_or s.words CLAIM_COUNTER 0 + 1) % 2 ^ 64 in
       let is_next : next ≡ was + 1 = omega (arith, law.small, word_there s.words CLAIM_COUNTER from) in
       let loads : List Known = o.loads ++ record { place = CLAIM_COUNTER; word = was } ∷ [] in
-      subst (λ n. Found m s id CLAIM_COUNTER next cs (λ w rest. play.claims (step slots CLAIM_COUNTER 1 0 none) (plain m o z, cs) n (w, rest))) (word_there s.words CLAIM_COUNTER from)
-      (
+      subst (λ n. Found m s id CLAIM_COUNTER next cs (λ w rest. play.claims (step slots CLAIM_COUNTER 1 0 none) (plain m o z, cs) n (w, rest))) (word_there s.words CLAIM_COUNTER from) (
         after_step m z (flying o law.flight loads o.put) law.lasting,
         keeps,
         tt,
@@ -311,8 +307,7 @@ module _ (m : Areas) where
       let p : Own = teller m o z s k id at ws law.others asked reply.Ok law.flight law.lasting o.loads law.moves in
       let shows = told_shows m o z s k id at ws law.others asked reply.Ok law.flight law.lasting o.loads law.moves in
       let word : get_or ws (heap_at m + (object + OBJECT_WORDS + field)) 0 ≡ get_or s.words i 0 = ap (λ y. get_or ws y 0) (sym place) ∙ word_there s.words i from in
-      subst (λ n. Found m s id i (get_or s.words i 0) cs (λ w rest. play.loads_field (done_by asked) (step slots i 0 0 none) (plain m o z, cs) n (w, rest))) word
-      (
+      subst (λ n. Found m s id i (get_or s.words i 0) cs (λ w rest. play.loads_field (done_by asked) (step slots i 0 0 none) (plain m o z, cs) n (w, rest))) word (
         after_step m z p law.lasting,
         keeps,
         tt,
