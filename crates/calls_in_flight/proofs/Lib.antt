@@ -30,4 +30,6 @@ pub mod ViewTells
 pub mod ViewReach
 pub mod ViewStores
 pub mod ViewPushes
+pub mod ViewMakes
 pub mod ViewFields
+pub mod ViewEvents

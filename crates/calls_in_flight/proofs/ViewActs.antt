@@ -1,23 +1,23 @@
 -- What a thread that acts among the calls in flight has there, and a step of it that adds no entry.
-use Rattle.std.proofs.Common.{◌≡◌, ◌≢◌, ◌⊎◌, ◌==◌, ℕ, ◌+◌, ◌-◌, ◌≤◌, ◌<◌, List, [], ◌∷◌, length, get_or, set, zero, suc, cond, refl, sym, ap, subst, ◌∙◌, arith, inl, inr, get_or-set_same}
+use Rattle.std.proofs.Common.{◌≡◌, ◌≢◌, ◌⊎◌, ℕ, ◌+◌, ◌≤◌, ◌<◌, List, [], ◌∷◌, length, get_or, set, zero, suc, refl, sym, ap, subst, ◌∙◌, arith, inl, inr}
 use Rattle.std.specs.List.{All, Contains}
 use Rattle.std.proofs.lemmas.Bool.{cases_eq, eq-eqb, ne_eqb}
 use Rattle.std.proofs.lemmas.List.Elements.{All-contains, All-cons, All-nil, All-contains_itself}
 use Rattle.std.proofs.Math.Logic.{⊎_elim}
 use Rattle.heap_words.specs.declared.map.Areas.{Areas}
 use Rattle.heap_words.specs.declared.TheConstants.{HEAD_WORDS}
-use Rattle.heap_words.specs.Map.{HasThread, all_readers_at, block_at, block_words, heap_at, pool_at, table_at, total_of}
+use Rattle.heap_words.specs.Map.{all_readers_at, block_at, block_words, heap_at, pool_at, table_at, total_of}
 use Rattle.yak_model.specs.declared.history.Entry.{Entry}
-use Rattle.yak_model.specs.Graph.{Thread, thread_of}
+use Rattle.yak_model.specs.Graph.{thread_of}
 use Rattle.yak_model.specs.Spaces.{SpaceState}
-use Rattle.yak_model.specs.State.{State, view}
+use Rattle.yak_model.specs.State.{view}
 use Rattle.region_pages.specs.declared.TheConstants.{POOL_LENGTH}
 use Rattle.calls_in_flight.specs.Actors.{Actor, HasMet, Shows, forget, learn, met, under}
-use Rattle.calls_in_flight.specs.Differing.{DiffersOnly, MayDiffer, above_stack, behind_buffer, counted, entered, in_object, loaded_length, loaded_slot, marked, turned}
+use Rattle.calls_in_flight.specs.Differing.{MayDiffer, above_stack, behind_buffer, counted, entered, in_object, loaded_length, loaded_slot, marked, turned}
 use Rattle.calls_in_flight.specs.Fits.{StandInFlight}
-use Rattle.calls_in_flight.specs.Flight.{Cover, Flight, IsBare, at_rest, flight_at}
+use Rattle.calls_in_flight.specs.Flight.{Cover, Flight, IsBare, flight_at}
 use Rattle.calls_in_flight.specs.Kinds.{IsStep}
-use Rattle.calls_in_flight.specs.Knowing.{IsLasting, IsSteady, Known, Knows, Learns, of_object, pool_entry, pool_size}
+use Rattle.calls_in_flight.specs.Knowing.{IsLasting, IsSteady, Known, Knows, of_object, pool_entry, pool_size}
 use Rattle.calls_in_flight.specs.Owning.{IsOwn, in_block}
 use Rattle.calls_in_flight.specs.Stepped.{Stepped}
 use Rattle.calls_in_flight.specs.Whole.{laid_all, whole}
@@ -47,11 +47,13 @@ pub own-place : (m : Areas) (ws : List ℕ) (fs : List Flight) (s : SpaceState) 
 own-place m ws fs s h a p acts own =
     let li = inside m ws fs s h a acts in
     let n = named m ws fs s h.fit h.stands in
-    let holds = holds_at m ws fs s (place_of a) h.fit h.stands li in
-    (⊎_elim
-    (λ (x : (HEAD_WORDS ≤ p) × (p < pool_at m)). let r : 1 ≤ p = omega (arith, x.0) in r)
-    (λ (x : heap_at m ≤ p). let r : 1 ≤ p = omega (arith, x) in r)
-    (own-area m (whole m ws fs) (flight_at fs (place_of a)) p n holds own), own-within m (whole m ws fs) (flight_at fs (place_of a)) p n holds own)
+    let holds = holds_at m ws fs s (place_of a) h.fit h.stands li in (
+      ⊎_elim
+          (λ (x : (HEAD_WORDS ≤ p) × (p < pool_at m)). let r : 1 ≤ p = omega (arith, x.0) in r)
+          (λ (x : heap_at m ≤ p). let r : 1 ≤ p = omega (arith, x) in r)
+          (own-area m (whole m ws fs) (flight_at fs (place_of a)) p n holds own),
+      own-within m (whole m ws fs) (flight_at fs (place_of a)) p n holds own,
+    )
 
 -- ---- words that it has met
 

@@ -1,5 +1,5 @@
 -- Steps by a view on words that threads share: the pool's words, a claim, and a reader's bit.
-use Rattle.std.proofs.Common.{◌≡◌, ◌≢◌, ◌⊎◌, ℕ, ◌+◌, ◌-◌, ◌^◌, ◌≤◌, ◌<◌, List, [], ◌∷◌, ◌++◌, Some, None, length, get_or, set, bit_or, refl, sym, ap, subst, ◌∙◌, arith, inl, inr, get_or-set_same, get_or-set_other}
+use Rattle.std.proofs.Common.{◌≡◌, ◌≢◌, ℕ, ◌+◌, ◌-◌, ◌^◌, ◌≤◌, ◌<◌, List, [], ◌∷◌, None, get_or, set, bit_or, refl, sym, ap, subst, ◌∙◌, arith, inr, get_or-set_same}
 use Rattle.std.specs.List.{All, Contains}
 use Rattle.std.proofs.lemmas.Bool.{cases_eq, cases_lt}
 use Rattle.std.proofs.Math.Logic.{⊎_elim}
@@ -12,18 +12,16 @@ use Rattle.yak_model.specs.Stands.{free_pages}
 use Rattle.region_pages.specs.declared.TheConstants.{CLAIM_COUNTER, POOL_LENGTH}
 use Rattle.calls_in_flight.specs.Actors.{Actor, HasMet, learn}
 use Rattle.calls_in_flight.specs.Differing.{DiffersOnly, MayDiffer}
-use Rattle.calls_in_flight.specs.FieldSteps.{Claims, MayLoadPool, MayRead, PoolLoaded, counter, entry, size}
+use Rattle.calls_in_flight.specs.FieldSteps.{MayLoadPool, MayRead, counter, entry, size}
 use Rattle.calls_in_flight.specs.Fits.{StandInFlight}
-use Rattle.calls_in_flight.specs.Flight.{Cover, Flight, Reading, at_rest, flight_at}
+use Rattle.calls_in_flight.specs.Flight.{Flight, Reading, at_rest, flight_at}
 use Rattle.calls_in_flight.specs.Kinds.{IsStep, claims, finds, looks, misses, reads}
 use Rattle.calls_in_flight.specs.Knowing.{IsLasting, IsSteady, Known, Knows, pool_entry, pool_size}
 use Rattle.calls_in_flight.specs.Shared.{BecomesReader, ClaimsNone, ClaimsPage, FindsPage}
-use Rattle.calls_in_flight.specs.Stepped.{Stepped}
-use Rattle.calls_in_flight.specs.Whole.{claimed_in, whole}
+use Rattle.calls_in_flight.specs.Whole.{claimed_in}
 use Rattle.calls_in_flight.proofs.Acting.{Acts, ClaimsPool, IsPlace, LoadsPool, Moves, SetsReader, place_of}
 use Rattle.calls_in_flight.proofs.Claims.{head-word, page_taken}
 use Rattle.calls_in_flight.proofs.Grounds.{fit_at, free_under, under}
-use Rattle.calls_in_flight.proofs.Pools.{AreFree}
 use Rattle.std.proofs.lemmas.List.Elements.{Contains-append_right, All-contains}
 use Rattle.calls_in_flight.proofs.ViewActs.{contains-behind, contains-front, differ-kept, inside, knows-beside_put, knows-looked, lasting-area, learn-all, moves-on, word-met}
 

@@ -1,14 +1,12 @@
 -- Stores of own words by a view that tell the event of a short call: a slot more, a slot less, an epoch begun.
-use Rattle.std.proofs.Common.{◌≡◌, ◌≢◌, ℕ, ◌+◌, ◌*◌, ◌≤◌, ◌<◌, List, [], ◌∷◌, length, get_or, set, refl, sym, ap, subst, ◌∙◌, arith, get_or-set_same}
+use Rattle.std.proofs.Common.{◌≡◌, ◌≢◌, ℕ, ◌+◌, ◌<◌, List, [], ◌∷◌, length, get_or, set, refl, sym, ap, subst, ◌∙◌, arith, get_or-set_same}
 use Rattle.std.proofs.lemmas.List.Elements.{All-cons, All-nil}
 use Rattle.object_layout.specs.declared.TheConstants.{MAX_DEPTH}
 use Rattle.object_layout.specs.declared.calls.Call.{Call}
-use Rattle.object_layout.specs.declared.calls.Call.TheVariants as call
 use Rattle.object_layout.specs.declared.calls.Call.TheVariants.{Int, Null, Dup, Pop, New, Load, Store, Get, Same, Begin, End, Collect, Census}
 use Rattle.object_layout.specs.declared.replies.Reply.TheVariants.{Ok}
 use Rattle.heap_words.specs.declared.map.Areas.{Areas}
 use Rattle.heap_words.specs.declared.TheConstants.{STACK_SLOTS}
-use Rattle.heap_words.specs.Map.{block_at, block_words}
 use Rattle.heap_words.specs.Contents.{depth_of, stack_of}
 use Rattle.yak_model.specs.declared.history.Entry.{Entry}
 use Rattle.yak_model.specs.declared.history.Entry.TheVariants.{Said}

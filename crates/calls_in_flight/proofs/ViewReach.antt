@@ -1,8 +1,8 @@
 -- The field that a call of a thread reaches, as far as the thread knows.
-use Rattle.std.proofs.Common.{◌≡◌, ◌≢◌, ℕ, ◌+◌, ◌*◌, ◌≤◌, ◌<◌, Bool, true, false, cond, Some, None, List, length, get_or, leb, refl, sym, ap, subst, ◌∙◌, arith}
+use Rattle.std.proofs.Common.{◌≡◌, ℕ, ◌+◌, ◌*◌, ◌<◌, Bool, true, false, cond, Some, None, List, length, get_or, refl, sym, subst, arith}
 use Rattle.std.proofs.lemmas.Bool.{leb-false}
 use Rattle.std.specs.Prelude.{not, Option}
-use Rattle.object_layout.specs.declared.TheConstants.{HEADER_BASE, MAX_FIELDS, MAX_SPACE, OBJECT_WORDS, SPACE_UNIT}
+use Rattle.object_layout.specs.declared.TheConstants.{OBJECT_WORDS}
 use Rattle.object_layout.specs.declared.calls.Call.{Call}
 use Rattle.object_layout.specs.declared.calls.Call.TheVariants.{Load, Store}
 use Rattle.object_layout.specs.declared.headers.Header.{Header}
@@ -19,14 +19,14 @@ use Rattle.yak_model.proofs.Stacks.{stack_length}
 use Rattle.epoch_lattice.specs.Lattice.{space_index}
 use Rattle.yak_model.proofs.Data.{Tells}
 use Rattle.standing_calls.proofs.Reached.{field_found}
-use Rattle.calls_in_flight.specs.Actors.{Actor, Agrees, IsLet, RefersTo}
+use Rattle.calls_in_flight.specs.Actors.{Actor, RefersTo}
 use Rattle.calls_in_flight.specs.Fields.{IsFieldIn}
 use Rattle.calls_in_flight.specs.FieldSteps.{LoadsFrom, StoresInto}
 use Rattle.calls_in_flight.specs.Fits.{StandInFlight}
 use Rattle.calls_in_flight.specs.Flight.{Flight, flight_at}
 use Rattle.calls_in_flight.specs.Whole.{whole}
 use Rattle.calls_in_flight.proofs.Acting.{Acts, place_of}
-use Rattle.calls_in_flight.proofs.ViewWords.{length-told, same-header, slot-shown, stood}
+use Rattle.calls_in_flight.proofs.ViewWords.{length-told, slot-shown, stood}
 use Rattle.calls_in_flight.proofs.ViewSees.{sees}
 
 -- tests that fail where a call isn't refused

@@ -1,20 +1,20 @@
 -- Stores of own words by a view that tell no event.
-use Rattle.std.proofs.Common.{◌≡◌, ◌≢◌, ◌⊎◌, ℕ, ◌+◌, ◌*◌, ◌-◌, ◌≤◌, ◌<◌, List, [], ◌∷◌, Some, None, length, get_or, set, refl, sym, ap, subst, ◌∙◌, arith, inl, inr, get_or-set_same}
+use Rattle.std.proofs.Common.{◌≡◌, ◌≢◌, ℕ, ◌+◌, ◌≤◌, ◌<◌, List, [], ◌∷◌, None, get_or, set, refl, sym, ap, subst, ◌∙◌, arith, inl, inr, get_or-set_same}
 use Rattle.std.specs.List.{All, Contains}
 use Rattle.std.proofs.lemmas.List.Elements.{All-cons, All-head, All-tail, All-nil}
 use Rattle.std.proofs.Math.Logic.{⊎_elim}
 use Rattle.object_layout.specs.declared.TheConstants.{OBJECT_WORDS}
 use Rattle.object_layout.specs.declared.calls.Call.{Call}
 use Rattle.heap_words.specs.declared.map.Areas.{Areas}
-use Rattle.heap_words.specs.declared.TheConstants.{BUFFER_ENTRIES, STACK_SLOTS}
-use Rattle.heap_words.specs.Map.{HasThread, block_at, block_words, heap_at, heap_length, page_at, page_words, total_of}
+use Rattle.heap_words.specs.declared.TheConstants.{BUFFER_ENTRIES}
+use Rattle.heap_words.specs.Map.{HasThread, heap_at, page_at}
 use Rattle.heap_words.specs.Contents.{made_of}
 use Rattle.yak_model.specs.Placed.{used_mark}
 use Rattle.yak_model.specs.Spaces.{SpaceState}
 use Rattle.yak_model.specs.State.{view}
 use Rattle.region_pages.specs.declared.TheConstants.{SPACE_WORD, USED_MARK}
 use Rattle.standing_calls.proofs.Entered.{free-mark}
-use Rattle.calls_in_flight.specs.Actors.{Actor, HasMet, HoldsPage, HasOnly, Shows, learn}
+use Rattle.calls_in_flight.specs.Actors.{Actor, HoldsPage, HasOnly, Shows, learn}
 use Rattle.calls_in_flight.specs.Differing.{MayDiffer, above_stack, behind_buffer, counted, entered, in_object, loaded_length, loaded_slot, marked, turned}
 use Rattle.calls_in_flight.specs.FieldSteps.{StoresInto}
 use Rattle.calls_in_flight.specs.Fits.{StandInFlight}
@@ -76,7 +76,7 @@ module _ (m : Areas) (ws : List ℕ) (fs : List Flight) (s : SpaceState) (h : St
         others = set fs i f;
         put = 0;
         moves = moves-on m ws (set ws p w) fs (set fs i f) s h a f 0 lasting acts (kinds.lays p w f lays) (get_or-set_same fs i f (at_rest 0) li) (λ st. knows-put m ws fs (set fs i f) s h a p w 0 st acts mine)
-        (All-cons (MayDiffer m b) k a.flight.covers (differ-kept m a b k refl refl (λ q c. c) differs) (λ j d lj. differ-kept m a b (get_or a.flight.covers j d) refl refl (λ q c. c) (acts.differs j d lj)));
+            (All-cons (MayDiffer m b) k a.flight.covers (differ-kept m a b k refl refl (λ q c. c) differs) (λ j d lj. differ-kept m a b (get_or a.flight.covers j d) refl refl (λ q c. c) (acts.differs j d lj)));
         flies = record {
           lays = λ z ne. (get_or ws p 0, (λ was has. (word-met m ws fs s h a p was acts has).0), refl);
           settles = λ c rest e at. absurd (bare-head c rest p (subst (λ (ks : List Cover). IsBare ks p) e bare) at);
@@ -117,7 +117,7 @@ module _ (m : Areas) (ws : List ℕ) (fs : List Flight) (s : SpaceState) (h : St
         others = set fs i f;
         put = 0;
         moves = moves-on m ws (set ws p w) fs (set fs i f) s h a f 0 lasting acts (kinds.settles p w f settles) (get_or-set_same fs i f (at_rest 0) li) (λ st. knows-put m ws fs (set fs i f) s h a p w 0 st acts mine)
-        (λ j d lj. differ-kept m a b (get_or rest j d) refl refl (λ q x. x) (left j d lj));
+            (λ j d lj. differ-kept m a b (get_or rest j d) refl refl (λ q x. x) (left j d lj));
         flies = record {
           lays = λ bare ne. absurd (bare-head c rest p (subst (λ (ks : List Cover). IsBare ks p) e bare) refl);
           settles = λ k ks z at. ap (with_covers a.flight) (same_tail c k rest ks (sym e ∙ z));

@@ -7,4 +7,6 @@ pub mod Changing
 pub mod Closers
 pub mod Deals
 pub mod Events
+pub mod Singly
+pub mod Plays
 pub mod Dealt

@@ -1,4 +1,3 @@
-use Rattle.safepoint_gate.proofs.Flying.{times_at}
 use Rattle.std.proofs.Common.{rules}
 use Rattle.safepoint_gate.proofs.Keeps.{enters_keeps}
 use Rattle.safepoint_gate.proofs.gate.Gate.arrive.Goals as goal
