@@ -4,3 +4,5 @@ pub mod Flushed
 pub mod Rested
 pub mod Answering
 pub mod Looking
+pub mod Rooms
+pub mod Claiming
