@@ -6,3 +6,4 @@ pub mod Answering
 pub mod Looking
 pub mod Rooms
 pub mod Claiming
+pub mod Placed
