@@ -7,3 +7,4 @@ pub mod Looking
 pub mod Rooms
 pub mod Claiming
 pub mod Placed
+pub mod Entering
