@@ -8,3 +8,4 @@ pub mod Rooms
 pub mod Claiming
 pub mod Placed
 pub mod Entering
+pub mod Completing

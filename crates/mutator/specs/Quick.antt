@@ -1,11 +1,11 @@
 -- What the calls do that wait for nobody.
-use Rattle.std.specs.Prelude.{◌≡◌, ◌⊎◌, ℕ, ◌+◌, ◌≤◌, ◌<◌, List, [], ◌∷◌, ◌++◌, length, None, false}
+use Rattle.std.specs.Prelude.{◌≡◌, ◌≢◌, ◌⊎◌, ℕ, ◌+◌, ◌≤◌, ◌<◌, List, [], ◌∷◌, ◌++◌, length, None, false}
 use Rattle.object_layout.specs.declared.TheConstants.{OBJECT_WORDS}
 use Rattle.object_layout.specs.declared.calls.Call.{Call}
 use Rattle.object_layout.specs.declared.calls.Call.TheVariants.{New, Store}
 use Rattle.object_layout.specs.declared.calls.Event.{Event}
 use Rattle.object_layout.specs.declared.replies.Reply.{Reply}
-use Rattle.object_layout.specs.declared.replies.Reply.TheVariants.{Ok}
+use Rattle.object_layout.specs.declared.replies.Reply.TheVariants.{Ok, OutOfHeap}
 use Rattle.heap_words.specs.declared.TheConstants.{BUFFER_ENTRIES}
 use Rattle.heap_words.specs.Map.{page_at, page_words}
 use Rattle.yak_model.specs.Graph.{refusal_of}
@@ -56,11 +56,12 @@ ShowsFull v loads depth size =
 abbrev pub ShowsNoPage : List Known → Type 0
 ShowsNoPage loads = (size : ℕ) × (counter : ℕ) × WasLoaded loads POOL_LENGTH size × WasLoaded loads CLAIM_COUNTER counter × (size ≤ counter)
 
--- A new object with a reply: no load of the call showed that no page was left.
+-- A new object with a reply: no load of the call showed that no page was left, and the heap isn't said to be full.
 pub record AnswersNew (v : View) (fields : ℕ) (said : Reply) (w : View) : Type 0 where
   pub more : List Known
   pub answers : Answers v (New fields) said more w
   pub found : ShowsNoPage more → ⊥
+  pub not_full : said ≢ OutOfHeap
 
 -- No refusal of a new object of so many fields applies in the state that the one history leaves, and what was loaded shows that it
 -- doesn't fit the thread's current page and that no page was left. Nothing of the thread has changed.
