@@ -6,3 +6,5 @@ pub mod Answering
 pub mod Looking
 pub mod Rooms
 pub mod Claiming
+pub mod Refusing
+pub mod Asking
