@@ -9,3 +9,5 @@ pub mod Claiming
 pub mod Placed
 pub mod Entering
 pub mod Completing
+pub mod Refusing
+pub mod Asking
