@@ -75,8 +75,9 @@ fn crosses(
     let Some(target) = address(word) else {
         return false;
     };
+    let from = space_of(inside, gate, object);
     let into = space_of(inside, gate, Addr(target as u32));
-    into != Space::Control && space_of(inside, gate, object) != into
+    into != Space::Control && into != from
 }
 
 // Puts the slot of a field that must be recorded into the thread's store buffer.
