@@ -1,3 +1,5 @@
 -- Lemmas of this crate.
 pub mod StillKnown
 pub mod MovedViews
+pub mod MetSpaces
+pub mod Logging

@@ -43,6 +43,13 @@ pub with-with : (own : List Own) (f g : Flight) (loads more : List Known) (put n
 with-with [] f g loads more put now = refl
 with-with (o ∷ own) f g loads more put now = refl
 
+pub actor-lasting : (v : View) → (actor v).lasting ≡ v.lasting
+actor-lasting v = go v.own
+  where
+    go : (own : List Own) → (actor_in own v.lasting).lasting ≡ v.lasting
+    go [] = refl
+    go (o ∷ own) = refl
+
 -- where its flight stays
 pub moved-still : (v : View) (lasting loads : List Known) (put : ℕ) → actor (moved v (actor v).flight lasting loads put) ≡ record (actor v) { lasting = lasting }
 moved-still v lasting loads put = go v.own
@@ -128,20 +135,13 @@ module _ (v w : View) (p word : ℕ) (loaded : Loaded v p None word w) where
   pub loaded-actor : actor w ≡ record (actor v) { lasting = learn p word v.lasting }
   loaded-actor = loads-actor v w (record { place = p; word = word } ∷ []) (learn p word v.lasting) loaded.0
 
-  lasting-is : (actor v).lasting ≡ v.lasting
-  lasting-is = go v.own
-    where
-      go : (own : List Own) → (actor_in own v.lasting).lasting ≡ v.lasting
-      go [] = refl
-      go (o ∷ own) = refl
-
   pub loaded-word : HasMet (actor w) p word
   loaded-word = subst (λ (b : Actor). HasMet b p word) (sym loaded-actor) (learns-word p word v.lasting)
 
   pub loaded-met : (q x : ℕ) → HasMet (actor v) q x → HasMet (actor w) q x
   loaded-met q x has =
       subst (λ (b : Actor). HasMet b q x) (sym loaded-actor)
-      (learns-again p word q x v.lasting (λ was h. loaded.1.again was (subst (λ l. Has l p was) (sym lasting-is) h)) (subst (λ l. Has l q x) lasting-is has))
+      (learns-again p word q x v.lasting (λ was h. loaded.1.again was (subst (λ l. Has l p was) (sym (actor-lasting v)) h)) (subst (λ l. Has l q x) (actor-lasting v) has))
 
   pub loaded-keeps : Keeps v.map w.map (actor v) (actor w)
   loaded-keeps = loads-keep v w (record { place = p; word = word } ∷ []) (learn p word v.lasting) loaded.0 loaded-met

@@ -23,6 +23,7 @@ use Rattle.calls_in_flight.specs.declared.notes.Known.{Known}
 use Rattle.calls_in_flight.specs.Actors.{Actor, Agrees, HasHeader, HasMet, HasSpace, IsLet, RefersTo, Shows, forget, learn, met, under}
 use Rattle.calls_in_flight.specs.FieldSteps.{IsWordFor, MeetsCrossing, MeetsNone, StoresInto, crosses_not, in_control, no_reference}
 use Rattle.calls_in_flight.specs.declared.notes.Cover.{Cover}
+use Rattle.calls_in_flight.specs.declared.notes.Flight.{Flight}
 use Rattle.calls_in_flight.specs.Flight.{IsBare}
 use Rattle.calls_in_flight.specs.Seeing.{Sees, slot_told}
 use Rattle.calls_in_flight.specs.Steps.{slot_at}
@@ -149,6 +150,23 @@ keeps-more m a known more = record {
     shows : (p w : ℕ) → Shows a p w → Shows (record a { lasting = known }) p w
     shows p w (met bare has) = met bare (more p w has)
     shows p w (under stands has) = under stands has
+
+-- a thread that has stored a word beside its stack and the heap
+pub keeps-store : (m : Areas) (a : Actor) (g : Flight) (p w : ℕ) (known : List Known) → known ≡ a.lasting
+    → ((k : ℕ) → k < length a.told.stack → slot_at m a.thread k ≢ p) → ((at : ℕ) → heap_at m + at ≢ p)
+    → ((k : ℕ) → k < length a.told.stack → IsBare a.flight.covers (slot_at m a.thread k)) → ((k : ℕ) → k < length a.told.stack → IsBare g.covers (slot_at m a.thread k))
+    → Keeps m m a (record a { flight = g; lasting = learn p w known })
+keeps-store m a g p w known is slots heap bare later = record {
+  map = refl;
+  thread = refl;
+  told = refl;
+  slots = shows;
+  headers = λ at word has. learns-beside p w (heap_at m + at) word known (heap at) (subst (λ l. Has l (heap_at m + at) word) (sym is) has);
+}
+  where
+    shows : (k word : ℕ) → k < length a.told.stack → Shows a (slot_at m a.thread k) word → Shows (record a { flight = g; lasting = learn p w known }) (slot_at m a.thread k) word
+    shows k word lt (met free has) = met (later k lt) (learns-beside p w (slot_at m a.thread k) word known (slots k lt) (subst (λ l. Has l (slot_at m a.thread k) word) (sym is) has))
+    shows k word lt (under stands has) = absurd (bare k lt has.0 (record { place = slot_at m a.thread k; stands = stands; shown = word }) has.1 (ap (λ (x : Cover). x.place) has.2))
 
 -- ---- a thread of which no call is in flight
 
