@@ -3,3 +3,4 @@ pub mod StillKnown
 pub mod MovedViews
 pub mod MetSpaces
 pub mod Logging
+pub mod StoredFields

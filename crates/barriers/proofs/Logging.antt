@@ -38,7 +38,7 @@ quiet-none v quiet = ap (λ (f : Flight). f.covers) quiet
 
 -- the length of the buffer, as it was loaded
 module _ (v w : View) (n : ℕ) (quiet : IsQuiet v) (loaded : Loaded v (logged_at v.map (first_thread v.own)) None n w) where
-  more : List Known
+  abbrev more : List Known
   more = record { place = logged_at v.map (first_thread v.own); word = n } ∷ []
 
   only : OnlyLoads v more (learn (logged_at v.map (first_thread v.own)) n v.lasting) w
@@ -51,10 +51,11 @@ module _ (v w : View) (n : ℕ) (quiet : IsQuiet v) (loaded : Loaded v (logged_a
       met-shows (actor w) (logged_at w.map (actor w).thread) n (quiet-none w (loads-quiet v w more _ only quiet))
       (subst (λ p. HasMet (actor w) p n) (λ i. logged_at (sym map i) (sym thread i)) (loaded-word v w (logged_at v.map (first_thread v.own)) n loaded))
 
-  pub no-room : BUFFER_ENTRIES ≤ n → HasNoRoomToLog v w
-  no-room many =
+  pub no-room : length v.own ≡ 1 → BUFFER_ENTRIES ≤ n → HasNoRoomToLog v w
+  no-room one many =
       let shows : Shows (actor w) (logged_at w.map (first_thread w.own)) n = subst (λ t. Shows (actor w) (logged_at w.map t) n) (sym (first-actor w)) length-shows in
       let le : n ≤ BUFFER_ENTRIES = loaded.1.so.sees.logged n length-shows in
+      let few : n ≤ put_of v = subst (λ x. n ≤ x) (loads-put v w more _ only one) (loaded.1.few n shows) in
       let is : n ≡ BUFFER_ENTRIES = omega (arith, le, many) in
       record {
         more = more;
@@ -62,7 +63,7 @@ module _ (v w : View) (n : ℕ) (quiet : IsQuiet v) (loaded : Loaded v (logged_a
         view = only;
         so = loaded.1.so;
         full = subst (λ x. WasLoaded more (logged_at v.map (first_thread v.own)) x) is (zero, omega arith, refl);
-        many = omega (arith, many, loaded.1.few n shows);
+        many = subst (λ x. x ≤ put_of v) is few;
         kept = loaded-met v w (logged_at v.map (first_thread v.own)) n loaded;
       }
 

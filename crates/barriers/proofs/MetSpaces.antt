@@ -19,7 +19,7 @@ use Rattle.barriers.proofs.MovedViews.{loads-keep, loads-map, loads-none, loads-
 pub space-keeps : (v : View) (at : ℕ) (x : Space) (w : View) → MeetsSpace v at x w → Keeps v.map w.map (actor v) (actor w)
 space-keeps v at x w meets = loads-keep v w meets.more meets.lasting meets.view meets.kept
 
-loaded-left : (m : Areas) (more further : List Known) (at : ℕ) (x : Space) → LoadedSpace m more at x → LoadedSpace m (more ++ further) at x
+pub loaded-left : (m : Areas) (more further : List Known) (at : ℕ) (x : Space) → LoadedSpace m more at x → LoadedSpace m (more ++ further) at x
 loaded-left m more further at x l = (l.0, l.1, l.2, Contains-append_left more further _ l.3)
 
 loaded-right : (m : Areas) (more further : List Known) (at : ℕ) (x : Space) → LoadedSpace m further at x → LoadedSpace m (more ++ further) at x

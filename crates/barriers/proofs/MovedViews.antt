@@ -15,7 +15,10 @@ use Rattle.calls_in_flight.specs.Actors.{Actor, HasMet, learn}
 use Rattle.calls_in_flight.specs.declared.notes.Flight.{Flight}
 use Rattle.calls_in_flight.specs.Flight.{at_rest}
 use Rattle.safepoint_gate.specs.declared.rule.Own.{Own}
+use Rattle.safepoint_gate.specs.declared.gate.Gate.{Gate}
 use Rattle.safepoint_gate.specs.declared.rule.View.{View}
+use Rattle.safepoint_gate.specs.declared.seats.Inside.{Inside}
+use Rattle.safepoint_gate.specs.Seats.{IsOf}
 use Rattle.safepoint_gate.specs.Rule.{AllMine, Mine}
 use Rattle.safepoint_gate.specs.Singles.{IsQuiet, Loaded, Meets, Says, Tells, acting, actor, actor_in, loads_in, loads_of, moved, put_in, put_of, with_call}
 use Rattle.safepoint_gate.specs.Steps.{first_known, first_thread, told, with_entries}
@@ -170,11 +173,11 @@ with-mine m history (o ∷ own) f loads put mine = go
     go (suc k) x at = mine (suc k) x at
 
 -- An entry of a thread that has moved since is one from before.
-pub says-before : (v : View) (event : Event) (g : Flight) (known more : List Known) (now : ℕ) (f : Flight) (loads : List Known) (put : ℕ) (own : List Own) → Says (moved v g known more now) event f loads put own → Says v event f loads put own
+says-before : (v : View) (event : Event) (g : Flight) (known more : List Known) (now : ℕ) (f : Flight) (loads : List Known) (put : ℕ) (own : List Own) (s : Says (moved v g known more now) event f loads put own) → (r : Says v event f loads put own) × (r.before ≡ s.before) × (r.has ≡ s.has)
 says-before v event g known more now f loads put own says = go v.own says
   where
-    go : (was : List Own) → Says (acting v (with_call was g more now) known) event f loads put own → Says (acting v was v.lasting) event f loads put own
-    go [] s = record {
+    go : (was : List Own) (s : Says (acting v (with_call was g more now) known) event f loads put own) → (r : Says (acting v was v.lasting) event f loads put own) × (r.before ≡ s.before) × (r.has ≡ s.has)
+    go [] s = (record {
       has = s.has;
       known = s.known;
       history = s.history;
@@ -185,8 +188,8 @@ says-before v event g known more now f loads put own says = go v.own says
       becomes = s.becomes;
       own_is = s.own_is;
       mine = s.mine;
-    }
-    go (o ∷ was) s = record {
+    }, refl, refl)
+    go (o ∷ was) s = (record {
       has = s.has;
       known = s.known;
       history = s.history;
@@ -197,7 +200,15 @@ says-before v event g known more now f loads put own says = go v.own says
       becomes = s.becomes;
       own_is = s.own_is;
       mine = s.mine;
-    }
+    }, refl, refl)
+
+pub says-from : (v x : View) (event : Event) (g : Flight) (known more : List Known) (now : ℕ) → x ≡ moved v g known more now
+    → (f f' : Flight) (loads loads' : List Known) (put put' : ℕ) (own own' : List Own) → f' ≡ f → loads' ≡ loads → put' ≡ put → own' ≡ own
+    → (s : Says x event f' loads' put' own') → (r : Says v event f loads put own) × (r.before ≡ s.before) × (r.has ≡ s.has)
+says-from v x event g known more now is f f' loads loads' put put' own own' ef el ep eo =
+    subst (λ (y : View × Flight × List Known × ℕ × List Own). (s : Says y.0 event y.1 y.2 y.3 y.4) → (r : Says v event f loads put own) × (r.before ≡ s.before) × (r.has ≡ s.has))
+    (λ i. (sym is i, sym ef i, sym el i, sym ep i, sym eo i))
+    (says-before v event g known more now f loads put own)
 
 -- The thread moves on after its entry.
 pub says-after : (v : View) (event : Event) (f g : Flight) (loads more : List Known) (put now : ℕ) (own : List Own) → Says v event f loads put own → Says v event g more now (with_call own g more now)
@@ -213,3 +224,25 @@ says-after v event f g loads more put now own s = record {
   own_is = ap (λ (x : List Own). with_call x g more now) s.own_is ∙ with-with _ f g loads more put now;
   mine = with-mine v.map _ own g more now s.mine;
 }
+
+-- An entry that a thread told after other steps, with no call in flight then.
+module _ (v x z : View) (event : Event) (f : Flight) (more lasting : List Known) (put : ℕ) (one : length v.own ≡ 1) (is : x ≡ moved v f lasting (loads_of v ++ more) put) (known loads further : List Known) (el : loads ≡ loads_of v ++ further) (tells : Tells x event (at_rest (first_thread x.own)) known loads z) where
+  own-is : tells.own ≡ z.own
+  own-is = sym (ap (λ (y : View). y.own) tells.view)
+
+  first-is : first_thread x.own ≡ first_thread v.own
+  first-is = ap (λ (y : View). first_thread y.own) is ∙ first-with v.own f (loads_of v ++ more) put
+
+  pub told-says : (r : Says v event (at_rest (first_thread v.own)) (loads_of v ++ further) put z.own) × (r.before ≡ tells.says.before) × (r.has ≡ tells.says.has)
+  told-says =
+      says-from v x event f lasting (loads_of v ++ more) put is (at_rest (first_thread v.own)) (at_rest (first_thread x.own)) (loads_of v ++ further) loads put (put_of x) z.own tells.own
+      (ap at_rest first-is) el (ap put_of is ∙ moved-put v f lasting (loads_of v ++ more) put one) own-is tells.says
+
+  pub told-view : z ≡ acting v z.own known
+  told-view = tells.view ∙ ap (λ (y : View). acting y tells.own known) is ∙ ap (λ o. acting v o known) own-is
+
+-- ---- places of the thread of a seat
+
+pub in-block : (place : Areas → ℕ → ℕ) (inside : Inside) (gate : Gate) (m : Areas) (t p : ℕ) → p ≡ place m t → m ≡ gate.map → t ≡ inside.thread → IsOf gate inside.seat.table_id inside.seat.me.0 → p ≡ place inside.seat.me.0.map (actor inside.seat.me.0).thread
+in-block place inside gate m t p is map thread of_gate =
+    is ∙ (λ i. place ((map ∙ sym of_gate.1) i) ((thread ∙ sym inside.numbered ∙ first-actor inside.seat.me.0) i))
