@@ -1,4 +1,4 @@
-use Rattle.std.proofs.Common.{◌≡◌, ℕ, sym, ap, subst, ◌∙◌, Bool, true, false, IfErr, IfOk}
+use Rattle.std.proofs.Common.{◌≡◌, ℕ, sym, ap, subst, ◌∙◌, Bool, true, false, IfErr, Result, Ok, Err}
 use Rattle.calls_in_flight.specs.FieldSteps.{MayStoreField}
 use Rattle.calls_in_flight.specs.OwnStores.{done_by}
 use Rattle.safepoint_gate.specs.declared.rule.View.{View}
@@ -9,14 +9,17 @@ use Rattle.barriers.proofs.StoredFields.{barred_bare, barred_logged, log-full, m
 use Rattle.barriers.proofs.fields.store_barrier.Goals.{then-crosses+in_ok-record, else-crosses}
 use Rattle.barriers.proofs.fields.store_barrier.Goals as goal
 
+on_err : {A B : Type 0} (r : Result A B) (X : Type 0) → X → IfErr r (λ e. X)
+on_err (Ok a) X x = tt
+on_err (Err b) X x = x
+
 pub returns-in_err-record-clause-full : goal.returns-in_err-record-clause-full
 returns-in_err-record-clause-full c =
     let v = c.args.inside.now.seat.me.0 in
     let w = c.crosses.new.inside.seat.me.0 in
     let u = c.record.new.inside.seat.me.0 in
     let crossed = subst (λ told. Crossed v c.args.call c.args.object.0 c.args.field c.args.word told w) c.if-crosses.true c.crosses.ensures.crossed in
-    let full = log-full v w u c.args.call c.args.object.0 c.args.field c.args.word c.args.inside.now.single crossed c.in_err-record.ensures.full in
-    search (full)
+    on_err c.from_residual.result (IsLogFull v c.args.call u) (log-full v w u c.args.call c.args.object.0 c.args.field c.args.word c.args.inside.now.single crossed c.in_err-record.ensures.full)
 
 pub store_field-requires-clause-field : goal.store_field-requires-clause-field
 store_field-requires-clause-field c =
