@@ -4,3 +4,4 @@ pub mod MovedViews
 pub mod MetSpaces
 pub mod Logging
 pub mod StoredFields
+pub mod FieldsLoaded

@@ -211,8 +211,8 @@ says-from v x event g known more now is f f' loads loads' put put' own own' ef e
     (says-before v event g known more now f loads put own)
 
 -- The thread moves on after its entry.
-pub says-after : (v : View) (event : Event) (f g : Flight) (loads more : List Known) (put now : ℕ) (own : List Own) → Says v event f loads put own → Says v event g more now (with_call own g more now)
-says-after v event f g loads more put now own s = record {
+pub says-after : (v : View) (event : Event) (f g : Flight) (loads more : List Known) (put now : ℕ) (own later : List Own) → later ≡ with_call own g more now → (s : Says v event f loads put own) → (r : Says v event g more now later) × (r.before ≡ s.before) × (r.has ≡ s.has)
+says-after v event f g loads more put now own later is s = (record {
   has = s.has;
   known = s.known;
   history = s.history;
@@ -221,9 +221,30 @@ says-after v event f g loads more put now own s = record {
   leaves = s.leaves;
   was = s.was;
   becomes = s.becomes;
-  own_is = ap (λ (x : List Own). with_call x g more now) s.own_is ∙ with-with _ f g loads more put now;
-  mine = with-mine v.map _ own g more now s.mine;
-}
+  own_is = is ∙ ap (λ (x : List Own). with_call x g more now) s.own_is ∙ with-with _ f g loads more put now;
+  mine = subst (AllMine v.map _) (sym is) (with-mine v.map _ own g more now s.mine);
+}, refl, refl)
+
+-- one thread with its entry
+pub told-actor : (v : View) (more : List Entry) (has : Thread) (known : KnownObjects) (past : List Entry) (f : Flight) (loads : List Known) (put : ℕ) (lasting : List Known) → length v.own ≡ 1
+    → actor_in (with_call (told v.own more has known past) f loads put) lasting ≡ record { thread = (actor v).thread; told = has; flight = f; lasting = lasting }
+told-actor v more has known past f loads put lasting one = go v.own one
+  where
+    go : (own : List Own) → length own ≡ 1 → actor_in (with_call (told own more has known past) f loads put) lasting ≡ record { thread = (actor_in own v.lasting).thread; told = has; flight = f; lasting = lasting }
+    go [] one = absurd (omega (arith, one))
+    go (o ∷ own) one = refl
+
+pub told-length : (own : List Own) (more : List Entry) (has : Thread) (known : KnownObjects) (past : List Entry) (f : Flight) (loads : List Known) (put : ℕ) → length (with_call (told own more has known past) f loads put) ≡ length own
+told-length [] more has known past f loads put = refl
+told-length (o ∷ own) more has known past f loads put = refl
+
+pub told-loads : (own : List Own) (more : List Entry) (has : Thread) (known : KnownObjects) (past : List Entry) (f : Flight) (loads : List Known) (put : ℕ) → length own ≡ 1 → loads_in (with_call (told own more has known past) f loads put) ≡ loads
+told-loads [] more has known past f loads put one = absurd (omega (arith, one))
+told-loads (o ∷ own) more has known past f loads put one = refl
+
+pub told-put : (own : List Own) (more : List Entry) (has : Thread) (known : KnownObjects) (past : List Entry) (f : Flight) (loads : List Known) (put : ℕ) → length own ≡ 1 → put_in (with_call (told own more has known past) f loads put) ≡ put
+told-put [] more has known past f loads put one = absurd (omega (arith, one))
+told-put (o ∷ own) more has known past f loads put one = refl
 
 -- An entry that a thread told after other steps, with no call in flight then.
 module _ (v x z : View) (event : Event) (f : Flight) (more lasting : List Known) (put : ℕ) (one : length v.own ≡ 1) (is : x ≡ moved v f lasting (loads_of v ++ more) put) (known loads further : List Known) (el : loads ≡ loads_of v ++ further) (tells : Tells x event (at_rest (first_thread x.own)) known loads z) where
