@@ -1,26 +1,22 @@
 -- A field that was loaded, and what the thread has still to do then.
-use Rattle.std.proofs.Common.{◌≡◌, ◌≢◌, ℕ, ◌+◌, ◌-◌, ◌*◌, ◌≤◌, ◌<◌, List, [], ◌∷◌, ◌++◌, length, zero, suc, refl, sym, ap, subst, ◌∙◌, arith, Some, None, Option, length-append}
-use Rattle.std.specs.List.{Contains}
-use Rattle.object_layout.specs.declared.TheConstants.{MAX_FIELDS, OBJECT_WORDS, SPACE_UNIT, HEADER_BASE}
+use Rattle.std.proofs.Common.{◌≡◌, ◌≢◌, ℕ, ◌+◌, ◌*◌, List, [], ◌∷◌, ◌++◌, length, zero, refl, sym, ap, subst, ◌∙◌, arith, Some, None, Option, length-append}
 use Rattle.object_layout.specs.declared.calls.Event.{Event}
 use Rattle.object_layout.specs.declared.headers.Header.{Header}
 use Rattle.object_layout.specs.Layout.{IsHeader, header_word}
 use Rattle.heap_words.specs.declared.map.Areas.{Areas}
-use Rattle.heap_words.specs.Map.{HasRegion, heap_at, heap_length}
+use Rattle.heap_words.specs.Map.{HasRegion}
 use Rattle.epoch_lattice.specs.declared.Space.{Space}
-use Rattle.epoch_lattice.specs.declared.Space.TheVariants.{Control, Region}
+use Rattle.epoch_lattice.specs.declared.Space.TheVariants.{Region}
 use Rattle.epoch_lattice.specs.Lattice.{IsValid, space_index}
 use Rattle.epoch_lattice.specs.declared.TheConstants.{MAX_DEPTH}
 use Rattle.epoch_lattice.proofs.Numbers.{number-own}
-use Rattle.yak_model.specs.declared.datum.Datum.{Datum}
-use Rattle.yak_model.specs.Graph.{Thread}
 use Rattle.calls_in_flight.specs.declared.notes.Cover.{Cover}
 use Rattle.calls_in_flight.specs.declared.notes.Flight.{Flight}
 use Rattle.calls_in_flight.specs.declared.notes.Known.{Known}
 use Rattle.calls_in_flight.specs.declared.notes.Reading.{Reading}
 use Rattle.calls_in_flight.specs.Actors.{Actor, HasSpace, RefersTo, under}
 use Rattle.calls_in_flight.specs.Fields.{IsEntered}
-use Rattle.calls_in_flight.specs.FieldSteps.{FieldLoaded, length_loaded, slot_loaded}
+use Rattle.calls_in_flight.specs.FieldSteps.{length_loaded, slot_loaded}
 use Rattle.calls_in_flight.specs.Flight.{at_rest}
 use Rattle.calls_in_flight.specs.Steps.{slot_at, with_covers}
 use Rattle.safepoint_gate.specs.declared.rule.Own.{Own}

@@ -1,10 +1,9 @@
 -- A slot that is put into a thread's store buffer.
-use Rattle.std.proofs.Common.{◌≡◌, ◌≢◌, ℕ, ◌+◌, ◌*◌, ◌≤◌, ◌<◌, List, [], ◌∷◌, ◌++◌, length, zero, suc, refl, sym, ap, subst, ◌∙◌, arith, None}
-use Rattle.std.specs.List.{Contains}
+use Rattle.std.proofs.Common.{◌≡◌, ◌≢◌, ℕ, ◌+◌, ◌≤◌, ◌<◌, List, [], ◌∷◌, ◌++◌, length, zero, suc, refl, sym, ap, subst, ◌∙◌, arith, None}
 use Rattle.object_layout.specs.declared.TheConstants.{OBJECT_WORDS}
 use Rattle.object_layout.specs.declared.calls.Call.{Call}
 use Rattle.heap_words.specs.declared.map.Areas.{Areas}
-use Rattle.heap_words.specs.declared.TheConstants.{BUFFER_ENTRIES, STACK_SLOTS}
+use Rattle.heap_words.specs.declared.TheConstants.{BUFFER_ENTRIES}
 use Rattle.heap_words.specs.Map.{HasThread, heap_at}
 use Rattle.calls_in_flight.specs.declared.notes.Cover.{Cover}
 use Rattle.calls_in_flight.specs.declared.notes.Flight.{Flight}
@@ -20,7 +19,7 @@ use Rattle.safepoint_gate.specs.Steps.{first_thread}
 use Rattle.barriers.specs.Barred.{HasLogged, HasNoRoomToLog, OnlyLoads}
 use Rattle.barriers.specs.Shown.{WasLoaded}
 use Rattle.barriers.proofs.StillKnown.{Has, Keeps, keeps-crossing, keeps-store, keeps-stores, learns-beside, learns-word, met-shows, shows-met}
-use Rattle.barriers.proofs.MovedViews.{actor-lasting, first-actor, first-with, length-with, loaded-met, loaded-word, loads-first, loads-loads, loads-map, loads-one, loads-put, loads-quiet, moved-actor, moved-loads, moved-moved, moved-put}
+use Rattle.barriers.proofs.MovedViews.{actor-lasting, first-actor, length-with, loaded-met, loaded-word, loads-first, loads-loads, loads-map, loads-put, loads-quiet, moved-actor, moved-loads, moved-moved, moved-put}
 
 -- no call in flight covers a place
 pub none-bare : (p : ℕ) → IsBare [] p

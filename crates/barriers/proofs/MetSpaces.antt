@@ -1,5 +1,5 @@
 -- The spaces of objects by headers that a thread has loaded.
-use Rattle.std.proofs.Common.{◌≡◌, ◌≢◌, ℕ, ◌+◌, ◌*◌, ◌<◌, List, [], ◌∷◌, ◌++◌, length, refl, sym, ap, subst, ◌∙◌, Bool, true, false}
+use Rattle.std.proofs.Common.{◌≡◌, ◌≢◌, ℕ, ◌+◌, ◌*◌, List, [], ◌++◌, subst, Bool, true, false}
 use Rattle.std.proofs.lemmas.Bool.{false≢true}
 use Rattle.std.proofs.lemmas.List.Elements.{Contains-append_left, Contains-append_right}
 use Rattle.object_layout.specs.declared.calls.Call.{Call}
@@ -8,10 +8,10 @@ use Rattle.epoch_lattice.specs.declared.Space.{Space}
 use Rattle.yak_model.specs.Recorded.{Enters}
 use Rattle.calls_in_flight.specs.declared.notes.Known.{Known}
 use Rattle.calls_in_flight.specs.Actors.{RefersTo}
-use Rattle.calls_in_flight.specs.FieldSteps.{MeetsCrossing, MeetsNone, StoresInto, crosses_not, no_reference}
+use Rattle.calls_in_flight.specs.FieldSteps.{StoresInto, crosses_not, no_reference}
 use Rattle.safepoint_gate.specs.declared.rule.View.{View}
 use Rattle.safepoint_gate.specs.Singles.{actor}
-use Rattle.barriers.specs.Barred.{Crossed, LoadsCross, MeetsSpace}
+use Rattle.barriers.specs.Barred.{Crossed, MeetsSpace}
 use Rattle.barriers.specs.Shown.{LoadedSpace}
 use Rattle.barriers.proofs.StillKnown.{Keeps, keeps-space, keeps-stores, refers-to}
 use Rattle.barriers.proofs.MovedViews.{loads-keep, loads-map, loads-none, loads-then}
@@ -58,28 +58,31 @@ module _ (v u w : View) (asked : Call) (at field word to : ℕ) (x y : Space) (s
       lasting = two.lasting;
       view = loads-then v u w one.more two.more one.lasting two.lasting one.view two.view;
       stores = stores;
-      crossing = λ t. (record {
-        to = to;
-        leads = e;
-        x = x;
-        y = y;
-        «from» = keeps-space u.map w.map (actor u) (actor w) keeps at x one.space;
-        into = two.space;
-        crosses = enters t;
-      }, record {
-        slot = stores.slot;
-        field = field;
-        «from» = stores.from;
-        call = stores.call;
-        at = at;
-        to = to;
-        refers = stores.refers;
-        leads = refers-to w.map (actor w) two.so.state two.so.sees stores.from to word stores.there stores.value e;
-        x = x;
-        y = y;
-        header = loaded-left v.map one.more two.more at x one.shown;
-        other = loaded-right v.map one.more two.more to y (subst (λ (m : Areas). LoadedSpace m two.more to y) (loads-map v u one.more one.lasting one.view) two.shown);
-        crosses = enters t;
-      });
+      crossing = λ t. (
+        record {
+          to = to;
+          leads = e;
+          x = x;
+          y = y;
+          «from» = keeps-space u.map w.map (actor u) (actor w) keeps at x one.space;
+          into = two.space;
+          crosses = enters t;
+        },
+        record {
+          slot = stores.slot;
+          field = field;
+          «from» = stores.from;
+          call = stores.call;
+          at = at;
+          to = to;
+          refers = stores.refers;
+          leads = refers-to w.map (actor w) two.so.state two.so.sees stores.from to word stores.there stores.value e;
+          x = x;
+          y = y;
+          header = loaded-left v.map one.more two.more at x one.shown;
+          other = loaded-right v.map one.more two.more to y (subst (λ (m : Areas). LoadedSpace m two.more to y) (loads-map v u one.more one.lasting one.view) two.shown);
+          crosses = enters t;
+        },
+      );
       none = λ t. crosses_not to x y e (keeps-space u.map w.map (actor u) (actor w) keeps at x one.space) two.space (never t);
     }

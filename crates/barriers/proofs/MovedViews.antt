@@ -1,14 +1,11 @@
 -- Views of a seat whose thread makes single steps.
-use Rattle.std.proofs.Common.{◌≡◌, ◌≢◌, ℕ, ◌+◌, ◌≤◌, ◌<◌, List, [], ◌∷◌, ◌++◌, length, zero, suc, refl, sym, ap, subst, ◌∙◌, arith, append-nil, Some, None, Option}
-use Rattle.std.specs.List.{Contains}
+use Rattle.std.proofs.Common.{◌≡◌, ℕ, List, [], ◌∷◌, ◌++◌, length, zero, suc, refl, sym, ap, subst, ◌∙◌, arith, append-nil, None}
 use Rattle.std.proofs.lemmas.List.{append_assoc}
-use mathlib.Core.Option.{none, some, some-injective, some-ne-none}
-use lib.ListN.{get_elem?}
+use mathlib.Core.Option.{some-injective}
 use Rattle.object_layout.specs.declared.calls.Event.{Event}
 use Rattle.heap_words.specs.declared.map.Areas.{Areas}
-use Rattle.yak_model.specs.Continued.{entries_told}
 use Rattle.yak_model.specs.declared.history.Entry.{Entry}
-use Rattle.yak_model.specs.Graph.{Thread, idle}
+use Rattle.yak_model.specs.Graph.{Thread}
 use Rattle.yak_model.specs.Private.{KnownObjects}
 use Rattle.calls_in_flight.specs.declared.notes.Known.{Known}
 use Rattle.calls_in_flight.specs.Actors.{Actor, HasMet, learn}
@@ -20,8 +17,8 @@ use Rattle.safepoint_gate.specs.declared.rule.View.{View}
 use Rattle.safepoint_gate.specs.declared.seats.Inside.{Inside}
 use Rattle.safepoint_gate.specs.Seats.{IsOf}
 use Rattle.safepoint_gate.specs.Rule.{AllMine, Mine}
-use Rattle.safepoint_gate.specs.Singles.{IsQuiet, Loaded, Meets, Says, Tells, acting, actor, actor_in, loads_in, loads_of, moved, put_in, put_of, with_call}
-use Rattle.safepoint_gate.specs.Steps.{first_known, first_thread, told, with_entries}
+use Rattle.safepoint_gate.specs.Singles.{IsQuiet, Loaded, Says, Tells, acting, actor, actor_in, loads_in, loads_of, moved, put_in, put_of, with_call}
+use Rattle.safepoint_gate.specs.Steps.{first_thread, told}
 use Rattle.barriers.specs.Barred.{OnlyLoads}
 use Rattle.barriers.proofs.StillKnown.{Has, Keeps, keeps-more, learns-again, learns-word}
 
@@ -177,30 +174,38 @@ says-before : (v : View) (event : Event) (g : Flight) (known more : List Known) 
 says-before v event g known more now f loads put own says = go v.own says
   where
     go : (was : List Own) (s : Says (acting v (with_call was g more now) known) event f loads put own) → (r : Says (acting v was v.lasting) event f loads put own) × (r.before ≡ s.before) × (r.has ≡ s.has)
-    go [] s = (record {
-      has = s.has;
-      known = s.known;
-      history = s.history;
-      before = s.before;
-      lawful = s.lawful;
-      leaves = s.leaves;
-      was = s.was;
-      becomes = s.becomes;
-      own_is = s.own_is;
-      mine = s.mine;
-    }, refl, refl)
-    go (o ∷ was) s = (record {
-      has = s.has;
-      known = s.known;
-      history = s.history;
-      before = s.before;
-      lawful = s.lawful;
-      leaves = s.leaves;
-      was = mine-with v.map s.history (o ∷ was) g more now s.was;
-      becomes = s.becomes;
-      own_is = s.own_is;
-      mine = s.mine;
-    }, refl, refl)
+    go [] s = (
+      record {
+        has = s.has;
+        known = s.known;
+        history = s.history;
+        before = s.before;
+        lawful = s.lawful;
+        leaves = s.leaves;
+        was = s.was;
+        becomes = s.becomes;
+        own_is = s.own_is;
+        mine = s.mine;
+      },
+      refl,
+      refl,
+    )
+    go (o ∷ was) s = (
+      record {
+        has = s.has;
+        known = s.known;
+        history = s.history;
+        before = s.before;
+        lawful = s.lawful;
+        leaves = s.leaves;
+        was = mine-with v.map s.history (o ∷ was) g more now s.was;
+        becomes = s.becomes;
+        own_is = s.own_is;
+        mine = s.mine;
+      },
+      refl,
+      refl,
+    )
 
 pub says-from : (v x : View) (event : Event) (g : Flight) (known more : List Known) (now : ℕ) → x ≡ moved v g known more now
     → (f f' : Flight) (loads loads' : List Known) (put put' : ℕ) (own own' : List Own) → f' ≡ f → loads' ≡ loads → put' ≡ put → own' ≡ own
@@ -212,18 +217,22 @@ says-from v x event g known more now is f f' loads loads' put put' own own' ef e
 
 -- The thread moves on after its entry.
 pub says-after : (v : View) (event : Event) (f g : Flight) (loads more : List Known) (put now : ℕ) (own later : List Own) → later ≡ with_call own g more now → (s : Says v event f loads put own) → (r : Says v event g more now later) × (r.before ≡ s.before) × (r.has ≡ s.has)
-says-after v event f g loads more put now own later is s = (record {
-  has = s.has;
-  known = s.known;
-  history = s.history;
-  before = s.before;
-  lawful = s.lawful;
-  leaves = s.leaves;
-  was = s.was;
-  becomes = s.becomes;
-  own_is = is ∙ ap (λ (x : List Own). with_call x g more now) s.own_is ∙ with-with _ f g loads more put now;
-  mine = subst (AllMine v.map _) (sym is) (with-mine v.map _ own g more now s.mine);
-}, refl, refl)
+says-after v event f g loads more put now own later is s = (
+  record {
+    has = s.has;
+    known = s.known;
+    history = s.history;
+    before = s.before;
+    lawful = s.lawful;
+    leaves = s.leaves;
+    was = s.was;
+    becomes = s.becomes;
+    own_is = is ∙ ap (λ (x : List Own). with_call x g more now) s.own_is ∙ with-with _ f g loads more put now;
+    mine = subst (AllMine v.map _) (sym is) (with-mine v.map _ own g more now s.mine);
+  },
+  refl,
+  refl,
+)
 
 -- one thread with its entry
 pub told-actor : (v : View) (more : List Entry) (has : Thread) (known : KnownObjects) (past : List Entry) (f : Flight) (loads : List Known) (put : ℕ) (lasting : List Known) → length v.own ≡ 1

@@ -1,12 +1,11 @@
 -- What a thread still knows after a step that loses nothing of its stack and of the headers that it has met.
-use Rattle.std.proofs.Common.{◌≡◌, ◌≢◌, ◌⊎◌, ◌==◌, ℕ, ◌+◌, ◌*◌, ◌≤◌, ◌<◌, List, [], ◌∷◌, length, get_or, zero, suc, cond, refl, sym, ap, subst, ◌∙◌, arith, Some, None, Option}
-use Rattle.std.specs.List.{All, Contains}
+use Rattle.std.proofs.Common.{◌≡◌, ◌≢◌, ℕ, ◌+◌, ◌*◌, ◌<◌, List, [], ◌∷◌, length, get_or, zero, suc, refl, sym, ap, subst, ◌∙◌, arith, Some, None, Option}
+use Rattle.std.specs.List.{Contains}
 use Rattle.std.specs.Prelude.{slice_index_or}
 use Rattle.std.proofs.lemmas.Bool.{cases_eq, eq-eqb, ne_eqb}
 use Rattle.std.proofs.Math.Logic.{⊎_elim}
 use Rattle.object_layout.specs.declared.TheConstants.{OBJECT_WORDS}
 use Rattle.object_layout.specs.declared.calls.Call.{Call}
-use Rattle.object_layout.specs.declared.calls.Call.TheVariants.{Store}
 use Rattle.object_layout.specs.declared.headers.Header.{Header}
 use Rattle.object_layout.specs.Layout.{header_word}
 use Rattle.heap_words.specs.declared.map.Areas.{Areas}
@@ -16,7 +15,6 @@ use Rattle.epoch_lattice.specs.declared.Space.TheVariants.{Control}
 use Rattle.yak_model.specs.declared.datum.Datum.{Datum}
 use Rattle.yak_model.specs.declared.datum.Datum.TheVariants as datum
 use Rattle.yak_model.specs.Graph.{Graph, IsThread, Thread, fields_at, refusal_of, slot_of, thread_of}
-use Rattle.yak_model.specs.Recorded.{Enters}
 use Rattle.yak_model.specs.Spaces.{SpaceState}
 use Rattle.standing_calls.specs.Records.{Crosses, home_at}
 use Rattle.calls_in_flight.specs.declared.notes.Known.{Known}

@@ -1,18 +1,16 @@
 -- A field that is stored after the headers of the two objects were loaded.
-use Rattle.std.proofs.Common.{◌≡◌, ◌⊎◌, ℕ, ◌+◌, ◌≤◌, ◌<◌, List, [], ◌∷◌, ◌++◌, length, refl, sym, ap, subst, ◌∙◌, arith, true, false, inl, inr, None, Some}
+use Rattle.std.proofs.Common.{◌≡◌, ℕ, ◌+◌, ◌≤◌, ◌<◌, List, [], ◌++◌, length, refl, sym, ap, subst, ◌∙◌, true, false, inl, inr, None}
 use Rattle.std.proofs.lemmas.List.{append_assoc}
 use Rattle.std.proofs.lemmas.List.Elements.{Contains-append_right}
-use Rattle.object_layout.specs.declared.TheConstants.{OBJECT_WORDS}
 use Rattle.object_layout.specs.declared.calls.Call.{Call}
 use Rattle.object_layout.specs.declared.replies.Reply.TheVariants.{Ok}
-use Rattle.heap_words.specs.declared.map.Areas.{Areas}
 use Rattle.heap_words.specs.declared.TheConstants.{BUFFER_ENTRIES}
 use Rattle.yak_model.specs.Graph.{refusal_of}
 use Rattle.yak_model.specs.Spaces.{SpaceState}
 use Rattle.calls_in_flight.specs.declared.notes.Flight.{Flight}
 use Rattle.calls_in_flight.specs.declared.notes.Known.{Known}
 use Rattle.calls_in_flight.specs.Actors.{Actor}
-use Rattle.calls_in_flight.specs.FieldSteps.{MayStoreField, MeetsCrossing, MeetsNone, StoresInto}
+use Rattle.calls_in_flight.specs.FieldSteps.{MayStoreField, MeetsCrossing, StoresInto}
 use Rattle.calls_in_flight.specs.Flight.{at_rest}
 use Rattle.calls_in_flight.specs.OwnStores.{done_by}
 use Rattle.calls_in_flight.specs.Steps.{logged_at}

@@ -1,23 +1,21 @@
 -- What the barriers tell.
-use Rattle.std.specs.Prelude.{◌≡◌, ◌⊎◌, ℕ, ◌+◌, ◌*◌, ◌≤◌, ◌<◌, List, [], ◌∷◌, ◌++◌, length, Bool, true, false, None, IfErr, IfOk, Result}
+use Rattle.std.specs.Prelude.{◌≡◌, ℕ, ◌+◌, ◌≤◌, ◌<◌, List, [], ◌∷◌, ◌++◌, Bool, true, false, None}
 use Rattle.object_layout.specs.declared.TheConstants.{OBJECT_WORDS}
 use Rattle.object_layout.specs.declared.calls.Call.{Call}
 use Rattle.object_layout.specs.declared.calls.Call.TheVariants.{Store}
 use Rattle.object_layout.specs.declared.calls.Event.{Event}
-use Rattle.object_layout.specs.declared.errors.LogFull.{LogFull}
 use Rattle.object_layout.specs.declared.replies.Reply.TheVariants.{Ok}
 use Rattle.heap_words.specs.declared.TheConstants.{BUFFER_ENTRIES}
 use Rattle.epoch_lattice.specs.declared.Space.{Space}
 use Rattle.yak_model.specs.declared.datum.Datum.{Datum}
 use Rattle.yak_model.specs.Graph.{refusal_of}
 use Rattle.yak_model.specs.Recorded.{Enters}
-use Rattle.calls_in_flight.specs.declared.notes.Flight.{Flight}
 use Rattle.calls_in_flight.specs.declared.notes.Known.{Known}
 use Rattle.calls_in_flight.specs.Actors.{HasMet, HasSpace, RefersTo}
 use Rattle.calls_in_flight.specs.FieldSteps.{IsLogged, IsWordFor, MeetsCrossing, MeetsNone, StoresInto, length_loaded, slot_loaded}
 use Rattle.calls_in_flight.specs.Flight.{at_rest}
 use Rattle.calls_in_flight.specs.OwnStores.{done_by}
-use Rattle.calls_in_flight.specs.Steps.{logged_at, slot_at, with_covers}
+use Rattle.calls_in_flight.specs.Steps.{logged_at, with_covers}
 use Rattle.safepoint_gate.specs.declared.rule.View.{View}
 use Rattle.safepoint_gate.specs.Singles.{IsSo, Says, acting, actor, loads_of, moved, put_of}
 use Rattle.safepoint_gate.specs.Steps.{first_thread}

@@ -1,7 +1,6 @@
-use Rattle.std.proofs.Common.{rules, ◌≡◌, ◌≢◌, ℕ, ◌+◌, ◌*◌, ◌<◌, ap, sym, subst, refl, arith}
+use Rattle.std.proofs.Common.{rules, ◌<◌, subst, arith}
 use Rattle.heap_words.specs.declared.map.Areas.{Areas}
 use Rattle.heap_words.specs.Map.{heap_length}
-use Rattle.safepoint_gate.specs.Singles.{actor}
 use Rattle.barriers.proofs.MetSpaces.{crossed, leads-to, none-crosses}
 use Rattle.barriers.proofs.fields.crosses.Goals as goal
 

@@ -1,4 +1,4 @@
-use Rattle.std.proofs.Common.{◌≡◌, ◌≢◌, ℕ, sym, ap, subst, ◌∙◌}
+use Rattle.std.proofs.Common.{◌≡◌, ℕ, sym, ◌∙◌}
 use Rattle.calls_in_flight.specs.OwnStores.{done_by}
 use Rattle.safepoint_gate.specs.declared.seats.Inside.{Inside}
 use Rattle.safepoint_gate.specs.Singles.{actor}

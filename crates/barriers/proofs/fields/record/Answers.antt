@@ -1,12 +1,10 @@
-use Rattle.std.proofs.Common.{◌≡◌, ℕ, ◌+◌, ◌<◌, ◌∙◌, refl, sym, ap, subst, arith, None, List, [], ◌∷◌}
+use Rattle.std.proofs.Common.{◌≡◌, ℕ, ◌+◌, ◌∙◌, sym, ap, subst, arith, None, []}
 use Rattle.object_layout.specs.declared.TheConstants.{OBJECT_WORDS}
-use Rattle.heap_words.specs.declared.map.Areas.{Areas}
 use Rattle.calls_in_flight.specs.OwnStores.{MayStore}
 use Rattle.calls_in_flight.specs.Steps.{entry_at, logged_at}
 use Rattle.safepoint_gate.specs.Singles.{Loaded, Stored, actor}
-use Rattle.safepoint_gate.specs.Steps.{first_thread}
 use Rattle.barriers.proofs.StillKnown.{keeps-crossing, keeps-stores, learns-word}
-use Rattle.barriers.proofs.MovedViews.{first-actor, in-block, loaded-keeps, loads-one, loads-quiet}
+use Rattle.barriers.proofs.MovedViews.{first-actor, in-block, loaded-keeps, loads-quiet}
 use Rattle.barriers.proofs.Logging.{has-logged, length-shows, may-fill, may-log, no-room}
 use Rattle.barriers.proofs.fields.record.Goals as goal
 

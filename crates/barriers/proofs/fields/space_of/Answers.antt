@@ -1,13 +1,12 @@
-use Rattle.std.proofs.Common.{◌≡◌, ℕ, ◌+◌, ◌∙◌, refl, sym, ap, subst, List, [], ◌∷◌, Some}
+use Rattle.std.proofs.Common.{◌≡◌, ℕ, ◌+◌, ◌∙◌, sym, ap, subst, [], ◌∷◌}
 use Rattle.object_layout.specs.declared.headers.Header.{Header}
 use Rattle.object_layout.specs.Layout.{IsHeader, header_word}
 use Rattle.heap_words.specs.declared.map.Areas.{Areas}
 use Rattle.heap_words.specs.Map.{heap_at}
 use Rattle.calls_in_flight.specs.Actors.{HasMet, learn}
-use Rattle.calls_in_flight.specs.declared.notes.Known.{Known}
 use Rattle.safepoint_gate.specs.Singles.{actor}
 use Rattle.barriers.proofs.StillKnown.{Has, keeps-refers, learns-word}
-use Rattle.barriers.proofs.MovedViews.{loaded-actor, loaded-keeps, loaded-met, loaded-word, loads-map}
+use Rattle.barriers.proofs.MovedViews.{loaded-keeps, loaded-met, loaded-word}
 use Rattle.barriers.proofs.fields.space_of.Goals as goal
 
 pub unreachable-requires : goal.unreachable-requires
@@ -20,7 +19,7 @@ unreachable-requires c =
     let keeps = loaded-keeps v w p word loaded in
     let refers = keeps-refers v.map w.map (actor v) (actor w) keeps c.requires.refers.0 c.args.object.0 c.requires.refers.1 in
     let header = loaded.1.so.sees.headers c.requires.refers.0 c.args.object.0 word refers
-        (subst (λ (m : Areas). HasMet (actor w) (heap_at m + c.args.object.0) word) (sym keeps.map) (loaded-word v w p word loaded)) in
+    (subst (λ (m : Areas). HasMet (actor w) (heap_at m + c.args.object.0) word) (sym keeps.map) (loaded-word v w p word loaded)) in
     (rw c.in_default.is at c.decode_header.ensures.some) (record { fields = header.fields; space = _ }) header.header (sym header.is_word)
 
 pub returns-clause-space : goal.returns-clause-space
@@ -41,8 +40,14 @@ returns-clause-space c =
       lasting = learn p word v.lasting;
       view = loaded.0;
       so = loaded.1.so;
-      space = (h.fields, valid, (subst IsHeader same c.in-Some.ensures.some.0,
-        subst (λ (x : ℕ × ℕ). HasMet (actor w) x.0 x.1) (λ i. (ap (λ (m : Areas). heap_at m + c.args.object.0) (sym keeps.map) i, is i)) (loaded-word v w p word loaded)));
+      space = (
+        h.fields,
+        valid,
+        (
+          subst IsHeader same c.in-Some.ensures.some.0,
+          subst (λ (x : ℕ × ℕ). HasMet (actor w) x.0 x.1) (λ i. (ap (λ (m : Areas). heap_at m + c.args.object.0) (sym keeps.map) i, is i)) (loaded-word v w p word loaded),
+        ),
+      );
       shown = (h.fields, valid, subst IsHeader same c.in-Some.ensures.some.0, subst (λ n. Has (record { place = p; word = word } ∷ []) p n) is (learns-word p word []));
       kept = loaded-met v w p word loaded;
     }

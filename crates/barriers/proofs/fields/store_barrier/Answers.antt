@@ -1,10 +1,9 @@
-use Rattle.std.proofs.Common.{◌≡◌, ℕ, sym, ap, subst, ◌∙◌, Bool, true, false, IfErr, Result, Ok, Err}
+use Rattle.std.proofs.Common.{sym, subst, IfErr, Result, Ok, Err}
 use Rattle.calls_in_flight.specs.FieldSteps.{MayStoreField}
 use Rattle.calls_in_flight.specs.OwnStores.{done_by}
-use Rattle.safepoint_gate.specs.declared.rule.View.{View}
 use Rattle.safepoint_gate.specs.declared.seats.Inside.{Inside}
 use Rattle.safepoint_gate.specs.Singles.{StoredField, actor}
-use Rattle.barriers.specs.Barred.{Crossed, HasLogged, HasNoRoomToLog, IsLogFull, StoreBarred}
+use Rattle.barriers.specs.Barred.{Crossed, IsLogFull}
 use Rattle.barriers.proofs.StoredFields.{barred_bare, barred_logged, log-full, may-store_bare, may-store_logged}
 use Rattle.barriers.proofs.fields.store_barrier.Goals.{then-crosses+in_ok-record, else-crosses}
 use Rattle.barriers.proofs.fields.store_barrier.Goals as goal
@@ -27,7 +26,7 @@ store_field-requires-clause-field c =
     let w = c.crosses.new.inside.seat.me.0 in
     let one = c.args.inside.now.single in
     elim c.if-crosses.branch [
-      then-crosses+in_ok-record b ↦
+      | then-crosses+in_ok-record b ↦
           subst (λ (i : Inside). MayStoreField i.seat.me.0.map (actor i.seat.me.0) c.args.call c.args.object.0 c.args.field c.args.word) (sym b.inside-is)
           (may-store_logged v w b.record.new.inside.seat.me.0 c.args.call c.args.object.0 c.args.field c.args.word one
           (subst (λ told. Crossed v c.args.call c.args.object.0 c.args.field c.args.word told w) b.if-crosses.true c.crosses.ensures.crossed)
@@ -46,7 +45,7 @@ returns-clause-stored c =
     let z = c.store_field.new.self.seat.me.0 in
     let one = c.args.inside.now.single in
     elim c.if-crosses.branch [
-      then-crosses+in_ok-record b ↦
+      | then-crosses+in_ok-record b ↦
           barred_logged v w b.record.new.inside.seat.me.0 c.args.call c.args.object.0 c.args.field c.args.word one
           (subst (λ told. Crossed v c.args.call c.args.object.0 c.args.field c.args.word told w) b.if-crosses.true c.crosses.ensures.crossed)
           c.crosses.new.inside.single b.in_ok-record.ensures.logged z
