@@ -9,6 +9,7 @@ use Rattle.object_layout.specs.declared.headers.Header.{Header}
 use Rattle.object_layout.specs.declared.replies.Refusal.{Refusal}
 use Rattle.object_layout.specs.declared.replies.Reply.{Reply}
 use Rattle.object_layout.specs.declared.replies.Reply.TheVariants.{Refused}
+use Rattle.object_layout.specs.Calls.{IsCall}
 use Rattle.object_layout.specs.Layout.{IsHeader, header_word}
 use Rattle.heap_words.specs.declared.map.Areas.{Areas}
 use Rattle.heap_words.specs.Map.{block_at, block_words, heap_at, heap_length, max_depth, page_at, page_words}
@@ -114,6 +115,7 @@ IsQuick asked = Unit {0}
 
 -- A load may tell the entry of this event: a call that only shows something, or a refusal.
 pub record MayTell (m : Areas) (a : Actor) (event : Event) : Type 0 where
+  pub number : IsCall event.call
   pub quick : IsQuick event.call
   pub alone : event.collected ≡ false
   pub idle : IsIdle event.call event.reply

@@ -1,9 +1,13 @@
 //! Calls that wait for nobody, on a seat that is inside.
-ghost use Rattle.std.specs.Prelude.{◌≡◌, ◌≤◌};
+ghost use Rattle.std.specs.Prelude.{◌≡◌, ◌≤◌, ◌∷◌, [], ℕ, None, length};
 ghost use Rattle.object_layout.specs.declared.TheConstants.{MAX_INT};
+ghost use Rattle.object_layout.specs.declared.replies.Reply.TheVariants as the_reply;
+ghost use Rattle.calls_in_flight.specs.Actors.{MayLoad, MayTell};
+ghost use Rattle.calls_in_flight.specs.Steps.{length_at};
 ghost use Rattle.safepoint_gate.specs.Seats.{IsOf};
-ghost use Rattle.safepoint_gate.specs.Singles.{IsQuiet};
-ghost use Rattle.mutator.specs.Quick.{Answered, told_by};
+ghost use Rattle.safepoint_gate.specs.Steps.{first_thread};
+ghost use Rattle.safepoint_gate.specs.Singles.{IsQuiet, Loaded, actor};
+ghost use Rattle.mutator.specs.Quick.{Answered, Answers, told_by};
 
 use barriers::{depth_place, length_place, slot_place};
 use heap_words::{MAX_DEPTH, STACK_SLOTS};
@@ -22,7 +26,15 @@ pub(crate) fn told(call: Call, reply: Reply) -> Event
 }
 
 // Loads an own word again that shows a reply, and adds the entry of the call with the reply.
-pub(crate) fn tell(inside: &mut Inside, gate: &Gate, at: usize, call: Call, reply: Reply) -> Reply {
+pub(crate) fn tell(inside: &mut Inside, gate: &Gate, at: usize, call: Call, reply: Reply) -> Reply
+    requires gate { IsOf gate.now inside.old.seat.table_id inside.old.seat.me.0 }
+    requires own { MayLoad inside.old.seat.me.0.map (actor inside.old.seat.me.0) at }
+    requires event { MayTell inside.old.seat.me.0.map (actor inside.old.seat.me.0) (told_by call reply) }
+    ensures gate { IsOf gate.now inside.new.seat.table_id inside.new.seat.me.0 }
+    ensures reply { result ≡ reply }
+    ensures answered { (word : ℕ) × Answers inside.old.seat.me.0 call reply (record { place = at; word = word } ∷ []) inside.new.seat.me.0 }
+    ensures thread { inside.new.thread ≡ inside.old.thread }
+{
     inside.load_own(gate, at, Some(told(call, reply)));
     reply
 }
@@ -38,13 +50,27 @@ fn grow(inside: &mut Inside, gate: &Gate, length: usize, word: u64, call: Call) 
 }
 
 // The length of the stack.
-pub(crate) fn stack_length(inside: &mut Inside, gate: &Gate) -> usize {
+pub(crate) fn stack_length(inside: &mut Inside, gate: &Gate) -> usize
+    requires gate { IsOf gate.now inside.old.seat.table_id inside.old.seat.me.0 }
+    requires quiet { IsQuiet inside.old.seat.me.0 }
+    ensures gate { IsOf gate.now inside.new.seat.table_id inside.new.seat.me.0 }
+    ensures loaded { Loaded inside.old.seat.me.0 (length_at inside.old.seat.me.0.map (first_thread inside.old.seat.me.0.own)) None result inside.new.seat.me.0 }
+    ensures length { result ≡ length (actor inside.old.seat.me.0).told.stack }
+    ensures thread { inside.new.thread ≡ inside.old.thread }
+{
     let at = length_place(gate.map(), inside.thread());
     inside.load_own(gate, at, None) as usize
 }
 
 // A refusal that the length of the stack shows.
-pub(crate) fn refuse(inside: &mut Inside, gate: &Gate, call: Call, why: Refusal) -> Reply {
+pub(crate) fn refuse(inside: &mut Inside, gate: &Gate, call: Call, why: Refusal) -> Reply
+    requires gate { IsOf gate.now inside.old.seat.table_id inside.old.seat.me.0 }
+    requires event { MayTell inside.old.seat.me.0.map (actor inside.old.seat.me.0) (told_by call (the_reply.Refused why)) }
+    ensures gate { IsOf gate.now inside.new.seat.table_id inside.new.seat.me.0 }
+    ensures reply { result ≡ the_reply.Refused why }
+    ensures answered { (word : ℕ) × Answers inside.old.seat.me.0 call (the_reply.Refused why) (record { place = length_at inside.old.seat.me.0.map (first_thread inside.old.seat.me.0.own); word = word } ∷ []) inside.new.seat.me.0 }
+    ensures thread { inside.new.thread ≡ inside.old.thread }
+{
     let at = length_place(gate.map(), inside.thread());
     tell(inside, gate, at, call, Reply::Refused(why))
 }
