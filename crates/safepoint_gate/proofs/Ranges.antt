@@ -51,3 +51,6 @@ store_within m a _ _ _ ht (pushes asked c push room only place) = (omega arith, 
 store_within m a _ _ _ ht (pops n count rests) = (omega arith, omega arith)
 store_within m a _ _ _ ht (makes p made) = (omega arith, omega arith)
 store_within m a _ _ _ ht (begins deep rests) = (omega arith, omega arith)
+
+pub readers_within : (m : Areas) (owner depth : ℕ) → HasRegion m owner depth → readers_at m owner depth < total_of m
+readers_within m owner depth (from, to, one, deep) = omega arith
