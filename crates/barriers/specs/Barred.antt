@@ -1,23 +1,21 @@
 -- What the barriers tell.
-use Rattle.std.specs.Prelude.{◌≡◌, ◌⊎◌, ℕ, ◌+◌, ◌*◌, ◌≤◌, ◌<◌, List, [], ◌∷◌, ◌++◌, length, Bool, true, false, None, IfErr, IfOk, Result}
+use Rattle.std.specs.Prelude.{◌≡◌, ℕ, ◌+◌, ◌≤◌, ◌<◌, List, [], ◌∷◌, ◌++◌, Bool, true, false, None}
 use Rattle.object_layout.specs.declared.TheConstants.{OBJECT_WORDS}
 use Rattle.object_layout.specs.declared.calls.Call.{Call}
 use Rattle.object_layout.specs.declared.calls.Call.TheVariants.{Store}
 use Rattle.object_layout.specs.declared.calls.Event.{Event}
-use Rattle.object_layout.specs.declared.errors.LogFull.{LogFull}
 use Rattle.object_layout.specs.declared.replies.Reply.TheVariants.{Ok}
 use Rattle.heap_words.specs.declared.TheConstants.{BUFFER_ENTRIES}
 use Rattle.epoch_lattice.specs.declared.Space.{Space}
 use Rattle.yak_model.specs.declared.datum.Datum.{Datum}
 use Rattle.yak_model.specs.Graph.{refusal_of}
 use Rattle.yak_model.specs.Recorded.{Enters}
-use Rattle.calls_in_flight.specs.declared.notes.Flight.{Flight}
 use Rattle.calls_in_flight.specs.declared.notes.Known.{Known}
-use Rattle.calls_in_flight.specs.Actors.{HasSpace, RefersTo}
+use Rattle.calls_in_flight.specs.Actors.{HasMet, HasSpace, RefersTo}
 use Rattle.calls_in_flight.specs.FieldSteps.{IsLogged, IsWordFor, MeetsCrossing, MeetsNone, StoresInto, length_loaded, slot_loaded}
 use Rattle.calls_in_flight.specs.Flight.{at_rest}
 use Rattle.calls_in_flight.specs.OwnStores.{done_by}
-use Rattle.calls_in_flight.specs.Steps.{logged_at, slot_at, with_covers}
+use Rattle.calls_in_flight.specs.Steps.{logged_at, with_covers}
 use Rattle.safepoint_gate.specs.declared.rule.View.{View}
 use Rattle.safepoint_gate.specs.Singles.{IsSo, Says, acting, actor, loads_of, moved, put_of}
 use Rattle.safepoint_gate.specs.Steps.{first_thread}
@@ -37,7 +35,7 @@ pub record MeetsSpace (v : View) (at : ℕ) (x : Space) (w : View) : Type 0 wher
   pub so : IsSo w
   pub space : HasSpace w.map (actor w) at x
   pub shown : LoadedSpace v.map more at x
-  pub spaces : (k there : ℕ) (y : Space) → RefersTo v.map (actor v) k there → HasSpace v.map (actor v) there y → HasSpace w.map (actor w) there y
+  pub kept : (place word : ℕ) → HasMet (actor v) place word → HasMet (actor w) place word
 
 -- A field was loaded, and its value's word is this. The reader's bit is set where it must be, and the slot and the stack's length
 -- are still to be stored.
@@ -89,7 +87,7 @@ pub record HasLogged (v : View) (asked : Call) (at field word : ℕ) (w : View) 
   pub logged : IsLogged w.map (actor w) (at + OBJECT_WORDS + field)
   pub shown : (n : ℕ) × WasLoaded more (logged_at v.map (first_thread v.own)) n × (n < BUFFER_ENTRIES)
 
--- The thread's store buffer was loaded to be full, and it has put at least as many entries there.
+-- The thread's store buffer was loaded to be full, and it has put at least as many entries there. What it had met it still has.
 pub record HasNoRoomToLog (v : View) (w : View) : Type 0 where
   pub more : List Known
   pub lasting : List Known
@@ -97,7 +95,7 @@ pub record HasNoRoomToLog (v : View) (w : View) : Type 0 where
   pub so : IsSo w
   pub full : WasLoaded more (logged_at v.map (first_thread v.own)) BUFFER_ENTRIES
   pub many : BUFFER_ENTRIES ≤ put_of v
-  pub kept : (k there : ℕ) → RefersTo v.map (actor v) k there → RefersTo w.map (actor w) k there
+  pub kept : (place word : ℕ) → HasMet (actor v) place word → HasMet (actor w) place word
 
 -- A field was stored by the call. An entry was put into the store buffer exactly where the slot must be recorded, and the buffer's
 -- length was loaded then, and had room.

@@ -1,5 +1,5 @@
 -- What the loads of a call show.
-use Rattle.std.specs.Prelude.{◌≡◌, ◌⊎◌, ℕ, ◌+◌, ◌*◌, ◌<◌, List}
+use Rattle.std.specs.Prelude.{◌≡◌, ◌⊎◌, ℕ, ◌+◌, List}
 use Rattle.std.specs.List.{Contains}
 use Rattle.object_layout.specs.declared.TheConstants.{MAX_DEPTH}
 use Rattle.object_layout.specs.declared.calls.Call.{Call}
@@ -12,7 +12,6 @@ use Rattle.heap_words.specs.Map.{heap_at}
 use Rattle.epoch_lattice.specs.declared.Space.{Space}
 use Rattle.epoch_lattice.specs.Lattice.{IsValid, space_index}
 use Rattle.yak_model.specs.Graph.{slot_of}
-use Rattle.yak_model.specs.Recorded.{Enters}
 use Rattle.yak_model.specs.Spaces.{SpaceState}
 use Rattle.standing_calls.specs.Records.{Crosses, home_at}
 use Rattle.calls_in_flight.specs.declared.notes.Known.{Known}

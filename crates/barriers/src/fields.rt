@@ -1,5 +1,5 @@
 //! The two barriers.
-ghost use Rattle.std.specs.Prelude.{◌≡◌, ℕ, IfErr, IfOk};
+ghost use Rattle.std.specs.Prelude.{◌≡◌, ◌+◌, ◌*◌, ℕ, IfErr, IfOk, MatchOption};
 ghost use Rattle.calls_in_flight.specs.Actors.{RefersTo};
 ghost use Rattle.calls_in_flight.specs.FieldSteps.{LoadsFrom, MeetsCrossing, StoresInto};
 ghost use Rattle.calls_in_flight.specs.OwnStores.{done_by};
@@ -10,8 +10,19 @@ ghost use Rattle.barriers.specs.Barred.{Crossed, FieldBarred, HasLogged, HasNoRo
 use crate::places::{entry_place, logged_place};
 use epoch_lattice::{Space, space_at};
 use heap_words::BUFFER_ENTRIES;
-use object_layout::{Addr, Call, LogFull, OBJECT_WORDS, address, decode_header};
+use object_layout::{Addr, Call, LogFull, OBJECT_WORDS, decode_header};
 use safepoint_gate::{Gate, Inside};
+
+// The heap word to which the word of a value refers, if it refers to one.
+fn reference(word: u64) -> Option<u64>
+    ensures { MatchOption result ((to : ℕ) → word ≡ 2 * (to + 1) → ⊥) (λ to. word ≡ 2 * (to + 1)) }
+{
+    if word == 0 || word % 2 == 1 {
+        None
+    } else {
+        Some(word / 2 - 1)
+    }
+}
 
 // The space of an object to which the thread's stack refers, by its header.
 fn space_of(inside: &mut Inside, gate: &Gate, object: Addr) -> Space
@@ -41,7 +52,7 @@ pub fn load_barrier(inside: &mut Inside, gate: &Gate, call: Call, object: Addr, 
     ensures thread { inside.new.thread ≡ inside.old.thread }
 {
     let word = inside.load_field(gate, call, object, field);
-    if let Some(target) = address(word) {
+    if let Some(target) = reference(word) {
         let region = space_of(inside, gate, Addr(target as u32));
         if let Space::Region {
             thread: owner,
@@ -72,11 +83,12 @@ fn crosses(
     ensures crossed { Crossed inside.old.seat.me.0 call object.0 field word result inside.new.seat.me.0 }
     ensures thread { inside.new.thread ≡ inside.old.thread }
 {
-    let Some(target) = address(word) else {
+    let Some(target) = reference(word) else {
         return false;
     };
+    let from = space_of(inside, gate, object);
     let into = space_of(inside, gate, Addr(target as u32));
-    into != Space::Control && space_of(inside, gate, object) != into
+    into != Space::Control && into != from
 }
 
 // Puts the slot of a field that must be recorded into the thread's store buffer.

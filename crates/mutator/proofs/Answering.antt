@@ -1,5 +1,5 @@
 -- A call under way: what its thread has loaded since it began, and the entry that ends it.
-use Rattle.std.proofs.Common.{◌≡◌, ◌≢◌, ℕ, zero, suc, ◌+◌, ◌*◌, ◌≤◌, ◌<◌, List, [], ◌∷◌, ◌++◌, length, cond, refl, sym, ap, ◌∙◌, subst, arith, append_assoc, inl, inr}
+use Rattle.std.proofs.Common.{◌≡◌, ◌≢◌, ℕ, zero, suc, ◌+◌, ◌*◌, ◌≤◌, ◌<◌, List, [], ◌∷◌, ◌++◌, length, cond, refl, sym, ap, ◌∙◌, subst, arith, append_assoc, append-nil, inl, inr}
 use Rattle.std.specs.Prelude.{◌⊎◌, ◌==◌, Option, Some, None}
 use Rattle.std.specs.List.{All, Contains}
 use mathlib.Core.Option.{some, some-injective}
@@ -22,7 +22,7 @@ use Rattle.calls_in_flight.specs.Seeing.{Sees}
 use Rattle.safepoint_gate.specs.declared.rule.Own.{Own}
 use Rattle.safepoint_gate.specs.declared.rule.View.{View}
 use Rattle.safepoint_gate.specs.Rule.{AllMine, Mine}
-use Rattle.safepoint_gate.specs.Singles.{IsSo, Loaded, Says, Tells, acting, actor, actor_in, loads_in, loads_of, moved, put_in, put_of, with_call}
+use Rattle.safepoint_gate.specs.Singles.{IsSo, Loaded, Says, Stored, Tells, acting, actor, actor_in, loads_in, loads_of, moved, put_in, put_of, with_call}
 use Rattle.safepoint_gate.specs.Steps.{first_thread, told}
 use Rattle.yak_model.specs.Continued.{entries_told}
 use Rattle.barriers.specs.Shown.{MustRecord, PutsEntry}
@@ -159,3 +159,31 @@ answers_over v w (o ∷ own) asked said f lasting first more single h =
 -- a call that had loaded words ends
 pub answers_since : (v u w : View) (asked : Call) (said : Reply) (f : Flight) (lasting first more : List Known) → length v.own ≡ 1 → u ≡ moved v f lasting (loads_of v ++ first) (put_of v) → Answers u asked said more w → Answers v asked said (first ++ more) w
 answers_since v u w asked said f lasting first more single is h = answers_over v w v.own asked said f lasting first more single (subst (λ (x : View). Answers x asked said more w) is h)
+
+store_over : (v w : View) (own : List Own) (asked : Call) (said : Reply) (f : Flight) (lasting : List Known) (at word : ℕ) → length own ≡ 1 → ((s : SpaceState) → MustRecord s (first_thread own) asked → ⊥)
+    → Stored (moved (acting v own v.lasting) f lasting (loads_in own) (put_in own)) at word (Some (told_by asked said)) w → Answers (acting v own v.lasting) asked said [] w
+store_over v w [] asked said f lasting at word single none stored = absurd (omega arith)
+store_over v w (o ∷ own) asked said f lasting at word single none stored =
+    subst (Answers (acting v (o ∷ own) v.lasting) asked said []) (sym stored.view)
+    (record {
+      put = o.put;
+      says = record {
+        has = stored.says.has;
+        known = stored.says.known;
+        history = stored.says.history;
+        before = stored.says.before;
+        lawful = stored.says.lawful;
+        leaves = stored.says.leaves;
+        was = mine_back v.map stored.says.history (o ∷ own) f o.loads o.put stored.says.was;
+        becomes = stored.says.becomes;
+        own_is = stored.says.own_is ∙ ap (λ (l : List Known). with_call (told (o ∷ own) (entries_told o.thread (told_by asked said)) stored.says.has stored.says.known (stored.says.history ++ entries_told o.thread (told_by asked said))) (at_rest o.thread) l o.put) (sym (append-nil o.loads));
+        mine = stored.says.mine;
+      };
+      puts = inr ((λ must ok. none stored.says.before must), refl);
+      view = refl;
+    })
+
+-- a call of which the words had been stored ends with a store that tells its entry
+pub answers_by_store : (v u w : View) (asked : Call) (said : Reply) (f : Flight) (lasting : List Known) (at word : ℕ) → length v.own ≡ 1 → ((s : SpaceState) → MustRecord s (first_thread v.own) asked → ⊥) → u ≡ moved v f lasting (loads_of v) (put_of v)
+    → Stored u at word (Some (told_by asked said)) w → Answers v asked said [] w
+answers_by_store v u w asked said f lasting at word single none is stored = store_over v w v.own asked said f lasting at word single none (subst (λ (x : View). Stored x at word (Some (told_by asked said)) w) is stored)

@@ -6,3 +6,10 @@ pub mod Rested
 pub mod Answering
 pub mod Looking
 pub mod Meanwhile
+pub mod Rooms
+pub mod Claiming
+pub mod Placed
+pub mod Entering
+pub mod Completing
+pub mod Refusing
+pub mod Asking

@@ -11,8 +11,9 @@ use Rattle.heap_words.specs.Map.{page_at, page_words}
 use Rattle.yak_model.specs.Graph.{refusal_of}
 use Rattle.region_pages.specs.declared.TheConstants.{CLAIM_COUNTER, POOL_LENGTH, USED_MARK}
 use Rattle.calls_in_flight.specs.declared.notes.Known.{Known}
+use Rattle.calls_in_flight.specs.Actors.{Shows}
 use Rattle.calls_in_flight.specs.Flight.{at_rest}
-use Rattle.calls_in_flight.specs.Steps.{current_at, logged_at}
+use Rattle.calls_in_flight.specs.Steps.{current_at, logged_at, slot_at}
 use Rattle.heap_core.specs.declared.owned.Stepped.{Stepped}
 use Rattle.heap_core.specs.Steps.{plain}
 use Rattle.safepoint_gate.specs.declared.rule.View.{View}
@@ -25,6 +26,10 @@ use Rattle.mutator.specs.Calls.{MakesCall}
 -- the event of a call that made no collection
 abbrev pub told_by : Call → Reply → Event
 told_by asked said = record { call = asked; reply = said; collected = false }
+
+-- A slot of the thread's stack has this word.
+abbrev pub ShowsSlot : View → ℕ → ℕ → Type 0
+ShowsSlot v k word = (k < length (actor v).told.stack) × Shows (actor v) (slot_at v.map (actor v).thread k) word
 
 -- The thread of the view v made a call with this reply, closing no gate, and has the view w then, with no call in flight. Its own
 -- list has the entry of the call more, it has loaded more, and it has put an entry into its store buffer exactly where the call

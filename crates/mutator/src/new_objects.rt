@@ -1,8 +1,21 @@
 //! New objects, made by a thread that waits for nobody, on a seat that is inside.
-ghost use Rattle.std.specs.Prelude.{◌≡◌, IfErr, IfOk};
+ghost use Rattle.std.specs.Prelude.{◌≡◌, ◌<◌, ◌≤◌, ◌+◌, ℕ, List, [], IfErr, IfOk, ◌^◌, MatchOption, length as list_length};
+ghost use Rattle.std.specs.List.{All};
+ghost use Rattle.object_layout.specs.declared.TheConstants.{MAX_SERIAL, OBJECT_WORDS};
+ghost use Rattle.object_layout.specs.declared.calls.Call.TheVariants as the_call;
+ghost use Rattle.object_layout.specs.declared.replies.Reply.TheVariants as the_reply;
+ghost use Rattle.object_layout.specs.Layout.{IsHeader, IsName};
+ghost use Rattle.heap_words.specs.declared.TheConstants.{STACK_SLOTS};
+ghost use Rattle.heap_words.specs.Map.{heap_at, max_depth};
+ghost use Rattle.epoch_lattice.specs.Lattice.{inner_of};
+ghost use Rattle.calls_in_flight.specs.Actors.{Shows};
+ghost use Rattle.calls_in_flight.specs.declared.notes.Cover.{Cover};
+ghost use Rattle.calls_in_flight.specs.OwnStores.{Placing, front_of};
+ghost use Rattle.calls_in_flight.specs.Steps.{made_at};
 ghost use Rattle.safepoint_gate.specs.Seats.{IsOf};
-ghost use Rattle.safepoint_gate.specs.Singles.{IsQuiet};
-ghost use Rattle.mutator.specs.Quick.{AnswersNew, FindsNoPage};
+ghost use Rattle.safepoint_gate.specs.Singles.{IsQuiet, actor};
+ghost use Rattle.mutator.specs.Making.{ClaimsNone, ClaimsRoom, EntersPage, FindsNone, FindsRoom, HasRoom, WritesObject};
+ghost use Rattle.mutator.specs.Quick.{Answers, AnswersNew, FindsNoPage};
 
 use crate::quick_calls::{refuse, stack_length, tell, told};
 use barriers::{current_place, depth_place, length_place, made_place, slot_place};
@@ -24,7 +37,16 @@ struct Room {
 }
 
 // The room behind the used words of the thread's current page in its innermost space, if the object fits there.
-fn room_in_current(inside: &mut Inside, gate: &Gate, depth: u8, size: u64) -> Option<Room> {
+fn room_in_current(inside: &mut Inside, gate: &Gate, depth: u8, size: u64) -> Option<Room>
+    requires gate { IsOf gate.now inside.old.seat.table_id inside.old.seat.me.0 }
+    requires quiet { IsQuiet inside.old.seat.me.0 }
+    requires depth { depth ≡ (actor inside.old.seat.me.0).told.depth }
+    requires deep { depth ≤ max_depth inside.old.seat.me.0.map }
+    requires size { size < 2 ^ 32 }
+    ensures gate { IsOf gate.now inside.new.seat.table_id inside.new.seat.me.0 }
+    ensures found { MatchOption result (FindsNone inside.old.seat.me.0 size inside.new.seat.me.0) (λ room. FindsRoom inside.old.seat.me.0 size room inside.new.seat.me.0) }
+    ensures thread { inside.new.thread ≡ inside.old.thread }
+{
     let current = inside.load_own(
         gate,
         current_place(gate.map(), inside.thread(), depth),
@@ -46,7 +68,14 @@ fn room_in_current(inside: &mut Inside, gate: &Gate, depth: u8, size: u64) -> Op
 }
 
 // The room of a page that is claimed, if one is left.
-fn claim_room(inside: &mut Inside, gate: &Gate) -> Result<Room, NoPage> {
+fn claim_room(inside: &mut Inside, gate: &Gate) -> Result<Room, NoPage>
+    requires gate { IsOf gate.now inside.old.seat.table_id inside.old.seat.me.0 }
+    requires quiet { IsQuiet inside.old.seat.me.0 }
+    ensures gate { IsOf gate.now inside.new.seat.table_id inside.new.seat.me.0 }
+    ensures claimed { IfOk result (λ room. ClaimsRoom inside.old.seat.me.0 room inside.new.seat.me.0) }
+    ensures none { IfErr result (λ _. ClaimsNone inside.old.seat.me.0 inside.new.seat.me.0) }
+    ensures thread { inside.new.thread ≡ inside.old.thread }
+{
     let length = inside.load_pool(gate, POOL_LENGTH);
     if inside.load_pool(gate, CLAIM_COUNTER) >= length {
         return Err(NoPage);
@@ -64,7 +93,16 @@ fn claim_room(inside: &mut Inside, gate: &Gate) -> Result<Room, NoPage> {
 }
 
 // Stores the words of a new object: its header, its name and words of 0.
-fn write_object(inside: &mut Inside, gate: &Gate, front: usize, header: Header, name: Name) {
+fn write_object(inside: &mut Inside, gate: &Gate, front: usize, header: Header, name: Name)
+    requires gate { IsOf gate.now inside.old.seat.table_id inside.old.seat.me.0 }
+    requires placing { (p : Placing inside.old.seat.me.0.map (actor inside.old.seat.me.0)) × (front ≡ front_of p) × (header.fields ≡ p.fields) }
+    requires bare { (actor inside.old.seat.me.0).flight.covers ≡ [] }
+    requires header { IsHeader header }
+    requires name { IsName name }
+    ensures gate { IsOf gate.now inside.new.seat.table_id inside.new.seat.me.0 }
+    ensures written { WritesObject inside.old.seat.me.0 front header name (header.fields + OBJECT_WORDS) inside.new.seat.me.0 }
+    ensures thread { inside.new.thread ≡ inside.old.thread }
+{
     let at = gate.map().heap() + front;
     inside.store_own(gate, at, encode_header(header), None);
     inside.store_own(gate, at + 1, encode_name(name), None);
@@ -74,16 +112,26 @@ fn write_object(inside: &mut Inside, gate: &Gate, front: usize, header: Header, 
 }
 
 // Stores what the placing of the object asks: the page's space, its used mark and the current page.
-fn enter_page(inside: &mut Inside, gate: &Gate, room: Room, space: Space, depth: u8, size: u64) {
+fn enter_page(inside: &mut Inside, gate: &Gate, room: Room, space: Space, depth: u8, size: u64)
+    requires gate { IsOf gate.now inside.old.seat.table_id inside.old.seat.me.0 }
+    requires room { (fields : ℕ) × (size ≡ fields + OBJECT_WORDS) × HasRoom inside.old.seat.me.0.map (actor inside.old.seat.me.0) room fields (actor inside.old.seat.me.0).flight.covers }
+    requires object { All (λ (k : Cover). heap_at inside.old.seat.me.0.map ≤ k.place) (actor inside.old.seat.me.0).flight.covers }
+    requires depth { depth ≡ (actor inside.old.seat.me.0).told.depth }
+    requires space { space ≡ inner_of (actor inside.old.seat.me.0).thread depth }
+    ensures gate { IsOf gate.now inside.new.seat.table_id inside.new.seat.me.0 }
+    ensures entered { EntersPage inside.old.seat.me.0 room size inside.new.seat.me.0 }
+    ensures thread { inside.new.thread ≡ inside.old.thread }
+{
     let map = gate.map();
     let at = map.page(room.page);
+    let used = room.used + size;
     if room.claimed {
         inside.store_own(gate, at + SPACE_WORD, u64::from(index_of(space)) + 1, None);
-    }
-    inside.store_own(gate, at + USED_MARK, room.used + size, None);
-    if room.claimed {
+        inside.store_own(gate, at + USED_MARK, used, None);
         let current = current_place(map, inside.thread(), depth);
         inside.store_own(gate, current, u64::from(room.page) + 1, None);
+    } else {
+        inside.store_own(gate, at + USED_MARK, used, None);
     }
 }
 
@@ -96,7 +144,19 @@ fn make_in(
     depth: u8,
     made: u64,
     length: usize,
-) {
+)
+    requires gate { IsOf gate.now inside.old.seat.table_id inside.old.seat.me.0 }
+    requires room { HasRoom inside.old.seat.me.0.map (actor inside.old.seat.me.0) room k [] }
+    requires depth { depth ≡ (actor inside.old.seat.me.0).told.depth }
+    requires made { made ≡ (actor inside.old.seat.me.0).told.made }
+    requires unspent { made < MAX_SERIAL }
+    requires counted { Shows (actor inside.old.seat.me.0) (made_at inside.old.seat.me.0.map (actor inside.old.seat.me.0).thread) made }
+    requires length { length ≡ list_length (actor inside.old.seat.me.0).told.stack }
+    requires slots { length < STACK_SLOTS }
+    ensures gate { IsOf gate.now inside.new.seat.table_id inside.new.seat.me.0 }
+    ensures made { Answers inside.old.seat.me.0 (the_call.New k) the_reply.Ok [] inside.new.seat.me.0 }
+    ensures thread { inside.new.thread ≡ inside.old.thread }
+{
     let map = gate.map();
     let thread = inside.thread();
     let space = inner(thread, depth);

@@ -1,13 +1,19 @@
 //! Calls that wait for nobody, on a seat that is inside.
-ghost use Rattle.std.specs.Prelude.{◌≡◌, ◌≤◌, ◌∷◌, [], ℕ, None, length};
+ghost use Rattle.std.specs.Prelude.{◌≡◌, ◌≤◌, ◌<◌, ◌∷◌, [], ℕ, None, length as list_length};
 ghost use Rattle.object_layout.specs.declared.TheConstants.{MAX_INT};
+ghost use Rattle.object_layout.specs.declared.calls.Call.TheVariants as the_call;
 ghost use Rattle.object_layout.specs.declared.replies.Reply.TheVariants as the_reply;
-ghost use Rattle.calls_in_flight.specs.Actors.{MayLoad, MayTell};
+ghost use Rattle.heap_words.specs.declared.map.Areas.{Areas};
+ghost use Rattle.heap_words.specs.declared.TheConstants.{STACK_SLOTS};
+ghost use Rattle.calls_in_flight.specs.Actors.{Actor, IsAnswered, MayLoad, MayTell};
+ghost use Rattle.calls_in_flight.specs.Kinds.{IsPlainReply};
+ghost use Rattle.calls_in_flight.specs.OwnStores.{IsPushOf};
 ghost use Rattle.calls_in_flight.specs.Steps.{length_at};
 ghost use Rattle.safepoint_gate.specs.Seats.{IsOf};
 ghost use Rattle.safepoint_gate.specs.Steps.{first_thread};
-ghost use Rattle.safepoint_gate.specs.Singles.{IsQuiet, Loaded, actor};
-ghost use Rattle.mutator.specs.Quick.{Answered, Answers, told_by};
+ghost use Rattle.safepoint_gate.specs.Singles.{IsQuiet, IsSo, Loaded, actor};
+ghost use Rattle.mutator.specs.Making.{Searches};
+ghost use Rattle.mutator.specs.Quick.{Answered, Answers, ShowsSlot, told_by};
 
 use barriers::{depth_place, length_place, slot_place};
 use heap_words::{MAX_DEPTH, STACK_SLOTS};
@@ -40,7 +46,17 @@ pub(crate) fn tell(inside: &mut Inside, gate: &Gate, at: usize, call: Call, repl
 }
 
 // Puts a word on the stack, whose length is known, as the call asks.
-fn grow(inside: &mut Inside, gate: &Gate, length: usize, word: u64, call: Call) -> Reply {
+fn grow(inside: &mut Inside, gate: &Gate, length: usize, word: u64, call: Call) -> Reply
+    requires gate { IsOf gate.now inside.old.seat.table_id inside.old.seat.me.0 }
+    requires quiet { IsQuiet inside.old.seat.me.0 }
+    requires length { length ≡ list_length (actor inside.old.seat.me.0).told.stack }
+    requires room { length < STACK_SLOTS }
+    requires push { IsPushOf inside.old.seat.me.0.map (actor inside.old.seat.me.0) call word }
+    ensures gate { IsOf gate.now inside.new.seat.table_id inside.new.seat.me.0 }
+    ensures reply { result ≡ the_reply.Ok }
+    ensures answered { Answers inside.old.seat.me.0 call the_reply.Ok [] inside.new.seat.me.0 }
+    ensures thread { inside.new.thread ≡ inside.old.thread }
+{
     let map = gate.map();
     let thread = inside.thread();
     inside.store_own(gate, slot_place(map, thread, length), word, None);
@@ -55,7 +71,7 @@ pub(crate) fn stack_length(inside: &mut Inside, gate: &Gate) -> usize
     requires quiet { IsQuiet inside.old.seat.me.0 }
     ensures gate { IsOf gate.now inside.new.seat.table_id inside.new.seat.me.0 }
     ensures loaded { Loaded inside.old.seat.me.0 (length_at inside.old.seat.me.0.map (first_thread inside.old.seat.me.0.own)) None result inside.new.seat.me.0 }
-    ensures length { result ≡ length (actor inside.old.seat.me.0).told.stack }
+    ensures length { result ≡ list_length (actor inside.old.seat.me.0).told.stack }
     ensures thread { inside.new.thread ≡ inside.old.thread }
 {
     let at = length_place(gate.map(), inside.thread());
@@ -76,7 +92,14 @@ pub(crate) fn refuse(inside: &mut Inside, gate: &Gate, call: Call, why: Refusal)
 }
 
 // Pushes a word, of an integer or null.
-fn push_word(inside: &mut Inside, gate: &Gate, word: u64, call: Call) -> Reply {
+fn push_word(inside: &mut Inside, gate: &Gate, word: u64, call: Call) -> Reply
+    requires gate { IsOf gate.now inside.old.seat.table_id inside.old.seat.me.0 }
+    requires quiet { IsQuiet inside.old.seat.me.0 }
+    requires push { (m : Areas) → (a : Actor) → IsPushOf m a call word }
+    ensures gate { IsOf gate.now inside.new.seat.table_id inside.new.seat.me.0 }
+    ensures answered { Answered inside.old.seat.me.0 call result inside.new.seat.me.0 }
+    ensures thread { inside.new.thread ≡ inside.old.thread }
+{
     let length = stack_length(inside, gate);
     if length >= STACK_SLOTS {
         return refuse(inside, gate, call, Refusal::StackFull);
@@ -150,7 +173,16 @@ pub(crate) fn pop(inside: &mut Inside, gate: &Gate) -> Reply
 }
 
 // What the word of a slot shows.
-fn shown(inside: &mut Inside, gate: &Gate, word: u64) -> Reply {
+fn shown(inside: &mut Inside, gate: &Gate, word: u64) -> Reply
+    requires gate { IsOf gate.now inside.old.seat.table_id inside.old.seat.me.0 }
+    requires so { IsSo inside.old.seat.me.0 }
+    requires slot { (k : ℕ) × ShowsSlot inside.old.seat.me.0 k word }
+    ensures gate { IsOf gate.now inside.new.seat.table_id inside.new.seat.me.0 }
+    ensures searched { Searches inside.old.seat.me.0 inside.new.seat.me.0 }
+    ensures reply { (k : ℕ) → ShowsSlot inside.old.seat.me.0 k word → IsAnswered inside.new.seat.me.0.map (actor inside.new.seat.me.0) (the_call.Get k) result }
+    ensures plain { IsPlainReply result }
+    ensures thread { inside.new.thread ≡ inside.old.thread }
+{
     match decode_value(word) {
         Some(Value::Int(i)) => Reply::Int(i),
         Some(Value::Ref(object)) => {
