@@ -11,3 +11,4 @@ pub mod Entering
 pub mod Completing
 pub mod Refusing
 pub mod Asking
+pub mod Trying
