@@ -42,6 +42,9 @@ module _ (v w : View) (single : length v.own ≡ 1) (searched : Searches v w) wh
   pub thread_still : (actor w).thread ≡ (actor v).thread
   thread_still = ap (λ (a : Actor). a.thread) (told_of v w searched.more single searched.view)
 
+  pub length_still : (n : ℕ) → n ≡ length (actor v).told.stack → n ≡ length (actor w).told.stack
+  length_still n is = is ∙ sym (ap (λ (t : Actor). length t.told.stack) (told_of v w searched.more single searched.view))
+
   pub map_still : w.map ≡ v.map
   map_still = map_of v w searched.more searched.view
 
