@@ -1,6 +1,6 @@
 -- A new object, as its thread looks whether it can be made.
 use Rattle.std.proofs.Common.{lit<, ◌≡◌, ◌≢◌, ℕ, zero, suc, ◌+◌, ◌-◌, ◌*◌, ◌≤◌, ◌<◌, Bool, true, false, List, [], ◌∷◌, ◌++◌, length, cond, ltb, leb, refl, sym, ap, ◌∙◌, subst, arith, inl, inr, true≢false, append-nil}
-use Rattle.std.specs.Prelude.{◌⊎◌, Option, Some, None}
+use Rattle.std.specs.Prelude.{◌⊎◌, Option, Some, None, Result, Ok, Err, IfErr}
 use Rattle.std.specs.List.{All, Contains}
 use Rattle.std.proofs.lemmas.Bool.{le-leb, lt-leb, lt-ltb, le-ltb}
 use Rattle.std.proofs.lemmas.List.Elements.{All-append, All-contains, Contains-append_cases, Contains-append_left, Contains-append_right}
@@ -197,3 +197,7 @@ module _ (v u : View) (k : ℕ) (single : length v.own ≡ 1) (quiet : IsQuiet v
         };
         found = found_later h.searches.more c.more h.searches.own c.found;
       }
+
+pub err_weaker : {T E : Type 0} (r : Result T E) (P Q : Type 0) → (P → Q) → IfErr r (λ _. P) → IfErr r (λ _. Q)
+err_weaker (Ok x) P Q f h = h
+err_weaker (Err e) P Q f h = f h
