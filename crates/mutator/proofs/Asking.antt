@@ -91,8 +91,7 @@ looks_slot v w k word single loaded = searches_one v w (slot_at v.map (actor v).
 
 pub shows_slot : (v w : View) (k word : ℕ) → length v.own ≡ 1 → IsQuiet v → k < length (actor v).told.stack → Loaded v (slot_at v.map (actor v).thread k) None word w → ShowsSlot w k word
 shows_slot v w k word single quiet there loaded =
-    let s = looks_slot v w k word single loaded in
-    (
+    let s = looks_slot v w k word single loaded in (
       (let n = ap (λ (t : Actor). length t.told.stack) (told_of v w s.more single s.view) in omega (arith, n, there)),
       subst (λ (p : ℕ). Shows (actor w) p word) (λ i. slot_at (sym (map_still v w single s) i) (sym (thread_still v w single s) i) k) (shows_loaded v w (slot_at v.map (actor v).thread k) word single quiet loaded),
     )

@@ -12,3 +12,4 @@ pub mod Completing
 pub mod Refusing
 pub mod Asking
 pub mod Trying
+pub mod Deciding

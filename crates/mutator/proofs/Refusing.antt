@@ -102,9 +102,9 @@ module _ (m : Areas) (a : Actor) where
   tells_deep rests h =
       tells_refusal call.Begin refusal.TooDeep tt tt rests
       (λ g agrees. first_is _ refusal.TooDeep [] (le-leb _ _ (
-        let limit : g.limits.depth ≡ MAX_DEPTH = ap (λ (l : Limits). l.depth) agrees.limits in
-        let depth : (thread_of g a.thread).depth ≡ a.told.depth = ap (λ (t : Thread). t.depth) agrees.has in
-        omega (arith, limit, depth, h))))
+      let limit : g.limits.depth ≡ MAX_DEPTH = ap (λ (l : Limits). l.depth) agrees.limits in
+      let depth : (thread_of g a.thread).depth ≡ a.told.depth = ap (λ (t : Thread). t.depth) agrees.has in
+      omega (arith, limit, depth, h))))
 
   -- ---- what is shown
 

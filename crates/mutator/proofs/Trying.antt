@@ -176,10 +176,15 @@ module _ (v u : View) (k : ℕ) (single : length v.own ≡ 1) (quiet : IsQuiet v
               | inr page ↦ let e = page.1 in let lt = page.2 in omega (arith, e, lt)
             ] in
             let low : page_at u.map full.0 + USED_MARK < pool_at u.map = omega (arith, in_heap) in
-            inr (full.0, full.1,
-              (subst (λ (q : ℕ). Shows (actor w) q (full.0 + 1)) (sym current_last) (shows_last _ (full.0 + 1) current_below full.2.0),
-                subst (λ (m : Areas). Shows (actor w) (page_at m full.0 + USED_MARK) full.1) (sym map_last) (shows_last _ full.1 low full.2.1)),
-              full.3)
+            inr (
+              full.0,
+              full.1,
+              (
+                subst (λ (q : ℕ). Shows (actor w) q (full.0 + 1)) (sym current_last) (shows_last _ (full.0 + 1) current_below full.2.0),
+                subst (λ (m : Areas). Shows (actor w) (page_at m full.0 + USED_MARK) full.1) (sym map_last) (shows_last _ full.1 low full.2.1),
+              ),
+              full.3,
+            )
       ]
 
       pub gets_claimed : GetsRoom v k room w
@@ -201,3 +206,7 @@ module _ (v u : View) (k : ℕ) (single : length v.own ≡ 1) (quiet : IsQuiet v
 pub err_weaker : {T E : Type 0} (r : Result T E) (P Q : Type 0) → (P → Q) → IfErr r (λ _. P) → IfErr r (λ _. Q)
 err_weaker (Ok x) P Q f h = h
 err_weaker (Err e) P Q f h = f h
+
+pub err_any : {T E : Type 0} (r : Result T E) (P : Type 0) → P → IfErr r (λ _. P)
+err_any (Ok x) P h = tt
+err_any (Err e) P h = h
