@@ -96,7 +96,7 @@ mine_call m history [] f g k l p q h j x at = h j x at
 mine_call m history (o ∷ own) f g k l p q h zero x at = subst (Mine m history) (some-injective _ x at) (mine_of m history o f g k l p q (h 0 (record o { flight = f; loads = k; put = p }) refl))
 mine_call m history (o ∷ own) f g k l p q h (suc j) x at = h (suc j) x at
 
-mine_back : (m : Areas) (history : List Entry) (own : List Own) (f : Flight) (k : List Known) (p : ℕ) → AllMine m history (with_call own f k p) → AllMine m history own
+pub mine_back : (m : Areas) (history : List Entry) (own : List Own) (f : Flight) (k : List Known) (p : ℕ) → AllMine m history (with_call own f k p) → AllMine m history own
 mine_back m history [] f k p h = h
 mine_back m history (o ∷ own) f k p h = mine_call m history (o ∷ own) f o.flight k o.loads p o.put h
 

@@ -1,9 +1,11 @@
+pub mod Buffers
 pub mod Stepped
 pub mod Telling
 pub mod Flushed
 pub mod Rested
 pub mod Answering
 pub mod Looking
+pub mod Meanwhile
 pub mod Rooms
 pub mod Claiming
 pub mod Placed

@@ -1,10 +1,11 @@
 -- Resting mutators and their seats.
-use Rattle.std.proofs.Common.{◌≡◌, ℕ, zero, suc, ◌+◌, ◌≤◌, List, [], ◌∷◌, ◌++◌, length, get_or, refl, sym, ap, ◌∙◌, subst, arith, length-append, zero-add}
+use Rattle.std.proofs.Common.{◌≡◌, ℕ, zero, suc, ◌+◌, ◌≤◌, List, [], ◌∷◌, ◌++◌, length, get_or, replicate, refl, sym, ap, ◌∙◌, subst, arith, length-append, zero-add}
 use Rattle.std.specs.List.{remove}
 use Rattle.std.proofs.lemmas.List.{append-nil}
 use mathlib.Core.Option.{some, some-ne-none, some-injective}
 use lib.ListN.{get_elem?}
-use Rattle.heap_words.specs.Contents.{contents}
+use Rattle.heap_words.specs.Contents.{Contents, contents}
+use Rattle.heap_core.specs.Opening.{IsOpened}
 use Rattle.yak_model.specs.declared.history.Entry.{Entry}
 use Rattle.yak_model.specs.Continued.{Explains}
 use Rattle.safepoint_gate.specs.declared.gate.Gate.{Gate}
@@ -19,7 +20,7 @@ use Rattle.atomic_table.specs.Seated.{TableId}
 use Rattle.heap_words.specs.declared.map.Areas.{Areas}
 use Rattle.mutator.specs.declared.resting.Resting.{Resting}
 use Rattle.mutator.specs.Resting.{AllSingle, seats_of}
-use Rattle.mutator.specs.Finishing.{AllOf, Finishes}
+use Rattle.mutator.specs.Finishing.{AllOf, Finishes, owns_of}
 
 -- ---- lists from which the first was removed
 
@@ -52,11 +53,6 @@ pub fresh_single : (table : TableId) (m : Areas) (seats : List Away) → AllFres
 fresh_single table m seats all k a at = ap (λ (v : View). length v.own) (all k a at).1
 
 -- ---- the entries of all threads
-
--- what all seats know of their threads
-abbrev pub owns_of : List Away → List Own
-owns_of [] = []
-owns_of (a ∷ seats) = a.seat.me.0.own ++ owns_of seats
 
 pub owns_length : (all : List Resting) → length (owns_of (seats_of all)) ≡ length (seats_of all)
 owns_length [] = refl
@@ -94,12 +90,17 @@ each_mine m history (x ∷ seats) mine (suc k) a at =
 -- what a seat that stands for all threads knows as it takes the words back
 pub finishes : (v w : View) (seats : List Away) → w ≡ at_gate v w.words w.history → IsClosing w → v.own ≡ owns_of seats → Finishes w seats
 finishes v w seats is known own = record {
+  own = ap (λ (x : View). x.own) is ∙ own;
   explains = subst (λ z. Explains w.map (contents w.map z) w.history) (ap (λ (x : View). x.closing) is) known.explains;
   mine = known.mine;
   seats_mine = each_mine w.map w.history seats (subst (AllMine w.map w.history) (ap (λ (x : View). x.own) is ∙ own) known.mine);
 }
 
 -- ---- mutators of a new heap
+
+-- whose store buffers are empty
+pub opened_empty : (m : Areas) (c : Contents) → IsOpened m c → c.buffers ≡ replicate m.threads []
+opened_empty m c opened = ap (λ (x : Contents). x.buffers) opened.1
 
 -- the first of them is of its gate
 pub new_first : (gate : Gate) (all left : List Resting) (r : Resting) → all ≡ r ∷ left → AllFresh gate.table.shared.table_id gate.map (seats_of all) → IsOf gate r.away.seat.table_id r.away.seat.me.0

@@ -1,5 +1,5 @@
 -- A step of a seat that stands for one thread keeps the rule.
-use Rattle.std.proofs.Common.{◌≡◌, ◌≢◌, ℕ, ◌≤◌, List, [], ◌∷◌, length, get_or, set, refl, sym, ap, ◌∙◌, subst, arith}
+use Rattle.std.proofs.Common.{◌≡◌, ◌≢◌, ℕ, ◌≤◌, List, [], ◌∷◌, length, get_or, set, sym, ap, ◌∙◌, subst, arith}
 use mathlib.Core.Option.{some}
 use lib.ListN.{get_elem?}
 use Rattle.atomic_table.specs.Table.{keeps, stepped}
@@ -7,7 +7,7 @@ use Rattle.heap_words.specs.declared.map.Areas.{Areas}
 use Rattle.yak_model.specs.declared.history.Entry.{Entry}
 use Rattle.safepoint_gate.specs.declared.rule.Own.{Own}
 use Rattle.safepoint_gate.specs.declared.rule.View.{View}
-use Rattle.safepoint_gate.specs.Rule.{AllMine, AllRest, AreByThread, Counted, Fits, IsUnderway, Kept, Mine, StandsOpen, Underway, closed, hidden, moving, present, stands_for, times}
+use Rattle.safepoint_gate.specs.Rule.{AllMine, AllRest, AreByThread, Counted, IsUnderway, Kept, Mine, StandsOpen, Underway, closed, hidden, moving, present, stands_for, times}
 use Rattle.safepoint_gate.proofs.Flying.{Beside, each, times_at}
 use Rattle.safepoint_gate.proofs.Keeps.{St, changes, other_fits}
 use Rattle.safepoint_gate.proofs.Totals.{total_two}

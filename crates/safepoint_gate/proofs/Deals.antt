@@ -1,5 +1,5 @@
 -- Seats that are made, cut and joined keep the rule.
-use Rattle.std.proofs.Common.{◌≡◌, ◌⊎◌, ⊎_elim, inl, inr, ◌==◌, ℕ, zero, suc, ◌+◌, ◌-◌, ◌<◌, ◌≤◌, Bool, true, false, List, [], ◌∷◌, ◌++◌, take, drop, length, set, refl, sym, ap, ◌∙◌, subst, arith, length-append, eq-eqb, ne_eqb, get_or, replicate, set-set, get_or-set_same}
+use Rattle.std.proofs.Common.{◌≡◌, ◌⊎◌, ⊎_elim, inl, inr, ◌==◌, ℕ, zero, suc, ◌+◌, ◌-◌, ◌<◌, ◌≤◌, Bool, true, false, List, [], ◌∷◌, ◌++◌, take, drop, length, set, refl, sym, ap, ◌∙◌, subst, arith, length-append, eq-eqb, ne_eqb, get_or, replicate}
 use Rattle.std.specs.Prelude.{if◌then◌else◌, slice_index}
 use Rattle.std.proofs.lemmas.List.{get_or-replicate, set-get_or}
 use mathlib.Core.Option.{none, some, some-ne-none, some-injective}
@@ -11,7 +11,6 @@ use Rattle.atomic_table.proofs.Lists.{at_snoc, set_else}
 use Rattle.heap_words.specs.declared.map.Areas.{Areas}
 use Rattle.heap_words.specs.Map.{HasThread, IsAreas, total_of}
 use Rattle.heap_words.specs.Contents.{buffer_of, contents}
-use Rattle.yak_model.specs.Continued.{Explains}
 use Rattle.yak_model.specs.Graph.{idle, standard_limits, thread_of}
 use Rattle.yak_model.specs.Recorded.{StandsRecorded}
 use Rattle.yak_model.specs.Spaces.{SpaceState, opening_spaces}
@@ -20,7 +19,7 @@ use Rattle.yak_model.proofs.Lasting.{private_first}
 use Rattle.safepoint_gate.specs.declared.rule.Place.TheVariants.{Away}
 use Rattle.safepoint_gate.specs.declared.rule.Own.{Own}
 use Rattle.safepoint_gate.specs.declared.rule.View.{View}
-use Rattle.safepoint_gate.specs.Rule.{total, present, inner, asking, closed, present_at, inner_at, asking_at, closed_at, moving, moving_at, times, stands_for, numbers, hidden, thread_told, AreByThread, Counted, IsUnderway, Mine, Fits, Kept, StandsOpen, Underway, newcomer, fresh, first_view}
+use Rattle.safepoint_gate.specs.Rule.{total, present, inner, asking, closed, present_at, inner_at, asking_at, closed_at, moving, moving_at, times, stands_for, numbers, hidden, thread_told, AreByThread, IsUnderway, Mine, Fits, Kept, StandsOpen, Underway, newcomer, fresh, first_view}
 use Rattle.safepoint_gate.specs.Steps.{of_first, of_others, of_both, of_none, first_thread, at_gate, seals, Sat}
 use Rattle.safepoint_gate.proofs.Totals.{total_at, total_set, total_two, total_snoc, total_below}
 use Rattle.safepoint_gate.proofs.Flying.{all_rest, rest_differs, stand_open}

@@ -1,11 +1,10 @@
 -- Steps that add entries to the history keep the rule.
-use Rattle.std.proofs.Common.{◌≡◌, ◌≢◌, ◌==◌, ℕ, zero, suc, ◌+◌, ◌-◌, ◌*◌, ◌%◌, ◌^◌, ◌<◌, ◌≤◌, Bool, true, false, List, [], ◌∷◌, ◌++◌, length, get_or, set, refl, sym, ap, ◌∙◌, subst, arith, bit_and, eq-eqb, get_or-set_same, set-set, length-set, Some, lit≤, append_assoc}
+use Rattle.std.proofs.Common.{◌≡◌, ◌≢◌, ℕ, zero, suc, ◌%◌, ◌≤◌, List, [], ◌∷◌, ◌++◌, length, set, refl, sym, ap, ◌∙◌, subst, arith, bit_and, get_or-set_same, set-set, length-set, Some, lit≤, append_assoc}
 use Rattle.std.proofs.lemmas.List.{append-nil}
-use Rattle.std.specs.Prelude.{if◌then◌else◌}
 use Rattle.std.proofs.lemmas.Nat.{and_mask}
 use mathlib.Core.Option.{none, some, some-ne-none, some-injective}
 use lib.ListN.{get_elem?}
-use Rattle.atomic_table.specs.Table.{step, keeps, stepped, Allows}
+use Rattle.atomic_table.specs.Table.{step, keeps, Allows}
 use Rattle.heap_words.specs.declared.map.Areas.{Areas}
 use Rattle.heap_words.specs.Contents.{contents}
 use Rattle.object_layout.specs.declared.calls.Event.{Event}
@@ -19,12 +18,10 @@ use Rattle.yak_model.specs.Spaces.{SpaceState, spaces}
 use Rattle.yak_model.proofs.Continued.{explains_more, has_others, one_state, part_others, part_own}
 use Rattle.yak_model.proofs.Lasting.{becomes_known, private_more, private_others}
 use Rattle.safepoint_gate.specs.declared.rule.Own.{Own}
-use Rattle.safepoint_gate.specs.declared.rule.Place.{Place}
 use Rattle.safepoint_gate.specs.declared.rule.Place.TheVariants.{Inside, Closed}
-use Rattle.safepoint_gate.specs.declared.rule.View.{View}
-use Rattle.safepoint_gate.specs.Rule.{total, present, inner, asking, closed, present_at, inner_at, asking_at, closed_at, moving_at, hidden, thread_told, AllMine, AllRest, Counted, Mine, Kept}
-use Rattle.safepoint_gate.specs.Steps.{KeepBuffers, MayOpen, OpenedWith, Sat, with_own, with_entries, told, first_known, first_thread, opens_with}
-use Rattle.safepoint_gate.proofs.Totals.{total_set, total_at, total_two}
+use Rattle.safepoint_gate.specs.Rule.{present, inner, asking, closed, present_at, inner_at, asking_at, closed_at, moving_at, hidden, thread_told, AllMine, AllRest, Counted, Mine, Kept}
+use Rattle.safepoint_gate.specs.Steps.{KeepBuffers, MayOpen, Sat, with_own, with_entries, told, first_known, first_thread, opens_with}
+use Rattle.safepoint_gate.proofs.Totals.{total_set, total_at}
 use Rattle.safepoint_gate.proofs.Keeps.{gate_of, bounds, resting, some_words}
 use Rattle.safepoint_gate.proofs.Changing.{acts}
 use Rattle.safepoint_gate.proofs.Closers.{closed_quiet, others_open}

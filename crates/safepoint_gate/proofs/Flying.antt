@@ -17,7 +17,7 @@ use Rattle.yak_model.specs.declared.history.Entry.{Entry}
 use Rattle.yak_model.specs.Packed.{PackedAs}
 use Rattle.yak_model.specs.Recorded.{RecordedAs}
 use Rattle.yak_model.specs.Spaces.{SpaceState}
-use Rattle.yak_model.specs.Stands.{Stands, StandsAs}
+use Rattle.yak_model.specs.Stands.{StandsAs}
 use Rattle.yak_model.specs.State.{view}
 use Rattle.calls_in_flight.specs.declared.notes.Flight.{Flight}
 use Rattle.calls_in_flight.specs.declared.notes.Known.{Known}
@@ -29,7 +29,7 @@ use Rattle.calls_in_flight.specs.Whole.{whole}
 use Rattle.calls_in_flight.proofs.Resting.{open-stand, whole-rest}
 use Rattle.safepoint_gate.specs.declared.rule.Own.{Own}
 use Rattle.safepoint_gate.specs.declared.rule.View.{View}
-use Rattle.safepoint_gate.specs.Rule.{AllRest, AreByThread, IsUnderway, StandsOpen, Underway, actor_of, stands_for, times, total}
+use Rattle.safepoint_gate.specs.Rule.{AreByThread, IsUnderway, StandsOpen, Underway, actor_of, stands_for, times, total}
 
 -- ---- threads of seats
 

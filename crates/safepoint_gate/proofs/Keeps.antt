@@ -1,5 +1,5 @@
 -- Each step keeps the rule.
-use Rattle.std.proofs.Common.{◌≡◌, ◌≢◌, ℕ, suc, ◌+◌, ◌-◌, ◌*◌, ◌%◌, ◌^◌, ◌<◌, ◌≤◌, List, [], ◌∷◌, length, get_or, set, bit_or, refl, sym, ap, ◌∙◌, subst, ⊎_elim, arith, length-set, set-set, get_or-set_same}
+use Rattle.std.proofs.Common.{◌≡◌, ◌≢◌, ℕ, ◌+◌, ◌-◌, ◌*◌, ◌%◌, ◌^◌, ◌<◌, ◌≤◌, List, [], length, get_or, set, bit_or, refl, sym, ap, ◌∙◌, subst, ⊎_elim, arith, length-set, set-set, get_or-set_same}
 use Rattle.std.proofs.lemmas.Nat.{or_block}
 use Rattle.std.specs.Int.Bits.{or_shifted_r, or_zero_r}
 use mathlib.Core.Option.{none, some, some-injective}
@@ -20,10 +20,9 @@ use Rattle.safepoint_gate.specs.declared.rule.View.{View}
 use Rattle.safepoint_gate.specs.Rule.{total, present, inner, asking, closed, present_at, inner_at, asking_at, closed_at, times, stands_for, numbers, hidden, moving, moving_at, AllMine, AllRest, AreByThread, Counted, Fits, IsUnderway, Kept, Knows, StandsOpen, Underway}
 use Rattle.safepoint_gate.specs.Steps.{Sat, at_place, at_gate, enters, leaves, asks, looks, Closes, IsClosing}
 use Rattle.safepoint_gate.specs.declared.rule.Own.{Own}
-use Rattle.calls_in_flight.specs.declared.notes.Flight.{Flight}
 use Rattle.calls_in_flight.specs.declared.notes.Known.{Known}
 use Rattle.calls_in_flight.specs.Flight.{AreAtRest, at_rest, flight_at}
-use Rattle.safepoint_gate.proofs.Flying.{Beside, all_rest, beside_call, beside_forgotten, beside_same, call_forgotten, find_thread, forgotten, open_forgotten, stand_closed, times_at}
+use Rattle.safepoint_gate.proofs.Flying.{Beside, all_rest, beside_call, beside_forgotten, call_forgotten, find_thread, forgotten, open_forgotten, stand_closed, times_at}
 use Rattle.safepoint_gate.proofs.Totals.{set_there, total_set, total_at, total_two, total_below}
 
 abbrev pub St : Type 0

@@ -1,8 +1,7 @@
 -- The single steps of a thread that is inside keep the rule.
-use Rattle.std.proofs.Common.{◌≡◌, ◌≢◌, ℕ, ◌+◌, ◌-◌, ◌%◌, ◌^◌, ◌<◌, ◌≤◌, List, [], ◌∷◌, ◌++◌, length, get_or, set, bit_or, Option, Some, None, false, refl, sym, ap, ◌∙◌, subst, arith}
+use Rattle.std.proofs.Common.{◌≡◌, ℕ, ◌+◌, ◌-◌, ◌%◌, ◌^◌, ◌≤◌, List, [], ◌∷◌, ◌++◌, length, get_or, set, bit_or, Option, Some, None, false, refl, sym, ap, ◌∙◌, subst, arith}
 use Rattle.std.proofs.lemmas.List.{set-get_or}
-use Rattle.std.specs.Prelude.{IfSome}
-use mathlib.Core.Option.{none, some}
+use mathlib.Core.Option.{none}
 use Rattle.atomic_table.specs.Table.{Act, Allows, Valid, carried_after, keeps, step, stepped}
 use Rattle.object_layout.specs.declared.calls.Event.{Event}
 use Rattle.object_layout.specs.declared.calls.Call.{Call}
@@ -19,8 +18,6 @@ use Rattle.calls_in_flight.specs.Differing.{DiffersOnly}
 use Rattle.calls_in_flight.specs.FieldSteps.{LoadsFrom, MayLoadPool, MayRead, MayStoreField}
 use Rattle.calls_in_flight.specs.Flight.{at_rest}
 use Rattle.calls_in_flight.specs.OwnStores.{MayStore, above_stack, begins, behind_buffer, counts, done_by, enters, in_object, logs, makes, marks, pops, pushes, settles, turns}
-use Rattle.calls_in_flight.specs.Steps.{logged_at}
-use Rattle.calls_in_flight.proofs.Acting.{Moves}
 use Rattle.calls_in_flight.proofs.ViewEvents.{stores_event}
 use Rattle.calls_in_flight.proofs.ViewFields as Fields
 use Rattle.calls_in_flight.proofs.ViewMeets as Met
@@ -30,7 +27,7 @@ use Rattle.calls_in_flight.proofs.ViewTells as Told
 use Rattle.safepoint_gate.specs.declared.rule.Own.{Own}
 use Rattle.safepoint_gate.specs.declared.rule.Place.TheVariants.{Inside}
 use Rattle.safepoint_gate.specs.declared.rule.View.{View}
-use Rattle.safepoint_gate.specs.Rule.{Kept, StandsOpen, actor_of, hidden}
+use Rattle.safepoint_gate.specs.Rule.{Kept, actor_of, hidden}
 use Rattle.safepoint_gate.specs.Singles as play
 use Rattle.safepoint_gate.specs.Singles.{actor}
 use Rattle.safepoint_gate.proofs.Keeps.{St}

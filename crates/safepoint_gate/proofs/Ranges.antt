@@ -1,8 +1,8 @@
 -- The places on which a thread steps lie behind the gate's word and among the words of the heap.
-use Rattle.std.proofs.Common.{◌≡◌, ℕ, ◌+◌, ◌*◌, ◌≤◌, ◌<◌, ◌⊎◌, inl, inr, ⊎_elim, refl, sym, ap, subst, arith, Option, List, [], ◌∷◌}
+use Rattle.std.proofs.Common.{◌≡◌, ℕ, ◌≤◌, ◌<◌, inl, inr, refl, subst, arith, Option, List, [], ◌∷◌}
 use Rattle.object_layout.specs.declared.calls.Event.{Event}
 use Rattle.heap_words.specs.declared.map.Areas.{Areas}
-use Rattle.heap_words.specs.Map.{HasThread, IsAreas, heap_at, heap_length, page_words, pool_at, readers_at, total_of, HasRegion}
+use Rattle.heap_words.specs.Map.{HasThread, IsAreas, readers_at, total_of, HasRegion}
 use Rattle.calls_in_flight.specs.Actors.{Actor, MayLoad, MayMeet, in_block, in_claimed, in_entry, in_page}
 use Rattle.calls_in_flight.specs.FieldSteps.{MayLoadPool, counter, entry, size}
 use Rattle.safepoint_gate.specs.declared.rule.Own.{Own}

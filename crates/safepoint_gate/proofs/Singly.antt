@@ -1,8 +1,7 @@
 -- What a single step of a thread that is inside owes to the rule.
-use Rattle.std.proofs.Common.{◌≡◌, ◌≢◌, ℕ, ◌+◌, ◌-◌, ◌<◌, ◌≤◌, ◌==◌, cond, Bool, true, false, List, [], ◌∷◌, ◌++◌, length, get_or, set, refl, sym, ap, ◌∙◌, subst, ⊎_elim, arith, get_or-set_same, get_or-set_other, eq-eqb, ne_eqb, lit≤}
+use Rattle.std.proofs.Common.{◌≡◌, ◌≢◌, ℕ, ◌+◌, ◌-◌, ◌<◌, ◌≤◌, ◌==◌, cond, false, List, [], ◌∷◌, ◌++◌, length, get_or, set, refl, sym, ap, ◌∙◌, subst, ⊎_elim, arith, get_or-set_other, eq-eqb, ne_eqb}
 use Rattle.std.proofs.lemmas.Bool.{cases_eq}
-use Rattle.std.proofs.lemmas.List.{set_comm, set-get_or}
-use Rattle.std.specs.Prelude.{slice_index}
+use Rattle.std.proofs.lemmas.List.{set_comm}
 use Rattle.std.proofs.lemmas.List.Elements.{All-head}
 use mathlib.Core.Option.{some}
 use mathlib.Core.Logic.{dite}
@@ -14,12 +13,12 @@ use Rattle.object_layout.specs.declared.calls.Event.{Event}
 use Rattle.object_layout.specs.declared.replies.Reply.{Reply}
 use Rattle.heap_words.specs.declared.map.Areas.{Areas}
 use Rattle.heap_words.specs.Map.{HasThread}
-use Rattle.heap_words.specs.Contents.{buffer_of, contents}
+use Rattle.heap_words.specs.Contents.{buffer_of}
 use Rattle.heap_words.proofs.Contents.{buffer_of-length_word}
 use Rattle.epoch_lattice.specs.declared.Space.TheVariants.{Control}
 use Rattle.yak_model.specs.declared.history.Entry.{Entry}
 use Rattle.yak_model.specs.declared.history.Entry.TheVariants.{Said}
-use Rattle.yak_model.specs.Continued.{PackedIfAsked, entries_told}
+use Rattle.yak_model.specs.Continued.{PackedIfAsked}
 use Rattle.yak_model.specs.Graph.{standard_limits, thread_of}
 use Rattle.yak_model.specs.Lawful.{IsLawful}
 use Rattle.yak_model.specs.Private.{BecomesKnown, KnownObjects}
@@ -34,7 +33,7 @@ use Rattle.calls_in_flight.specs.declared.notes.Known.{Known}
 use Rattle.calls_in_flight.specs.Actors.{Actor, Shows}
 use Rattle.calls_in_flight.specs.Differing.{DiffersOnly}
 use Rattle.calls_in_flight.specs.Fits.{StandInFlight}
-use Rattle.calls_in_flight.specs.Flight.{at_rest, flight_at}
+use Rattle.calls_in_flight.specs.Flight.{flight_at}
 use Rattle.calls_in_flight.specs.Kinds.{IsPlainEntry}
 use Rattle.calls_in_flight.specs.Knowing as knowing
 use Rattle.calls_in_flight.specs.Steps.{logged_at}
@@ -45,17 +44,16 @@ use Rattle.calls_in_flight.proofs.Keeping.{packed-kept, plain-last, plain-lawful
 use Rattle.calls_in_flight.proofs.Knowing.{knows-step}
 use Rattle.calls_in_flight.proofs.ViewSees.{sees}
 use Rattle.calls_in_flight.proofs.ViewWords.{own-in_block, shows-word}
-use Rattle.calls_in_flight.specs.Seeing.{Sees}
 use Rattle.safepoint_gate.specs.declared.rule.Own.{Own}
 use Rattle.safepoint_gate.specs.declared.rule.Place.TheVariants.{Inside}
 use Rattle.safepoint_gate.specs.declared.rule.View.{View}
-use Rattle.safepoint_gate.specs.Rule.{AreByThread, Fits, IsUnderway, Kept, Mine, StandsOpen, Underway, actor_of, closed, hidden, inner, times, total}
-use Rattle.safepoint_gate.specs.Singles.{IsSo, Says, Tells}
+use Rattle.safepoint_gate.specs.Rule.{AreByThread, IsUnderway, Kept, Mine, StandsOpen, Underway, actor_of, closed, hidden, inner, times, total}
+use Rattle.safepoint_gate.specs.Singles.{IsSo, Tells}
 use Rattle.safepoint_gate.specs.Steps.{with_entries}
 use Rattle.safepoint_gate.proofs.Changing.{acts}
 use Rattle.safepoint_gate.proofs.Closers.{counted_same}
 use Rattle.safepoint_gate.proofs.Events.{mine_others, mine_own}
-use Rattle.safepoint_gate.proofs.Flying.{Beside, each, only, times_at}
+use Rattle.safepoint_gate.proofs.Flying.{each, only, times_at}
 use Rattle.safepoint_gate.proofs.Keeps.{St}
 use Rattle.safepoint_gate.proofs.Totals.{total_at}
 

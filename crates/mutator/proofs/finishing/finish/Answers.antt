@@ -2,7 +2,8 @@ use Rattle.std.proofs.Common.{rules, ◌≡◌, ◌≤◌, ◌++◌, List, lengt
 use Rattle.safepoint_gate.specs.declared.rule.View.{View}
 use Rattle.mutator.specs.declared.resting.Resting.{Resting}
 use Rattle.mutator.specs.Resting.{seats_of}
-use Rattle.mutator.proofs.Rested.{finishes, joined, of_first_seat, owns_length, owns_of, seats_length, taken_resting}
+use Rattle.mutator.specs.Finishing.{owns_of}
+use Rattle.mutator.proofs.Rested.{finishes, joined, of_first_seat, owns_length, seats_length, taken_resting}
 use Rattle.mutator.proofs.finishing.finish.Goals as goal
 
 pub loop-resting-init : goal.loop-resting-init

@@ -2,8 +2,7 @@ use Rattle.std.proofs.Common.{◌≡◌, ◌++◌}
 use Rattle.std.specs.Vec.{vec_len}
 use Rattle.safepoint_gate.specs.Seats.{IsOf}
 use Rattle.mutator.specs.Resting.{seats_of}
-use Rattle.mutator.specs.Finishing.{AllOf}
-use Rattle.mutator.proofs.Rested.{owns_of}
+use Rattle.mutator.specs.Finishing.{AllOf, owns_of}
 use Rattle.mutator.proofs.finishing.finish.Given as goal
 
 abbrev pub invariant-loop-resting : goal.invariant-loop-resting

@@ -9,12 +9,12 @@ use Rattle.mutator.proofs.Rested.{new_first, none_there, only_one, seats_length,
 use Rattle.mutator.proofs.Stepped.{some_recorded}
 use Rattle.mutator.proofs.tests.a_full_heap_says_so.Goals as goal
 
-pub enter-mutator-requires-clause-heap : goal.enter-mutator-requires-clause-heap
-enter-mutator-requires-clause-heap g c κs =
+pub enter-mutator-requires : goal.enter-mutator-requires
+enter-mutator-requires g c =
     let all = c.in-Ok.made.1.items in
     let some : 1 ≤ length all = let a = c.in-Ok.ensures.count in let b = seats_length all in omega arith in
     let cut = taken_resting all c.remove.new.self.items c.remove.result some c.remove.ensures.value c.remove.ensures.items in
-    new_first c.in-Ok.made.0.gate all c.remove.new.self.items c.remove.result cut c.in-Ok.ensures.seats
+    record { heap = new_first c.in-Ok.made.0.gate all c.remove.new.self.items c.remove.result cut c.in-Ok.ensures.seats }
 
 pub finish-finished-requires-clause-seats : goal.finish-finished-requires-clause-seats
 finish-finished-requires-clause-seats g c =

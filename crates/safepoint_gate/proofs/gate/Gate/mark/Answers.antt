@@ -1,4 +1,4 @@
-use Rattle.std.proofs.Common.{rules, ◌∙◌, ◌≡◌, ◌<◌, ◌+◌, ◌-◌, ◌*◌, ◌%◌, ◌^◌, ap, sym, subst, ℕ, arith}
+use Rattle.std.proofs.Common.{rules, ◌∙◌, ◌≡◌, ◌<◌, ◌-◌, ◌*◌, ◌%◌, ◌^◌, ap, sym, subst, ℕ, arith}
 use Rattle.heap_words.specs.declared.map.Areas.{Areas}
 use Rattle.heap_words.specs.Map.{HasThread, IsAreas, readers_at, total_of}
 use Rattle.std.proofs.lemmas.Nat.{pow_below}

@@ -1,7 +1,6 @@
-use Rattle.std.proofs.Common.{rules, ◌∙◌, ◌≡◌, ◌<◌, ap, sym, subst, ℕ, arith}
+use Rattle.std.proofs.Common.{rules, ◌∙◌, ◌≡◌, ap, sym, arith}
 use Rattle.heap_words.specs.declared.map.Areas.{Areas}
-use Rattle.heap_words.specs.Map.{HasThread, total_of}
-use Rattle.calls_in_flight.specs.Actors.{MayMeet}
+use Rattle.heap_words.specs.Map.{total_of}
 use Rattle.safepoint_gate.specs.Singles.{actor}
 use Rattle.safepoint_gate.proofs.Plays.{meets_keeps}
 use Rattle.safepoint_gate.proofs.Ranges.{has_actor, meet_within}

@@ -1,7 +1,6 @@
-use Rattle.std.proofs.Common.{rules, ◌∙◌, ◌≡◌, ◌<◌, ◌+◌, ap, sym, subst, ℕ, arith}
+use Rattle.std.proofs.Common.{rules, ◌∙◌, ◌≡◌, ap, sym, subst, arith}
 use Rattle.heap_words.specs.declared.map.Areas.{Areas}
 use Rattle.heap_words.specs.Map.{IsAreas, total_of}
-use Rattle.safepoint_gate.specs.Singles.{actor}
 use Rattle.safepoint_gate.proofs.Plays.{loads_pool_keeps}
 use Rattle.safepoint_gate.proofs.Ranges.{pool_within}
 use Rattle.safepoint_gate.proofs.gate.Gate.meet_pool.Goals as goal

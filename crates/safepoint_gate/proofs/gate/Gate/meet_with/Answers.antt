@@ -1,6 +1,6 @@
-use Rattle.std.proofs.Common.{rules, ◌∙◌, ◌≡◌, ◌<◌, ap, sym, subst, ℕ, arith}
+use Rattle.std.proofs.Common.{rules, ◌∙◌, ◌≡◌, ap, sym, subst, arith}
 use Rattle.heap_words.specs.declared.map.Areas.{Areas}
-use Rattle.heap_words.specs.Map.{HasThread, total_of}
+use Rattle.heap_words.specs.Map.{total_of}
 use Rattle.object_layout.specs.declared.calls.Event.{Event}
 use Rattle.calls_in_flight.specs.Actors.{MayTell}
 use Rattle.safepoint_gate.specs.Singles.{actor}

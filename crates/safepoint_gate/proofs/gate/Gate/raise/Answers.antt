@@ -1,7 +1,6 @@
-use Rattle.std.proofs.Common.{rules, ◌∙◌, ◌≡◌, ◌<◌, ◌+◌, ap, sym, subst, ℕ, arith}
+use Rattle.std.proofs.Common.{rules, ◌∙◌, ◌≡◌, ◌<◌, ap, sym, arith}
 use Rattle.heap_words.specs.declared.map.Areas.{Areas}
 use Rattle.heap_words.specs.Map.{total_of}
-use Rattle.safepoint_gate.specs.Singles.{actor}
 use Rattle.region_pages.specs.declared.TheConstants.{CLAIM_COUNTER}
 use Rattle.safepoint_gate.proofs.Plays.{claims_keeps}
 use Rattle.safepoint_gate.proofs.gate.Gate.raise.Goals as goal

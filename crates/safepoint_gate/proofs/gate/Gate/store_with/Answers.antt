@@ -1,7 +1,6 @@
-use Rattle.std.proofs.Common.{rules, ◌∙◌, ◌≡◌, ◌<◌, ◌+◌, ap, sym, subst, ℕ, arith}
+use Rattle.std.proofs.Common.{rules, ◌∙◌, ◌≡◌, ◌+◌, ap, sym, arith}
 use Rattle.heap_words.specs.declared.map.Areas.{Areas}
 use Rattle.heap_words.specs.Map.{total_of}
-use Rattle.safepoint_gate.specs.Singles.{actor}
 use Rattle.object_layout.specs.declared.TheConstants.{OBJECT_WORDS}
 use Rattle.heap_words.specs.Map.{heap_at}
 use Rattle.safepoint_gate.proofs.Plays.{stores_field_keeps}
