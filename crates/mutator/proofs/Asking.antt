@@ -42,6 +42,9 @@ module _ (v w : View) (single : length v.own ≡ 1) (searched : Searches v w) wh
   pub thread_still : (actor w).thread ≡ (actor v).thread
   thread_still = ap (λ (a : Actor). a.thread) (told_of v w searched.more single searched.view)
 
+  pub length_still : (n : ℕ) → n ≡ length (actor v).told.stack → n ≡ length (actor w).told.stack
+  length_still n is = is ∙ sym (ap (λ (t : Actor). length t.told.stack) (told_of v w searched.more single searched.view))
+
   pub map_still : w.map ≡ v.map
   map_still = map_of v w searched.more searched.view
 
@@ -88,8 +91,7 @@ looks_slot v w k word single loaded = searches_one v w (slot_at v.map (actor v).
 
 pub shows_slot : (v w : View) (k word : ℕ) → length v.own ≡ 1 → IsQuiet v → k < length (actor v).told.stack → Loaded v (slot_at v.map (actor v).thread k) None word w → ShowsSlot w k word
 shows_slot v w k word single quiet there loaded =
-    let s = looks_slot v w k word single loaded in
-    (
+    let s = looks_slot v w k word single loaded in (
       (let n = ap (λ (t : Actor). length t.told.stack) (told_of v w s.more single s.view) in omega (arith, n, there)),
       subst (λ (p : ℕ). Shows (actor w) p word) (λ i. slot_at (sym (map_still v w single s) i) (sym (thread_still v w single s) i) k) (shows_loaded v w (slot_at v.map (actor v).thread k) word single quiet loaded),
     )

@@ -149,8 +149,13 @@ module _ (v u1 u2 : View) (size n : ℕ) (single : length v.own ≡ 1) (one : le
       view = loads3;
       flight = ap (λ (a : Actor). a.flight) (same3 few) ∙ flight1 ∙ sym rest;
       so = so_again v u1 u3 first.flight (actor u3).flight (loads_of v ++ known POOL_LENGTH size ∷ []) (loads_of v ++ (known POOL_LENGTH size ∷ known CLAIM_COUNTER n ∷ known CLAIM_COUNTER k ∷ [])) first.lasting u3.lasting (put_of v) (put_of v) single first.view loads3 (same3 few) first.meets.so;
-      none = (size, k, front (known CLAIM_COUNTER n ∷ known CLAIM_COUNTER k ∷ []) (known POOL_LENGTH size),
-        behind (known CLAIM_COUNTER n ∷ known CLAIM_COUNTER k ∷ []) (known POOL_LENGTH size) (known CLAIM_COUNTER k) (behind (known CLAIM_COUNTER k ∷ []) (known CLAIM_COUNTER n) (known CLAIM_COUNTER k) (front [] (known CLAIM_COUNTER k))), few);
+      none = (
+        size,
+        k,
+        front (known CLAIM_COUNTER n ∷ known CLAIM_COUNTER k ∷ []) (known POOL_LENGTH size),
+        behind (known CLAIM_COUNTER n ∷ known CLAIM_COUNTER k ∷ []) (known POOL_LENGTH size) (known CLAIM_COUNTER k) (behind (known CLAIM_COUNTER k ∷ []) (known CLAIM_COUNTER n) (known CLAIM_COUNTER k) (front [] (known CLAIM_COUNTER k))),
+        few,
+      );
     }
 
     map3 : u3.map ≡ u1.map

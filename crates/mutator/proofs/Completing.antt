@@ -120,8 +120,8 @@ module _ (v w1 : View) (room : Room) (k : ℕ) (header : Header) (name : Name) (
               let e = flight_claimed claimed in
               subst (λ (f : Flight). IsBare f.covers (block_at v.map (actor v).thread + j)) (sym e.3)
               (bare_more (page_over v.map (actor v) room e.0) (mark_over v.map room (k + OBJECT_WORDS) e.1 ∷ entry_over v.map (actor v) room e.2 ∷ written.object) (block_at v.map (actor v).thread + j) (λ x. other (sym x))
-                (bare_more (mark_over v.map room (k + OBJECT_WORDS) e.1) (entry_over v.map (actor v) room e.2 ∷ written.object) (block_at v.map (actor v).thread + j) (λ x. absurd (omega (arith, x, low)))
-                  (bare_more (entry_over v.map (actor v) room e.2) written.object (block_at v.map (actor v).thread + j) (λ x. absurd (omega (arith, x, low))) rest)))
+              (bare_more (mark_over v.map room (k + OBJECT_WORDS) e.1) (entry_over v.map (actor v) room e.2 ∷ written.object) (block_at v.map (actor v).thread + j) (λ x. absurd (omega (arith, x, low)))
+              (bare_more (entry_over v.map (actor v) room e.2) written.object (block_at v.map (actor v).thread + j) (λ x. absurd (omega (arith, x, low))) rest)))
         ]
 
     same_flight : (actor w2).flight ≡ with_covers (actor v).flight (actor w2).flight.covers
@@ -184,7 +184,7 @@ module _ (v w1 : View) (room : Room) (k : ℕ) (header : Header) (name : Name) (
         bare3 : IsBare (actor w3).flight.covers (slot_at v.map (actor v).thread (length (actor v).told.stack))
         bare3 = subst (λ (f : Flight). IsBare f.covers (slot_at v.map (actor v).thread (length (actor v).told.stack))) (sym flight3)
             (bare_more (cover_at (made_at v.map (actor v).thread) ((actor v).told.made + 1) (actor v).told.made) (actor w2).flight.covers (slot_at v.map (actor v).thread (length (actor v).told.stack)) (λ e. absurd (omega (arith, e)))
-              (bare_block (stack_start v.map + length (actor v).told.stack) slot_low (λ e. let d = h.deep in absurd (omega (arith, e, d)))))
+            (bare_block (stack_start v.map + length (actor v).told.stack) slot_low (λ e. let d = h.deep in absurd (omega (arith, e, d)))))
 
         -- the slot
         pub may_push : (word : ℕ) → MayStore w3.map (actor w3) (slot_at v.map (actor v).thread (length (actor v).told.stack)) word None
@@ -217,7 +217,7 @@ module _ (v w1 : View) (room : Room) (k : ℕ) (header : Header) (name : Name) (
           shows4 : (q x : ℕ) → Shows (actor v) q x → Shows (seen v w4) q x
           shows4 q x s = subst (λ (a : Actor). Shows a q x) is4
               (laid_keeps w3 w4 (slot_at v.map (actor v).thread (length (actor v).told.stack)) (2 * ((page_words v.map * room.page + room.used) + 1)) bare3 l4 q x
-                (laid_keeps w2 w3 (made_at v.map (actor v).thread) ((actor v).told.made + 1) bare2 l3 q x (entered.shows q x (written.shows q x s))))
+              (laid_keeps w2 w3 (made_at v.map (actor v).thread) ((actor v).told.made + 1) bare2 l3 q x (entered.shows q x (written.shows q x s))))
 
           met4 : (q x : ℕ) → heap_at v.map ≤ q → HasMet (actor w1) q x → HasMet (seen v w4) q x
           met4 q x far had =
@@ -228,12 +228,12 @@ module _ (v w1 : View) (room : Room) (k : ℕ) (header : Header) (name : Name) (
               let at1 : heap_at w1.map ≤ q = subst (λ (a : Areas). heap_at a ≤ q) (sym map1) far in
               subst (λ (a : Actor). HasMet a q x) is4
               (laid_met w3 w4 (slot_at v.map (actor v).thread (length (actor v).told.stack)) (2 * ((page_words v.map * room.page + room.used) + 1)) bare3 l4 q x (λ e. absurd (omega (arith, e, far, tb, pb, sl)))
-                (laid_met w2 w3 (made_at v.map (actor v).thread) ((actor v).told.made + 1) bare2 l3 q x (λ e. absurd (omega (arith, e, far, tb, pb, ml))) (entered.met q x at1 had)))
+              (laid_met w2 w3 (made_at v.map (actor v).thread) ((actor v).told.made + 1) bare2 l3 q x (λ e. absurd (omega (arith, e, far, tb, pb, ml))) (entered.met q x at1 had)))
 
           room4 : HasRoom v.map (seen v w4) room k (actor w4).flight.covers
           room4 = room_kept v.map v.map (actor v) (seen v w4) refl refl refl shows4 room k [] (actor w4).flight.covers
               (flight4 ∙ ap (λ (f : Flight). with_covers f (cover_at (slot_at v.map (actor v).thread (length (actor v).told.stack)) (2 * ((page_words v.map * room.page + room.used) + 1)) l4.shown ∷ cover_at (made_at v.map (actor v).thread) ((actor v).told.made + 1) (actor v).told.made ∷ (actor w2).flight.covers)) same_flight
-                ∙ ap (λ (f : Flight). with_covers (actor v).flight f.covers) (sym flight4)) h
+              ∙ ap (λ (f : Flight). with_covers (actor v).flight f.covers) (sym flight4)) h
 
           abbrev placing : Placing v.map (seen v w4)
           placing = placing_of v.map (seen v w4) room k (actor w4).flight.covers room4

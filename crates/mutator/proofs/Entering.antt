@@ -174,8 +174,8 @@ module _ (v : View) (room : Room) (fields : ℕ) (single : length v.own ≡ 1) (
             let beside : current_place < heap_at v.map = let t = table_below v.map in let p = pool_below v.map in omega (arith, low, t, p) in
             subst (λ (f : Flight). IsBare f.covers current_place) (sym flight2)
             (bare_more (cover_at mark_place (room.used + (fields + OBJECT_WORDS)) l2.shown) (cover_at entry_place entry_word l1.shown ∷ (actor v).flight.covers) current_place (λ e. absurd (omega (arith, e, low)))
-              (bare_more (cover_at entry_place entry_word l1.shown) (actor v).flight.covers current_place (λ e. absurd (omega (arith, e, low)))
-                (bare_low v.map (actor v).flight.covers current_place high beside)))
+            (bare_more (cover_at entry_place entry_word l1.shown) (actor v).flight.covers current_place (λ e. absurd (omega (arith, e, low)))
+            (bare_low v.map (actor v).flight.covers current_place high beside)))
 
         current_same : current_at w.map (actor w).thread (actor w).told.depth ≡ current_place
         current_same = λ i. current_at (map2 i) (thread2 i) (told2 i).depth
@@ -206,7 +206,7 @@ module _ (v : View) (room : Room) (fields : ℕ) (single : length v.own ≡ 1) (
                 met = λ q n far had.
                     laid_met w x current_place (room.page + 1) bare2 l3 q n (λ e. absurd (omega (arith, e, far, low, t, p)))
                     (laid_met u w mark_place (room.used + (fields + OBJECT_WORDS)) bare1 l2 q n (λ e. absurd (omega (arith, e, far, mark_low)))
-                      (laid_met v u entry_place entry_word entry_bare l1 q n (λ e. absurd (omega (arith, e, far, entry_low))) had));
+                    (laid_met v u entry_place entry_word entry_bare l1 q n (λ e. absurd (omega (arith, e, far, entry_low))) had));
                 in_current = λ other. absurd (true≢false (sym yes ∙ other));
                 on_claimed = λ _. (l3.shown, l2.shown, l1.shown, laid_flight w x current_place (room.page + 1) bare2 l3 ∙ ap (λ (f : Flight). with_covers f (cover_at current_place (room.page + 1) l3.shown ∷ f.covers)) flight2);
               }

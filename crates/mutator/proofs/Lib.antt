@@ -13,3 +13,5 @@ pub mod Entering
 pub mod Completing
 pub mod Refusing
 pub mod Asking
+pub mod Trying
+pub mod Deciding

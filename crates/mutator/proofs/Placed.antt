@@ -54,9 +54,10 @@ flies_map v w is = ap (λ (x : View). x.map) is
 
 module _ (m n : Areas) (a b : Actor) (map : n ≡ m) (thread : b.thread ≡ a.thread) (told : b.told ≡ a.told) (shows : (place word : ℕ) → Shows a place word → Shows b place word) where
   pub current_kept : (p used : ℕ) → IsInCurrent m a p used → IsInCurrent n b p used
-  current_kept p used h =
-      (subst (λ (q : ℕ). Shows b q (p + 1)) (λ i. current_at (sym map i) (sym thread i) (sym told i).depth) (shows _ _ h.0),
-        subst (λ (q : ℕ). Shows b q used) (λ i. page_at (sym map i) p + USED_MARK) (shows _ _ h.1))
+  current_kept p used h = (
+    subst (λ (q : ℕ). Shows b q (p + 1)) (λ i. current_at (sym map i) (sym thread i) (sym told i).depth) (shows _ _ h.0),
+    subst (λ (q : ℕ). Shows b q used) (λ i. page_at (sym map i) p + USED_MARK) (shows _ _ h.1),
+  )
 
   pub no_room_kept : (size : ℕ) → HasNoRoomFor m a size → HasNoRoomFor n b size
   no_room_kept size (inl none) = inl (subst (λ (q : ℕ). Shows b q 0) (λ i. current_at (sym map i) (sym thread i) (sym told i).depth) (shows _ _ none))

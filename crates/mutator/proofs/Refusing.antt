@@ -91,47 +91,20 @@ module _ (m : Areas) (a : Actor) where
   push_refused : (asked : Call) (word : ℕ) → IsPushOf m a asked word → STACK_SLOTS ≤ length a.told.stack → (g : Graph) → Agrees m a g → refusal_of g a.thread asked ≡ Some refusal.StackFull
   push_refused (call.Int i) word push h g agrees = first_is _ refusal.StackFull [] (full g agrees h)
   push_refused call.Null word push h g agrees = first_is _ refusal.StackFull [] (full g agrees h)
-  push_refused (call.Dup k) word push h g agrees = first_not _ refusal.BadSlot _ (good g k agrees push.0) ∙ first_is _ refusal.StackFull [] (full g agrees h)
+  push_refused (call.Dup k) word push h g agrees = first_not (is_bad_slot g a.thread k) refusal.BadSlot ((is_stack_full g a.thread, refusal.StackFull) ∷ []) (good g k agrees push.0) ∙ first_is _ refusal.StackFull [] (full g agrees h)
   push_refused asked word push h g agrees = absurd push
 
   -- a push on a full stack is refused
   pub tells_full : (asked : Call) (word : ℕ) → IsPushOf m a asked word → IsAtRest a → STACK_SLOTS ≤ length a.told.stack → MayTell m a (told_by asked (reply.Refused refusal.StackFull))
   tells_full asked word push rests h = tells_refusal asked refusal.StackFull (push_number asked word push) (push_quick asked word push) rests (push_refused asked word push h)
 
-  pub tells_full_dup : (k : ℕ) → IsAtRest a → k < length a.told.stack → STACK_SLOTS ≤ length a.told.stack → MayTell m a (told_by (call.Dup k) (reply.Refused refusal.StackFull))
-  tells_full_dup k rests there h =
-      tells_refusal (call.Dup k) refusal.StackFull tt tt rests
-      (λ g agrees. first_not _ refusal.BadSlot _ (good g k agrees there) ∙ first_is _ refusal.StackFull [] (full g agrees h))
-
-  pub tells_bad_dup : (k : ℕ) → IsAtRest a → length a.told.stack ≤ k → MayTell m a (told_by (call.Dup k) (reply.Refused refusal.BadSlot))
-  tells_bad_dup k rests h = tells_refusal (call.Dup k) refusal.BadSlot tt tt rests (λ g agrees. first_is _ refusal.BadSlot _ (bad g k agrees h))
-
-  pub tells_empty : IsAtRest a → length a.told.stack ≡ 0 → MayTell m a (told_by call.Pop (reply.Refused refusal.StackEmpty))
-  tells_empty rests h =
-      tells_refusal call.Pop refusal.StackEmpty tt tt rests
-      (λ g agrees. first_is _ refusal.StackEmpty [] (le-leb _ _ (let n = slots_of g agrees in omega (arith, n, h))))
-
-  pub tells_bad_get : (k : ℕ) → IsAtRest a → length a.told.stack ≤ k → MayTell m a (told_by (call.Get k) (reply.Refused refusal.BadSlot))
-  tells_bad_get k rests h = tells_refusal (call.Get k) refusal.BadSlot tt tt rests (λ g agrees. first_is _ refusal.BadSlot _ (bad g k agrees h))
-
-  pub tells_bad_same : (k x : ℕ) → IsAtRest a → ((length a.told.stack ≤ k) ⊎ (length a.told.stack ≤ x)) → MayTell m a (told_by (call.Same k x) (reply.Refused refusal.BadSlot))
-  tells_bad_same k x rests h = tells_refusal (call.Same k x) refusal.BadSlot tt tt rests (λ g agrees. either g agrees h)
-    where
-      either : (g : Graph) → Agrees m a g → ((length a.told.stack ≤ k) ⊎ (length a.told.stack ≤ x)) → refusal_of g a.thread (call.Same k x) ≡ Some refusal.BadSlot
-      either g agrees (inl first) = first_is _ refusal.BadSlot _ (bad g k agrees first)
-      either g agrees (inr second) = second_is (is_bad_slot g a.thread k) (first_is _ refusal.BadSlot [] (bad g x agrees second))
-        where
-          second_is : (b : Bool) → first_refusal ((is_bad_slot g a.thread x, refusal.BadSlot) ∷ []) ≡ Some refusal.BadSlot → first_refusal ((b, refusal.BadSlot) ∷ (is_bad_slot g a.thread x, refusal.BadSlot) ∷ []) ≡ Some refusal.BadSlot
-          second_is true e = refl
-          second_is false e = e
-
   pub tells_deep : IsAtRest a → MAX_DEPTH ≤ a.told.depth → MayTell m a (told_by call.Begin (reply.Refused refusal.TooDeep))
   tells_deep rests h =
       tells_refusal call.Begin refusal.TooDeep tt tt rests
       (λ g agrees. first_is _ refusal.TooDeep [] (le-leb _ _ (
-        let limit : g.limits.depth ≡ MAX_DEPTH = ap (λ (l : Limits). l.depth) agrees.limits in
-        let depth : (thread_of g a.thread).depth ≡ a.told.depth = ap (λ (t : Thread). t.depth) agrees.has in
-        omega (arith, limit, depth, h))))
+      let limit : g.limits.depth ≡ MAX_DEPTH = ap (λ (l : Limits). l.depth) agrees.limits in
+      let depth : (thread_of g a.thread).depth ≡ a.told.depth = ap (λ (t : Thread). t.depth) agrees.has in
+      omega (arith, limit, depth, h))))
 
   -- ---- what is shown
 
@@ -143,7 +116,7 @@ module _ (m : Areas) (a : Actor) where
   tells_get k said rests plain is = record { number = tt; quick = tt; alone = refl; idle = inl tt; plain = plain; rests = rests; answered = is }
 
   let_same : (k x : ℕ) → k < length a.told.stack → x < length a.told.stack → IsLet m a (call.Same k x)
-  let_same k x first second g agrees = first_not _ refusal.BadSlot _ (good g k agrees first) ∙ first_not _ refusal.BadSlot [] (good g x agrees second)
+  let_same k x first second g agrees = first_not (is_bad_slot g a.thread k) refusal.BadSlot ((is_bad_slot g a.thread x, refusal.BadSlot) ∷ []) (good g k agrees first) ∙ first_not (is_bad_slot g a.thread x) refusal.BadSlot [] (good g x agrees second)
 
   pub tells_yes : (k x : ℕ) → IsAtRest a → k < length a.told.stack → x < length a.told.stack → slot_told a k ≡ slot_told a x → MayTell m a (told_by (call.Same k x) reply.Yes)
   tells_yes k x rests first second e = record {

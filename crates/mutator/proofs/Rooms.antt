@@ -140,9 +140,10 @@ module _ (v u : View) (current depth size : ℕ) (single : length v.own ≡ 1) (
         let depth_now : (actor w).told.depth ≡ (actor u).told.depth = ap (λ (a : Actor). a.told.depth) last in
         let page : Shows (actor w) (current_at u.map (actor u).thread (actor u).told.depth) (current - 1 + 1) =
         loaded_shows u w (page_at u.map (current - 1) + USED_MARK) used one next _ _ (subst (λ (n : ℕ). Shows (actor u) (current_at u.map (actor u).thread (actor u).told.depth) n) ((current_page some).0) shown) in
-        let mark = shows_loaded u w (page_at u.map (current - 1) + USED_MARK) used one rests next in
-        (subst (λ (p : ℕ). Shows (actor w) p (current - 1 + 1)) (λ i. current_at (sym map_next i) (sym thread i) (sym depth_now i)) page,
-          subst (λ (p : ℕ). Shows (actor w) p used) (λ i. page_at (sym map_next i) (current - 1) + USED_MARK) mark)
+        let mark = shows_loaded u w (page_at u.map (current - 1) + USED_MARK) used one rests next in (
+          subst (λ (p : ℕ). Shows (actor w) p (current - 1 + 1)) (λ i. current_at (sym map_next i) (sym thread i) (sym depth_now i)) page,
+          subst (λ (p : ℕ). Shows (actor w) p used) (λ i. page_at (sym map_next i) (current - 1) + USED_MARK) mark,
+        )
 
     there : current - 1 < w.map.pages
     there = subst (λ (m : Areas). current - 1 < m.pages) (sym map_next) ((current_page some).1)
@@ -158,11 +159,14 @@ module _ (v u : View) (current depth size : ℕ) (single : length v.own ≡ 1) (
     pub finds_none : page_words w.map < used + size → FindsNone v size w
     finds_none full = record {
       searches = searches;
-      full = inr (current - 1, used,
+      full = inr (
+        current - 1,
+        used,
         Contains-append_left (record { place = current_at v.map (actor v).thread depth; word = current } ∷ []) (record { place = page_at u.map (current - 1) + USED_MARK; word = used } ∷ []) _
-          (subst (λ (n : ℕ). WasLoaded (record { place = current_at v.map (actor v).thread depth; word = current } ∷ []) (current_at v.map (first_thread v.own) (actor v).told.depth) n) ((current_page some).0) was),
+            (subst (λ (n : ℕ). WasLoaded (record { place = current_at v.map (actor v).thread depth; word = current } ∷ []) (current_at v.map (first_thread v.own) (actor v).told.depth) n) ((current_page some).0) was),
         Contains-append_right (record { place = current_at v.map (actor v).thread depth; word = current } ∷ []) (record { place = page_at u.map (current - 1) + USED_MARK; word = used } ∷ []) _
-          (subst (λ (m : Areas). WasLoaded (record { place = page_at u.map (current - 1) + USED_MARK; word = used } ∷ []) (page_at m (current - 1) + USED_MARK) used) map_same (front [] (record { place = page_at u.map (current - 1) + USED_MARK; word = used }))),
-        full);
+            (subst (λ (m : Areas). WasLoaded (record { place = page_at u.map (current - 1) + USED_MARK; word = used } ∷ []) (page_at m (current - 1) + USED_MARK) used) map_same (front [] (record { place = page_at u.map (current - 1) + USED_MARK; word = used }))),
+        full,
+      );
       none = inr (current - 1, used, in_current, full);
     }

@@ -95,6 +95,24 @@ pub record HasRoom (m : Areas) (a : Actor) (room : Room) (fields : ℕ) (covers 
   pub in_current : room.claimed ≡ false → IsInCurrent m a room.page room.used × (a.flight ≡ record (at_rest a.thread) { covers = covers })
   pub on_claimed : room.claimed ≡ true → (room.used ≡ 0) × HasNoRoomFor m a (fields + OBJECT_WORDS) × (a.flight ≡ record (at_rest a.thread) { covers = covers; claimed = room.page ∷ [] })
 
+-- Room was found for an object of so many fields, by loads that don't show that no page was left. What the thread knew of the places
+-- before the pool it still knows.
+pub record GetsRoom (v : View) (fields : ℕ) (room : Room) (w : View) : Type 0 where
+  pub more : List Known
+  pub view : Loads v more w
+  pub shows : (place word : ℕ) → place < pool_at v.map → Shows (actor v) place word → Shows (actor w) place word
+  pub has : HasRoom w.map (actor w) room fields []
+  pub found : ShowsNoPage more → ⊥
+
+-- None was found, as the loads show.
+pub record GetsNone (v : View) (fields : ℕ) (w : View) : Type 0 where
+  pub more : List Known
+  pub view : Loads v more w
+  pub flight : (actor w).flight ≡ (actor v).flight
+  pub so : IsSo w
+  pub full : ShowsFull v more (actor v).told.depth (fields + OBJECT_WORDS)
+  pub none : ShowsNoPage more
+
 -- The first words of an object were stored from a heap word on, so many.
 pub record WritesObject (v : View) (front : ℕ) (header : Header) (name : Name) (count : ℕ) (w : View) : Type 0 where
   pub view : Flies v w

@@ -1,7 +1,7 @@
 //! New objects, made by a thread that waits for nobody, on a seat that is inside.
 ghost use Rattle.std.specs.Prelude.{◌≡◌, ◌<◌, ◌≤◌, ◌+◌, ℕ, List, [], IfErr, IfOk, ◌^◌, MatchOption, length as list_length};
 ghost use Rattle.std.specs.List.{All};
-ghost use Rattle.object_layout.specs.declared.TheConstants.{MAX_SERIAL, OBJECT_WORDS};
+ghost use Rattle.object_layout.specs.declared.TheConstants.{MAX_FIELDS, MAX_SERIAL, OBJECT_WORDS};
 ghost use Rattle.object_layout.specs.declared.calls.Call.TheVariants as the_call;
 ghost use Rattle.object_layout.specs.declared.replies.Reply.TheVariants as the_reply;
 ghost use Rattle.object_layout.specs.Layout.{IsHeader, IsName};
@@ -14,7 +14,7 @@ ghost use Rattle.calls_in_flight.specs.OwnStores.{Placing, front_of};
 ghost use Rattle.calls_in_flight.specs.Steps.{made_at};
 ghost use Rattle.safepoint_gate.specs.Seats.{IsOf};
 ghost use Rattle.safepoint_gate.specs.Singles.{IsQuiet, actor};
-ghost use Rattle.mutator.specs.Making.{ClaimsNone, ClaimsRoom, EntersPage, FindsNone, FindsRoom, HasRoom, WritesObject};
+ghost use Rattle.mutator.specs.Making.{ClaimsNone, ClaimsRoom, EntersPage, FindsNone, FindsRoom, GetsNone, GetsRoom, HasRoom, WritesObject};
 ghost use Rattle.mutator.specs.Quick.{Answers, AnswersNew, FindsNoPage};
 
 use crate::quick_calls::{refuse, stack_length, tell, told};
@@ -90,6 +90,25 @@ fn claim_room(inside: &mut Inside, gate: &Gate) -> Result<Room, NoPage>
         used: 0,
         claimed: true,
     })
+}
+
+// The room for an object of k fields, in the current page or of a page that is claimed.
+fn find_room(inside: &mut Inside, gate: &Gate, depth: u8, k: u32) -> Result<Room, NoPage>
+    requires gate { IsOf gate.now inside.old.seat.table_id inside.old.seat.me.0 }
+    requires quiet { IsQuiet inside.old.seat.me.0 }
+    requires depth { depth ≡ (actor inside.old.seat.me.0).told.depth }
+    requires deep { depth ≤ max_depth inside.old.seat.me.0.map }
+    requires few { k ≤ MAX_FIELDS }
+    ensures gate { IsOf gate.now inside.new.seat.table_id inside.new.seat.me.0 }
+    ensures found { IfOk result (λ room. GetsRoom inside.old.seat.me.0 k room inside.new.seat.me.0) }
+    ensures none { IfErr result (λ _. GetsNone inside.old.seat.me.0 k inside.new.seat.me.0) }
+    ensures thread { inside.new.thread ≡ inside.old.thread }
+{
+    let size = u64::from(k) + u64::from(OBJECT_WORDS);
+    match room_in_current(inside, gate, depth, size) {
+        Some(room) => Ok(room),
+        None => claim_room(inside, gate),
+    }
 }
 
 // Stores the words of a new object: its header, its name and words of 0.
@@ -213,10 +232,7 @@ pub(crate) fn new_object(inside: &mut Inside, gate: &Gate, k: u32) -> Result<Rep
         ));
     }
     let depth = inside.load_own(gate, depth_place(gate.map(), inside.thread()), None) as u8;
-    let room = match room_in_current(inside, gate, depth, u64::from(k) + u64::from(OBJECT_WORDS)) {
-        Some(room) => room,
-        None => claim_room(inside, gate)?,
-    };
+    let room = find_room(inside, gate, depth, k)?;
     make_in(inside, gate, room, k, depth, made, length);
     Ok(Reply::Ok)
 }
