@@ -8,3 +8,4 @@ pub mod Rooms
 pub mod Claiming
 pub mod Refusing
 pub mod Asking
+pub mod Valued
