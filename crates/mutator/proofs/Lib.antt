@@ -7,3 +7,5 @@ pub mod Looking
 pub mod Rooms
 pub mod Claiming
 pub mod Placed
+pub mod FieldTests
+pub mod FoundFields

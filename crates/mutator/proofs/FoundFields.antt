@@ -1,0 +1,116 @@
+-- The field of a slot's object, as a call finds it.
+use Rattle.std.proofs.Common.{◌≡◌, ◌⊎◌, ℕ, ◌+◌, ◌*◌, ◌≤◌, ◌<◌, List, [], ◌∷◌, ◌++◌, length, refl, sym, ap, subst, ◌∙◌, arith, None}
+use Rattle.object_layout.specs.declared.TheConstants.{HEADER_BASE, MAX_ADDRESS, MAX_FIELDS, MAX_SPACE, SPACE_UNIT}
+use Rattle.object_layout.specs.declared.calls.Call.{Call}
+use Rattle.object_layout.specs.declared.headers.Header.{Header}
+use Rattle.object_layout.specs.declared.replies.Refusal.TheVariants.{BadField, NotAReference}
+use Rattle.object_layout.specs.declared.replies.Reply.{Reply}
+use Rattle.object_layout.specs.declared.replies.Reply.TheVariants.{Refused}
+use Rattle.heap_words.specs.declared.map.Areas.{Areas}
+use Rattle.heap_words.specs.Map.{heap_at, heap_length}
+use Rattle.epoch_lattice.specs.Lattice.{space_index}
+use Rattle.calls_in_flight.specs.declared.notes.Known.{Known}
+use Rattle.calls_in_flight.specs.Actors.{Actor, HasHeader, HasMet, MayTell, RefersTo, Shows, learn}
+use Rattle.calls_in_flight.specs.Seeing.{IsHeaderIn}
+use Rattle.calls_in_flight.specs.Steps.{slot_at}
+use Rattle.yak_model.specs.Graph.{Thread}
+use Rattle.safepoint_gate.specs.declared.rule.View.{View}
+use Rattle.safepoint_gate.specs.Singles.{IsQuiet, IsSo, Loaded, actor, loads_of, moved, put_of}
+use Rattle.barriers.specs.Barred.{OnlyLoads}
+use Rattle.barriers.proofs.StillKnown.{Keeps, keeps-refers, met-shows, refers-to}
+use Rattle.barriers.proofs.MovedViews.{loaded-keeps, loaded-met, loaded-word, loads-quiet, loads-then}
+use Rattle.barriers.proofs.Logging.{quiet-none, quiet-rest}
+use Rattle.mutator.specs.FieldCalls.{FindsField, ReachesField}
+use Rattle.mutator.specs.Quick.{Answered, Answers, told_by}
+use Rattle.mutator.proofs.Answering.{answers_since}
+use Rattle.mutator.proofs.FieldTests.{no-reference, no-such_field, reaches-call, reaches-quick, slot-nowhere, slot-object, tells-refusal}
+
+-- a word of the thread's block that was loaded
+pub shows-loaded : (v w : View) (place : Areas → ℕ → ℕ) (word : ℕ) → IsQuiet v → Loaded v (place v.map (actor v).thread) None word w → Shows (actor w) (place w.map (actor w).thread) word
+shows-loaded v w place word quiet loaded =
+    let keeps = loaded-keeps v w (place v.map (actor v).thread) word loaded in
+    met-shows (actor w) (place w.map (actor w).thread) word (quiet-none w (loads-quiet v w _ _ loaded.0 quiet))
+    (subst (λ p. HasMet (actor w) p word) (λ i. place (sym keeps.map i) (sym keeps.thread i)) (loaded-word v w (place v.map (actor v).thread) word loaded))
+
+pub length-kept : (v w : View) (k : ℕ) → Keeps v.map w.map (actor v) (actor w) → k < length (actor v).told.stack → k < length (actor w).told.stack
+length-kept v w k keeps lt = subst (λ (t : Thread). k < length t.stack) (sym keeps.told) lt
+
+-- a call's entry was told by a word that was loaded again
+pub told-answered : (u w : View) (asked : Call) (said r : Reply) (place : ℕ) → r ≡ said → (word : ℕ) × Answers u asked said (record { place = place; word = word } ∷ []) w → Answered u asked r w
+told-answered u w asked said r place e h = (record { place = place; word = h.0 } ∷ [], subst (λ x. Answers u asked x (record { place = place; word = h.0 } ∷ []) w) (sym e) h.1)
+
+-- after loads
+pub answered-since : (v u w : View) (asked : Call) (said : Reply) (more lasting : List Known) → length v.own ≡ 1 → OnlyLoads v more lasting u → Answered u asked said w → Answered v asked said w
+answered-since v u w asked said more lasting one is h = (more ++ h.0, answers_since v u w asked said (actor v).flight lasting more h.0 one is h.1)
+
+-- the slot's word was loaded
+module _ (v u : View) (s f word : ℕ) (asked : Call) (quiet : IsQuiet v) (lt : s < length (actor v).told.stack) (reaches : ReachesField (length (actor v).told.stack) s f asked) (slot : Loaded v (slot_at v.map (actor v).thread s) None word u) where
+  keeps-u : Keeps v.map u.map (actor v) (actor u)
+  keeps-u = loaded-keeps v u (slot_at v.map (actor v).thread s) word slot
+
+  quiet-u : IsQuiet u
+  quiet-u = loads-quiet v u _ _ slot.0 quiet
+
+  shows-u : Shows (actor u) (slot_at u.map (actor u).thread s) word
+  shows-u = shows-loaded v u (λ m t. slot_at m t s) word quiet slot
+
+  lt-u : s < length (actor u).told.stack
+  lt-u = length-kept v u s keeps-u lt
+
+  reaches-u : ReachesField (length (actor u).told.stack) s f asked
+  reaches-u = subst (λ (t : Thread). ReachesField (length t.stack) s f asked) (sym keeps-u.told) reaches
+
+  pub tells-no_reference : heap_length u.map ≤ MAX_ADDRESS + 1 → ((at : ℕ) → at ≤ MAX_ADDRESS → word ≡ 2 * (at + 1) → ⊥) → MayTell u.map (actor u) (told_by asked (Refused NotAReference))
+  tells-no_reference most not =
+      let nowhere = slot-nowhere u.map (actor u) slot.1.so.state slot.1.so.sees s word most lt-u shows-u not in
+      tells-refusal u.map (actor u) asked NotAReference (reaches-call _ s f asked reaches) (reaches-quick _ s f asked reaches) (quiet-rest u quiet-u)
+      (λ g ag. no-reference u.map (actor u) g ag s f asked reaches-u lt-u nowhere)
+
+  module _ (at : ℕ) (e : word ≡ 2 * (at + 1)) where
+    pub refers-u : RefersTo u.map (actor u) s at
+    refers-u = refers-to u.map (actor u) slot.1.so.state slot.1.so.sees s at word lt-u shows-u e
+
+    -- and the header of its object
+    module _ (w : View) (header : ℕ) (loaded : Loaded u (heap_at u.map + at) None header w) where
+      keeps-w : Keeps u.map w.map (actor u) (actor w)
+      keeps-w = loaded-keeps u w (heap_at u.map + at) header loaded
+
+      pub refers-w : RefersTo w.map (actor w) s at
+      refers-w = keeps-refers u.map w.map (actor u) (actor w) keeps-w s at refers-u
+
+      pub met-header : HasMet (actor w) (heap_at w.map + at) header
+      met-header = subst (λ (m : Areas). HasMet (actor w) (heap_at m + at) header) (sym keeps-w.map) (loaded-word u w (heap_at u.map + at) header loaded)
+
+      abbrev told : IsHeaderIn w.map header
+      told = loaded.1.so.sees.headers s at header refers-w met-header
+
+      abbrev pub the_header : Header
+      the_header = record { fields = told.fields; space = space_index told.space }
+
+      has : HasHeader w.map (actor w) at the_header
+      has = (told.header, subst (λ x. HasMet (actor w) (heap_at w.map + at) x) told.is_word met-header)
+
+      pub counts : (n : ℕ) → ((fields space : ℕ) → fields ≤ MAX_FIELDS → space ≤ MAX_SPACE → header ≡ HEADER_BASE + SPACE_UNIT * space + fields → n ≡ fields) → n ≡ the_header.fields
+      counts n fields = fields told.fields (space_index told.space) told.header.0 told.header.1 told.is_word
+
+      pub tells-no_field : the_header.fields ≤ f → MayTell w.map (actor w) (told_by asked (Refused BadField))
+      tells-no_field le =
+          let reaches-w : ReachesField (length (actor w).told.stack) s f asked = subst (λ (t : Thread). ReachesField (length t.stack) s f asked) (sym keeps-w.told) reaches-u in
+          tells-refusal w.map (actor w) asked BadField (reaches-call _ s f asked reaches) (reaches-quick _ s f asked reaches) (quiet-rest w (loads-quiet u w _ _ loaded.0 quiet-u))
+          (λ g ag. no-such_field w.map (actor w) g ag s f at the_header asked reaches-w refers-w (slot-object w.map (actor w) loaded.1.so.state loaded.1.so.sees s at refers-w) has le)
+
+      pub loads-both : OnlyLoads v ((record { place = slot_at v.map (actor v).thread s; word = word } ∷ []) ++ record { place = heap_at u.map + at; word = header } ∷ []) (learn (heap_at u.map + at) header u.lasting) w
+      loads-both = loads-then v u w _ _ _ _ slot.0 loaded.0
+
+      pub finds : f < the_header.fields → FindsField v s f at w
+      finds below = record {
+        more = (record { place = slot_at v.map (actor v).thread s; word = word } ∷ []) ++ record { place = heap_at u.map + at; word = header } ∷ [];
+        lasting = learn (heap_at u.map + at) header u.lasting;
+        view = loads-both;
+        so = loaded.1.so;
+        kept = λ p x h. loaded-met u w (heap_at u.map + at) header loaded p x (loaded-met v u (slot_at v.map (actor v).thread s) word slot p x h);
+        refers = refers-w;
+        header = the_header;
+        has = has;
+        below = below;
+      }
