@@ -1,29 +1,32 @@
 -- The field of a slot's object, as a call finds it.
-use Rattle.std.proofs.Common.{◌≡◌, ◌⊎◌, ℕ, ◌+◌, ◌*◌, ◌≤◌, ◌<◌, List, [], ◌∷◌, ◌++◌, length, refl, sym, ap, subst, ◌∙◌, arith, None}
-use Rattle.object_layout.specs.declared.TheConstants.{HEADER_BASE, MAX_ADDRESS, MAX_FIELDS, MAX_SPACE, SPACE_UNIT}
+use Rattle.std.proofs.Common.{◌≡◌, ◌⊎◌, ℕ, ◌+◌, ◌*◌, ◌≤◌, ◌<◌, List, [], ◌∷◌, ◌++◌, length, refl, sym, ap, subst, ◌∙◌, arith, None, true}
+use Rattle.object_layout.specs.declared.TheConstants.{HEADER_BASE, MAX_ADDRESS, MAX_FIELDS, MAX_SPACE, OBJECT_WORDS, SPACE_UNIT}
 use Rattle.object_layout.specs.declared.calls.Call.{Call}
+use Rattle.object_layout.specs.declared.calls.Call.TheVariants.{Load, Store}
 use Rattle.object_layout.specs.declared.headers.Header.{Header}
-use Rattle.object_layout.specs.declared.replies.Refusal.TheVariants.{BadField, NotAReference}
+use Rattle.object_layout.specs.declared.replies.Refusal.TheVariants.{BadField, NotAReference, StackFull}
 use Rattle.object_layout.specs.declared.replies.Reply.{Reply}
 use Rattle.object_layout.specs.declared.replies.Reply.TheVariants.{Refused}
 use Rattle.heap_words.specs.declared.map.Areas.{Areas}
+use Rattle.heap_words.specs.declared.TheConstants.{STACK_SLOTS}
 use Rattle.heap_words.specs.Map.{heap_at, heap_length}
 use Rattle.epoch_lattice.specs.Lattice.{space_index}
 use Rattle.calls_in_flight.specs.declared.notes.Known.{Known}
 use Rattle.calls_in_flight.specs.Actors.{Actor, HasHeader, HasMet, MayTell, RefersTo, Shows, learn}
-use Rattle.calls_in_flight.specs.Seeing.{IsHeaderIn}
+use Rattle.calls_in_flight.specs.Seeing.{IsHeaderIn, slot_told}
+use Rattle.calls_in_flight.specs.FieldSteps.{LoadsFrom, StoresInto}
 use Rattle.calls_in_flight.specs.Steps.{slot_at}
-use Rattle.yak_model.specs.Graph.{Thread}
+use Rattle.yak_model.specs.Graph.{Thread, is_reference}
 use Rattle.safepoint_gate.specs.declared.rule.View.{View}
 use Rattle.safepoint_gate.specs.Singles.{IsQuiet, IsSo, Loaded, actor, loads_of, moved, put_of}
 use Rattle.barriers.specs.Barred.{OnlyLoads}
-use Rattle.barriers.proofs.StillKnown.{Keeps, keeps-refers, met-shows, refers-to}
-use Rattle.barriers.proofs.MovedViews.{loaded-keeps, loaded-met, loaded-word, loads-quiet, loads-then}
+use Rattle.barriers.proofs.StillKnown.{Keeps, keeps-header, keeps-refers, met-shows, refers-to}
+use Rattle.barriers.proofs.MovedViews.{loaded-keeps, loaded-met, loaded-word, loads-keep, loads-quiet, loads-then}
 use Rattle.barriers.proofs.Logging.{quiet-none, quiet-rest}
 use Rattle.mutator.specs.FieldCalls.{FindsField, ReachesField}
 use Rattle.mutator.specs.Quick.{Answered, Answers, told_by}
 use Rattle.mutator.proofs.Answering.{answers_since}
-use Rattle.mutator.proofs.FieldTests.{no-reference, no-such_field, reaches-call, reaches-quick, slot-nowhere, slot-object, tells-refusal}
+use Rattle.mutator.proofs.FieldTests.{load-full, load-let, no-reference, no-such_field, reaches-call, reaches-quick, slot-nowhere, slot-object, store-let, tells-refusal}
 
 -- a word of the thread's block that was loaded
 pub shows-loaded : (v w : View) (place : Areas → ℕ → ℕ) (word : ℕ) → IsQuiet v → Loaded v (place v.map (actor v).thread) None word w → Shows (actor w) (place w.map (actor w).thread) word
@@ -114,3 +117,56 @@ module _ (v u : View) (s f word : ℕ) (asked : Call) (quiet : IsQuiet v) (lt : 
         has = has;
         below = below;
       }
+
+-- ---- a field that was found
+
+module _ (v w : View) (s f at : ℕ) (quiet : IsQuiet v) (found : FindsField v s f at w) where
+  pub found-keeps : Keeps v.map w.map (actor v) (actor w)
+  found-keeps = loads-keep v w found.more found.lasting found.view found.kept
+
+  pub found-quiet : IsQuiet w
+  found-quiet = loads-quiet v w found.more found.lasting found.view quiet
+
+  object : is_reference (slot_told (actor w) s) ≡ true
+  object = slot-object w.map (actor w) found.so.state found.so.sees s at found.refers
+
+  within : at + OBJECT_WORDS + f < heap_length w.map
+  within =
+      let ends : at + OBJECT_WORDS + found.header.fields ≤ heap_length w.map = found.so.sees.ends s at found.header found.refers found.has in
+      omega (arith, ends, found.below)
+
+  pub tells-full : STACK_SLOTS ≤ length (actor w).told.stack → MayTell w.map (actor w) (told_by (Load s f) (Refused StackFull))
+  tells-full le = tells-refusal w.map (actor w) (Load s f) StackFull tt tt (quiet-rest w found-quiet)
+      (λ g ag. load-full w.map (actor w) g ag s f at found.header found.refers object found.has found.below le)
+
+  pub found-loads : length (actor w).told.stack < STACK_SLOTS → LoadsFrom w.map (actor w) (Load s f) at f
+  found-loads lt = record {
+    slot = s;
+    call = refl;
+    refers = found.refers;
+    within = within;
+    let_ = λ g ag. load-let w.map (actor w) g ag s f at found.header found.refers object found.has found.below lt;
+    rests = quiet-rest w found-quiet;
+  }
+
+  module _ (u : View) (x word : ℕ) (lt : x < length (actor w).told.stack) (loaded : Loaded w (slot_at w.map (actor w).thread x) None word u) where
+    keeps-value : Keeps w.map u.map (actor w) (actor u)
+    keeps-value = loaded-keeps w u (slot_at w.map (actor w).thread x) word loaded
+
+    refers-value : RefersTo u.map (actor u) s at
+    refers-value = keeps-refers w.map u.map (actor w) (actor u) keeps-value s at found.refers
+
+    has-value : HasHeader u.map (actor u) at found.header
+    has-value = keeps-header w.map u.map (actor w) (actor u) keeps-value at found.header found.has
+
+    pub found-stores : StoresInto u.map (actor u) (Store s f x) at f word
+    found-stores = record {
+      slot = s;
+      «from» = x;
+      call = refl;
+      refers = refers-value;
+      within = subst (λ (m : Areas). at + OBJECT_WORDS + f < heap_length m) (sym keeps-value.map) within;
+      there = length-kept w u x keeps-value lt;
+      value = shows-loaded w u (λ m t. slot_at m t x) word found-quiet loaded;
+      let_ = λ g ag. store-let u.map (actor u) g ag s f x at found.header refers-value (slot-object u.map (actor u) loaded.1.so.state loaded.1.so.sees s at refers-value) has-value found.below (length-kept w u x keeps-value lt);
+    }

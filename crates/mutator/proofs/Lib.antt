@@ -9,3 +9,4 @@ pub mod Claiming
 pub mod Placed
 pub mod FieldTests
 pub mod FoundFields
+pub mod SettledLoads

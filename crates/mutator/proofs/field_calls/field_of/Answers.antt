@@ -31,8 +31,9 @@ returns-in_default-clause-refused c =
     let v = c.args.inside.now.seat.me.0 in
     let u = c.load_own-word.new.self.seat.me.0 in
     let w = c.tell.new.inside.seat.me.0 in
-    answered-since v u w c.args.call c.tell.result _ _ c.args.inside.now.single c.load_own-word.ensures.loaded.0
-    (told-answered u w c.args.call (Refused NotAReference) c.tell.result c.slot_place-at.result c.tell.ensures.reply c.tell.ensures.answered)
+    (answered-since v u w c.args.call c.tell.result _ _ c.args.inside.now.single c.load_own-word.ensures.loaded.0
+    (told-answered u w c.args.call (Refused NotAReference) c.tell.result c.slot_place-at.result c.tell.ensures.reply c.tell.ensures.answered),
+    (NotAReference, c.tell.ensures.reply))
 
 pub overflow_cast-object : goal.overflow_cast-object
 overflow_cast-object c =
@@ -90,10 +91,11 @@ returns-then-f-field_count-clause-refused c =
     let both = loads-both v u c.args.s c.args.f c.load_own-word.result c.args.call c.requires.quiet c.requires.slot c.requires.call slot c.in-Some.object c.in-Some.ensures w c.load_header.result c.load_header.ensures.loaded in
     let place = heap_at w.map + c.in-Some.object in
     let n = c.load_header-then-f-field_count.result in
-    answered-since v w z c.args.call (Refused BadField) _ _ c.args.inside.now.single both
+    (answered-since v w z c.args.call (Refused BadField) _ _ c.args.inside.now.single both
     (record { place = place; word = n } ∷ [],
     answers_by_load w z place n c.args.call (Refused BadField) (inr (BadField, refl))
-    (subst (λ (x : Event). Loaded w place (Some x) n z) c.told.ensures c.load_header-then-f-field_count.ensures.loaded))
+    (subst (λ (x : Event). Loaded w place (Some x) n z) c.told.ensures c.load_header-then-f-field_count.ensures.loaded)),
+    (BadField, refl))
 
 pub returns-clause-found : goal.returns-clause-found
 returns-clause-found c =
