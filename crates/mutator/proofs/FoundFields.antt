@@ -1,30 +1,38 @@
 -- The field of a slot's object, as a call finds it.
-use Rattle.std.proofs.Common.{◌≡◌, ◌⊎◌, ℕ, ◌+◌, ◌*◌, ◌≤◌, ◌<◌, List, [], ◌∷◌, ◌++◌, length, refl, sym, ap, subst, ◌∙◌, arith, None, true}
+use Rattle.std.proofs.Common.{◌≡◌, ◌⊎◌, ℕ, ◌+◌, ◌*◌, ◌≤◌, ◌<◌, List, [], ◌∷◌, ◌++◌, length, refl, sym, ap, subst, ◌∙◌, arith, None, true, append_assoc}
+use Rattle.std.proofs.lemmas.List.Elements.{Contains-append_right}
 use Rattle.object_layout.specs.declared.TheConstants.{HEADER_BASE, MAX_ADDRESS, MAX_FIELDS, MAX_SPACE, OBJECT_WORDS, SPACE_UNIT}
 use Rattle.object_layout.specs.declared.calls.Call.{Call}
 use Rattle.object_layout.specs.declared.calls.Call.TheVariants.{Load, Store}
 use Rattle.object_layout.specs.declared.headers.Header.{Header}
+use Rattle.object_layout.specs.declared.replies.Refusal.{Refusal}
 use Rattle.object_layout.specs.declared.replies.Refusal.TheVariants.{BadField, NotAReference, StackFull}
 use Rattle.object_layout.specs.declared.replies.Reply.{Reply}
-use Rattle.object_layout.specs.declared.replies.Reply.TheVariants.{Refused}
+use Rattle.object_layout.specs.declared.replies.Reply.TheVariants.{Ok, Refused}
 use Rattle.heap_words.specs.declared.map.Areas.{Areas}
-use Rattle.heap_words.specs.declared.TheConstants.{STACK_SLOTS}
+use Rattle.heap_words.specs.declared.TheConstants.{BUFFER_ENTRIES, STACK_SLOTS}
 use Rattle.heap_words.specs.Map.{heap_at, heap_length}
+use Rattle.epoch_lattice.specs.declared.Space.{Space}
 use Rattle.epoch_lattice.specs.Lattice.{space_index}
 use Rattle.calls_in_flight.specs.declared.notes.Known.{Known}
 use Rattle.calls_in_flight.specs.Actors.{Actor, HasHeader, HasMet, MayTell, RefersTo, Shows, learn}
 use Rattle.calls_in_flight.specs.Seeing.{IsHeaderIn, slot_told}
 use Rattle.calls_in_flight.specs.FieldSteps.{LoadsFrom, StoresInto}
-use Rattle.calls_in_flight.specs.Steps.{slot_at}
-use Rattle.yak_model.specs.Graph.{Thread, is_reference}
+use Rattle.calls_in_flight.specs.Steps.{logged_at, slot_at}
+use Rattle.yak_model.specs.Graph.{Thread, is_reference, refusal_of}
+use Rattle.yak_model.specs.Spaces.{SpaceState}
+use Rattle.calls_in_flight.specs.Flight.{at_rest}
+use Rattle.calls_in_flight.specs.OwnStores.{done_by}
 use Rattle.safepoint_gate.specs.declared.rule.View.{View}
-use Rattle.safepoint_gate.specs.Singles.{IsQuiet, IsSo, Loaded, actor, loads_of, moved, put_of}
-use Rattle.barriers.specs.Barred.{OnlyLoads}
+use Rattle.safepoint_gate.specs.Singles.{IsQuiet, IsSo, Loaded, acting, actor, loads_of, moved, put_of}
+use Rattle.safepoint_gate.specs.Steps.{first_thread}
+use Rattle.barriers.specs.Barred.{IsLogFull, LoadsCross, OnlyLoads, StoreBarred}
+use Rattle.barriers.specs.Shown.{LoadedSpace, MustRecord, PutsEntry, WasLoaded}
 use Rattle.barriers.proofs.StillKnown.{Keeps, keeps-header, keeps-refers, met-shows, refers-to}
-use Rattle.barriers.proofs.MovedViews.{loaded-keeps, loaded-met, loaded-word, loads-keep, loads-quiet, loads-then}
+use Rattle.barriers.proofs.MovedViews.{loaded-keeps, loaded-met, loaded-word, loads-first, loads-keep, loads-loads, loads-map, loads-put, loads-quiet, loads-then, says-from}
 use Rattle.barriers.proofs.Logging.{quiet-none, quiet-rest}
 use Rattle.mutator.specs.FieldCalls.{FindsField, ReachesField}
-use Rattle.mutator.specs.Quick.{Answered, Answers, told_by}
+use Rattle.mutator.specs.Quick.{Answered, Answers, AnswersStore, told_by}
 use Rattle.mutator.proofs.Answering.{answers_since}
 use Rattle.mutator.proofs.FieldTests.{load-full, load-let, no-reference, no-such_field, reaches-call, reaches-quick, slot-nowhere, slot-object, store-let, tells-refusal}
 
@@ -170,3 +178,76 @@ module _ (v w : View) (s f at : ℕ) (quiet : IsQuiet v) (found : FindsField v s
       value = shows-loaded w u (λ m t. slot_at m t x) word found-quiet loaded;
       let_ = λ g ag. store-let u.map (actor u) g ag s f x at found.header refers-value (slot-object u.map (actor u) loaded.1.so.state loaded.1.so.sees s at refers-value) has-value found.below (length-kept w u x keeps-value lt);
     }
+
+-- ---- what a store of a field tells, over loads before it
+
+-- a refusal is no answer that records a slot
+pub refused-store : (v w : View) (asked : Call) (said : Reply) → Answered v asked said w → (why : Refusal) × (said ≡ Refused why) → AnswersStore v asked said w
+refused-store v w asked said h why = record {
+  more = h.0;
+  answers = h.1;
+  room = λ must ok. absurd (refused_not_ok why.0 (sym why.1 ∙ ok));
+}
+  where
+    refused_not_ok : (x : Refusal) → Refused x ≡ Ok → ⊥
+    refused_not_ok x e = cc
+
+module _ (v u : View) (asked : Call) (more lasting : List Known) (one : length v.own ≡ 1) (is : OnlyLoads v more lasting u) where
+  logged-is : logged_at u.map (first_thread u.own) ≡ logged_at v.map (first_thread v.own)
+  logged-is = λ i. logged_at (loads-map v u more lasting is i) (loads-first v u more lasting is i)
+
+  loaded-since : (loads : List Known) (word : ℕ) → WasLoaded loads (logged_at u.map (first_thread u.own)) word → WasLoaded (more ++ loads) (logged_at v.map (first_thread v.own)) word
+  loaded-since loads word was = Contains-append_right more loads _ (subst (λ p. WasLoaded loads p word) logged-is was)
+
+  pub stored-since : (w : View) → StoreBarred u asked w → AnswersStore v asked Ok w
+  stored-since w b =
+      let told = says-from v u (done_by asked) (actor v).flight lasting (loads_of v ++ more) (put_of v) is (at_rest (first_thread v.own)) (at_rest (first_thread u.own)) (loads_of v ++ (more ++ b.more)) (loads_of u ++ b.more) b.put b.put w.own w.own
+          (ap at_rest (loads-first v u more lasting is))
+          (ap (λ l. l ++ b.more) (loads-loads v u more lasting is one) ∙ append_assoc (loads_of v) more b.more) refl refl b.says in
+      record {
+        more = more ++ b.more;
+        answers = record {
+          put = b.put;
+          says = told.0;
+          puts = subst (λ (x : SpaceState × ℕ × ℕ). PutsEntry x.0 x.1 asked Ok x.2 b.put) (λ i. (sym told.1 i, loads-first v u more lasting is i, loads-put v u more lasting is one i)) b.puts;
+          view = b.view ∙ ap (λ (x : View). acting x w.own []) is ∙ ap (acting v w.own) (sym (ap (λ (x : View). x.lasting) b.view));
+        };
+        room = λ must ok.
+            let shown = b.shown (subst (λ (x : SpaceState × ℕ). MustRecord x.0 x.1 asked) (λ i. (told.1 i, sym (loads-first v u more lasting is) i)) must) in
+            (shown.0, loaded-since b.more shown.0 shown.1, shown.2);
+      }
+
+  spaces-since : (loads : List Known) (at : ℕ) (x : Space) → LoadedSpace u.map loads at x → LoadedSpace v.map (more ++ loads) at x
+  spaces-since loads at x h =
+      let here : LoadedSpace v.map loads at x = subst (λ (m : Areas). LoadedSpace m loads at x) (loads-map v u more lasting is) h in
+      (here.0, here.1, here.2, Contains-append_right more loads _ here.3)
+
+  pub full-since : (w : View) → IsLogFull u asked w → IsLogFull v asked w
+  full-since w l =
+      let first = loads-first v u more lasting is in
+      let c : LoadsCross u l.more w asked = l.crossing in
+      record {
+        more = more ++ l.more;
+        lasting = l.lasting;
+        view = loads-then v u w more l.more lasting l.lasting is l.view;
+        so = l.so;
+        let_ = subst (λ t. refusal_of l.so.state.graph t asked ≡ None) first l.let_;
+        must = subst (λ t. MustRecord l.so.state t asked) first l.must;
+        full = loaded-since l.more BUFFER_ENTRIES l.full;
+        many = subst (λ n. BUFFER_ENTRIES ≤ n) (loads-put v u more lasting is one) l.many;
+        crossing = record {
+          slot = c.slot;
+          field = c.field;
+          «from» = c.from;
+          call = c.call;
+          at = c.at;
+          to = c.to;
+          refers = c.refers;
+          leads = c.leads;
+          x = c.x;
+          y = c.y;
+          header = spaces-since l.more c.at c.x c.header;
+          other = spaces-since l.more c.to c.y c.other;
+          crosses = c.crosses;
+        };
+      }
