@@ -1,5 +1,5 @@
 -- A thread that acts among the calls in flight, and what a single step of it leaves: what the laws on steps by a view conclude.
-use Rattle.std.proofs.Common.{◌≡◌, ◌≢◌, ℕ, ◌+◌, ◌-◌, ◌^◌, ◌≤◌, ◌<◌, List, [], ◌∷◌, ◌++◌, length, bit_or, Option, Some, None}
+use Rattle.std.proofs.Common.{◌≡◌, ◌≢◌, ℕ, ◌+◌, ◌-◌, ◌^◌, ◌≤◌, ◌<◌, List, [], ◌∷◌, ◌++◌, length, bit_or, None}
 use Rattle.std.specs.Prelude.{slice_index, slice_set}
 use Rattle.object_layout.specs.declared.TheConstants.{OBJECT_WORDS}
 use Rattle.object_layout.specs.declared.calls.Call.{Call}
@@ -10,18 +10,17 @@ use Rattle.heap_words.specs.Map.{HasThread, heap_at, readers_at, total_of}
 use Rattle.yak_model.specs.declared.datum.Datum.{Datum}
 use Rattle.yak_model.specs.declared.history.Entry.{Entry}
 use Rattle.yak_model.specs.declared.history.Entry.TheVariants.{Said}
-use Rattle.yak_model.specs.Graph.{Thread, thread_of}
+use Rattle.yak_model.specs.Graph.{thread_of}
 use Rattle.yak_model.specs.Spaces.{SpaceState}
 use Rattle.region_pages.specs.declared.TheConstants.{CLAIM_COUNTER}
-use Rattle.calls_in_flight.specs.Actors.{Actor, HasMet, MayMeet, MayTell, learn}
+use Rattle.calls_in_flight.specs.Actors.{Actor, HasMet, learn}
 use Rattle.calls_in_flight.specs.Differing.{DiffersOnly}
-use Rattle.calls_in_flight.specs.FieldSteps.{Claims, FieldLoaded, LoadsFrom, MayLoadPool, MayRead, MayStoreField, PoolLoaded}
+use Rattle.calls_in_flight.specs.FieldSteps.{Claims, FieldLoaded, PoolLoaded}
 use Rattle.calls_in_flight.specs.Fits.{StandInFlight}
 use Rattle.calls_in_flight.specs.Flight.{Flight, at_rest, flight_at}
 use Rattle.calls_in_flight.specs.Kinds.{IsStep}
 use Rattle.calls_in_flight.specs.Knowing.{Known, Knows}
-use Rattle.calls_in_flight.specs.OwnStores.{FliesOn, MayStore}
-use Rattle.calls_in_flight.specs.Seeing.{Sees}
+use Rattle.calls_in_flight.specs.OwnStores.{FliesOn}
 use Rattle.calls_in_flight.specs.Steps.{logged_at}
 use Rattle.calls_in_flight.specs.Stepped.{Stepped}
 

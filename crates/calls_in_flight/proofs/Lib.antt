@@ -21,3 +21,15 @@ pub mod Keeping
 pub mod Gate
 pub mod Pushing
 pub mod Acting
+pub mod ViewActs
+pub mod ViewPool
+pub mod ViewWords
+pub mod ViewSees
+pub mod ViewMeets
+pub mod ViewTells
+pub mod ViewReach
+pub mod ViewStores
+pub mod ViewPushes
+pub mod ViewMakes
+pub mod ViewFields
+pub mod ViewEvents

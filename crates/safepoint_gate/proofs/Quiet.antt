@@ -1,7 +1,6 @@
 -- Seats of threads of which no call is in flight.
-use Rattle.std.proofs.Common.{◌≡◌, ℕ, zero, suc, List, [], ◌∷◌, length, refl, sym, ap, subst, ◌∙◌, arith}
-use mathlib.Core.Option.{none, some, some-ne-none, some-injective}
-use lib.ListN.{get_elem?}
+use Rattle.std.proofs.Common.{◌≡◌, zero, suc, List, [], ◌∷◌, length, refl, sym, ap, subst, arith}
+use mathlib.Core.Option.{some-ne-none, some-injective}
 use Rattle.calls_in_flight.specs.declared.notes.Known.{Known}
 use Rattle.calls_in_flight.specs.Flight.{at_rest}
 use Rattle.safepoint_gate.specs.declared.rule.Own.{Own}

@@ -1,8 +1,8 @@
 -- The places on which a thread steps lie behind the gate's word and among the words of the heap.
-use Rattle.std.proofs.Common.{◌≡◌, ℕ, ◌+◌, ◌*◌, ◌≤◌, ◌<◌, ◌⊎◌, inl, inr, ⊎_elim, refl, sym, ap, subst, arith, Option, List, [], ◌∷◌}
+use Rattle.std.proofs.Common.{◌≡◌, ℕ, ◌≤◌, ◌<◌, inl, inr, refl, subst, arith, Option, List, [], ◌∷◌}
 use Rattle.object_layout.specs.declared.calls.Event.{Event}
 use Rattle.heap_words.specs.declared.map.Areas.{Areas}
-use Rattle.heap_words.specs.Map.{HasThread, IsAreas, heap_at, heap_length, page_words, pool_at, readers_at, total_of, HasRegion}
+use Rattle.heap_words.specs.Map.{HasThread, IsAreas, readers_at, total_of, HasRegion}
 use Rattle.calls_in_flight.specs.Actors.{Actor, MayLoad, MayMeet, in_block, in_claimed, in_entry, in_page}
 use Rattle.calls_in_flight.specs.FieldSteps.{MayLoadPool, counter, entry, size}
 use Rattle.safepoint_gate.specs.declared.rule.Own.{Own}
@@ -51,3 +51,6 @@ store_within m a _ _ _ ht (pushes asked c push room only place) = (omega arith, 
 store_within m a _ _ _ ht (pops n count rests) = (omega arith, omega arith)
 store_within m a _ _ _ ht (makes p made) = (omega arith, omega arith)
 store_within m a _ _ _ ht (begins deep rests) = (omega arith, omega arith)
+
+pub readers_within : (m : Areas) (owner depth : ℕ) → HasRegion m owner depth → readers_at m owner depth < total_of m
+readers_within m owner depth (from, to, one, deep) = omega arith

@@ -1,5 +1,5 @@
 -- What the single steps of a thread that is inside tell.
-use Rattle.std.specs.Prelude.{◌≡◌, ◌≢◌, ℕ, ◌+◌, ◌≤◌, List, [], ◌∷◌, ◌++◌, length, Option, None, Some}
+use Rattle.std.specs.Prelude.{◌≡◌, ◌≢◌, ℕ, ◌+◌, ◌≤◌, List, [], ◌∷◌, ◌++◌, Option, None, Some}
 use Rattle.object_layout.specs.declared.calls.Event.{Event}
 use Rattle.yak_model.specs.Continued.{entries_told}
 use Rattle.yak_model.specs.declared.datum.Datum.{Datum}

@@ -1,4 +1,4 @@
-use Rattle.std.proofs.Common.{ap, subst, sym}
+use Rattle.std.proofs.Common.{subst, sym}
 use Rattle.safepoint_gate.specs.Singles.{IsQuiet}
 use Rattle.safepoint_gate.proofs.Quiet.{rest_first}
 use Rattle.safepoint_gate.proofs.closing.Closed.open.Goals.{in-None, in-Some}

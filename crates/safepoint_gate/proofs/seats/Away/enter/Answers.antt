@@ -1,6 +1,5 @@
-use Rattle.std.proofs.Common.{ap, subst, sym}
+use Rattle.std.proofs.Common.{subst, sym}
 use Rattle.safepoint_gate.specs.declared.rule.Place.TheVariants.{Inside}
-use Rattle.safepoint_gate.specs.declared.rule.View.{View}
 use Rattle.safepoint_gate.specs.Singles.{IsQuiet}
 use Rattle.safepoint_gate.specs.Steps.{at_place}
 use Rattle.safepoint_gate.proofs.Quiet.{rest_first}
