@@ -194,7 +194,7 @@ raised-keep m ws fs s i n f h lt more covers et er may spent counter new fit =
     (subst (Repooled m c) (sym is) re)
 
 -- the claimed page and the pages that are left
-page_taken : (m : Areas) (ws : List ℕ) (fs : List Flight) (s : SpaceState) (i n : ℕ) (f : Flight) → StandInFlight m ws fs s → ClaimsPage m ws fs i n f → (let u = under m ws fs in (claim_counter u.heads ≡ n) × (free_pages u.heads u.pool ≡ get_or ws (pool_at m + n) 0 ∷ free_pages (set u.heads CLAIM_COUNTER (n + 1)) u.pool))
+pub page_taken : (m : Areas) (ws : List ℕ) (fs : List Flight) (s : SpaceState) (i n : ℕ) (f : Flight) → StandInFlight m ws fs s → ClaimsPage m ws fs i n f → (let u = under m ws fs in (claim_counter u.heads ≡ n) × (free_pages u.heads u.pool ≡ get_or ws (pool_at m + n) 0 ∷ free_pages (set u.heads CLAIM_COUNTER (n + 1)) u.pool))
 page_taken m ws fs s i n f h claims =
     let u : Contents = under m ws fs in
     let sh : Shape m u = shape m (laid_all fs ws) (sound_under m ws fs s h.fit h.stands) in

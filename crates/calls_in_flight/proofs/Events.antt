@@ -31,7 +31,7 @@ use Rattle.calls_in_flight.proofs.Claimed.{claimed-same, claims-put}
 use Rattle.calls_in_flight.proofs.Covers.{lifted}
 use Rattle.calls_in_flight.proofs.Flights.{put_same}
 use Rattle.calls_in_flight.proofs.Grounds.{bare-beside, fit_at, fits-beside, fits-moved, fits-put, sound_under, under}
-use Rattle.calls_in_flight.proofs.Known.{own-depth, own-length, put-bare, thread_at}
+use Rattle.calls_in_flight.proofs.OwnWords.{own-depth, own-length, put-bare, thread_at}
 use Rattle.calls_in_flight.proofs.Quiet.{puts_set, puts_still, read-same}
 
 pub no_entry : (x : Entry) → x ∷ [] ≡ [] → ⊥

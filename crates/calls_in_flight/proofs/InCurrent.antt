@@ -38,7 +38,7 @@ use Rattle.calls_in_flight.proofs.Claimed.{claims-put}
 use Rattle.calls_in_flight.proofs.Covers.{lifted}
 use Rattle.calls_in_flight.proofs.Events.{completed-same, same_flight, step-turned}
 use Rattle.calls_in_flight.proofs.Grounds.{bare-beside, fit_at, fits-beside, fits-moved, fits-put, free_under, holds_at, named, pages-apart, sound_under, threads-apart, under}
-use Rattle.calls_in_flight.proofs.Known.{own-current, put-bare, seen, seen-lifted}
+use Rattle.calls_in_flight.proofs.OwnWords.{own-current, put-bare, seen, seen-lifted}
 use Rattle.calls_in_flight.proofs.Quiet.{puts_set}
 use Rattle.calls_in_flight.proofs.Ready.{Ready, bare-before, is-written, numbered, numbered-holds, ready, seen-own, shown-at}
 

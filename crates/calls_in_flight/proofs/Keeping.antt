@@ -25,13 +25,13 @@ use Rattle.calls_in_flight.specs.Flight.{Flight, flight_at}
 use Rattle.calls_in_flight.specs.Whole.{whole}
 use Rattle.calls_in_flight.specs.Fits.{StandInFlight}
 use Rattle.calls_in_flight.specs.Stepped.{Stepped, AreCounted}
-use Rattle.calls_in_flight.specs.Kinds.{IsPlainEntry, IsRun, IsStep, begins, claims, finds, idles, lays, loads, logs, makes, makes_claimed, misses, more, none, pops, pushes_int, pushes_null, pushes_slot, reads, settles, stores}
+use Rattle.calls_in_flight.specs.Kinds.{IsPlainEntry, IsRun, IsStep, begins, claims, finds, idles, lays, loads, logs, looks, makes, makes_claimed, misses, more, none, pops, pushes_int, pushes_null, pushes_slot, reads, settles, stores}
 use Rattle.calls_in_flight.proofs.Claims.{claims-keep, finds-keep, none-keep}
 use Rattle.calls_in_flight.proofs.Events.{begin-steps, dup-steps, int-steps, null-steps, pop-steps, step-idle}
 use Rattle.calls_in_flight.proofs.InCurrent.{make-steps, shape_whole}
 use Rattle.calls_in_flight.proofs.Loaded.{load-steps}
 use Rattle.calls_in_flight.proofs.OnClaimed.{make_claimed-steps}
-use Rattle.calls_in_flight.proofs.Quiet.{lays-keep, settles-keep}
+use Rattle.calls_in_flight.proofs.Quiet.{lays-keep, puts_still, settles-keep, step-same}
 use Rattle.calls_in_flight.proofs.Readers.{reads-keep}
 use Rattle.calls_in_flight.proofs.Stored.{log-steps, store-steps}
 
@@ -39,6 +39,7 @@ use Rattle.calls_in_flight.proofs.Stored.{log-steps, store-steps}
 pub step-keeps : (m : Areas) (ws : List ℕ) (fs : List Flight) (i : ℕ) (s : SpaceState) (h : StandInFlight m ws fs s) (now : List ℕ) (gs : List Flight) (done : List Entry) (put : ℕ) → IsStep m ws fs i now gs done put → Stepped m ws now fs gs i s h done put
 step-keeps m ws fs i s h _ _ _ _ (lays a w f x) = lays-keep m ws fs s i a w f h x
 step-keeps m ws fs i s h _ _ _ _ (settles a w f x) = settles-keep m ws fs s i a w f h x
+step-keeps m ws fs i s h _ _ _ _ (looks lt) = step-same m ws ws fs fs i s h (puts_still fs i) (λ p c. c) h.fit refl
 step-keeps m ws fs i s h _ _ _ _ (finds f x) = finds-keep m ws fs s i f h x
 step-keeps m ws fs i s h _ _ _ _ (claims n f x) = claims-keep m ws fs s i n f h x
 step-keeps m ws fs i s h _ _ _ _ (misses n f x) = none-keep m ws fs s i n f h x
@@ -113,6 +114,7 @@ one_plain entry plain = All-cons IsPlainEntry entry [] plain (All-nil IsPlainEnt
 pub step-plain : (m : Areas) (ws : List ℕ) (fs : List Flight) (i : ℕ) (now : List ℕ) (gs : List Flight) (done : List Entry) (put : ℕ) → IsStep m ws fs i now gs done put → All IsPlainEntry done
 step-plain m ws fs i _ _ _ _ (lays a w f x) = All-nil IsPlainEntry
 step-plain m ws fs i _ _ _ _ (settles a w f x) = All-nil IsPlainEntry
+step-plain m ws fs i _ _ _ _ (looks lt) = All-nil IsPlainEntry
 step-plain m ws fs i _ _ _ _ (finds f x) = All-nil IsPlainEntry
 step-plain m ws fs i _ _ _ _ (claims n f x) = All-nil IsPlainEntry
 step-plain m ws fs i _ _ _ _ (misses n f x) = All-nil IsPlainEntry
@@ -163,6 +165,7 @@ counted-kept m ws now fs gs i put s h done st was long counted j lj = ⊎_elim
 pub step-long : (m : Areas) (ws : List ℕ) (fs : List Flight) (i : ℕ) (now : List ℕ) (gs : List Flight) (done : List Entry) (put : ℕ) → IsStep m ws fs i now gs done put → length gs ≡ length fs
 step-long m ws fs i _ _ _ _ (lays a w f x) = length-set fs i f
 step-long m ws fs i _ _ _ _ (settles a w f x) = length-set fs i f
+step-long m ws fs i _ _ _ _ (looks lt) = refl
 step-long m ws fs i _ _ _ _ (finds f x) = length-set fs i f
 step-long m ws fs i _ _ _ _ (claims n f x) = length-set fs i f
 step-long m ws fs i _ _ _ _ (misses n f x) = length-set fs i f

@@ -28,7 +28,7 @@ use Rattle.calls_in_flight.specs.Whole.{whole, laid_all}
 use Rattle.calls_in_flight.specs.Owning.{IsOwn, in_block}
 use Rattle.calls_in_flight.specs.Fits.{StandInFlight}
 use Rattle.calls_in_flight.specs.Stepped.{Stepped}
-use Rattle.calls_in_flight.specs.Kinds.{IsStep, begins, claims, finds, idles, lays, loads, logs, makes, makes_claimed, misses, pops, pushes_int, pushes_null, pushes_slot, reads, settles, stores}
+use Rattle.calls_in_flight.specs.Kinds.{IsStep, begins, claims, finds, idles, lays, loads, logs, looks, makes, makes_claimed, misses, pops, pushes_int, pushes_null, pushes_slot, reads, settles, stores}
 use Rattle.calls_in_flight.specs.Steps.{Settles, depth_at, length_at, logged_at}
 use Rattle.calls_in_flight.specs.Knowing.{IsLasting, IsSteady, Known, Knows, Learns, MayStore, counter, of_field, of_object, own, pool_entry, pool_size, reader}
 use Rattle.calls_in_flight.proofs.Apart.{own-area}
@@ -199,6 +199,7 @@ settled m ws fs s i a w f h x li =
 pub knows-step : (m : Areas) (ws : List ℕ) (fs : List Flight) (i : ℕ) (s : SpaceState) (h : StandInFlight m ws fs s) (j : ℕ) (known : List Known) (now : List ℕ) (gs : List Flight) (done : List Entry) (put : ℕ) → IsStep m ws fs i now gs done put → (st : Stepped m ws now fs gs i s h done put) → i < length fs → j < length fs → j ≢ i → Knows m ws fs s h j known → Knows m now gs st.after st.later j known
 knows-step m ws fs i s h j known _ _ _ _ (lays a w f x) st li lj ne knows = knows-beside m ws fs (set fs i f) i j a w s h [] 0 known st li lj ne (own x.own) knows
 knows-step m ws fs i s h j known _ _ _ _ (settles a w f x) st li lj ne knows = knows-beside m ws fs (set fs i f) i j a w s h [] 0 known st li lj ne (own (settled m ws fs s i a w f h x li)) knows
+knows-step m ws fs i s h j known _ _ _ _ (looks lt) st li lj ne knows = knows-still m ws fs fs i j s h [] 0 known st lj ne knows
 knows-step m ws fs i s h j known _ _ _ _ (finds f x) st li lj ne knows = knows-still m ws fs (set fs i f) i j s h [] 0 known st lj ne knows
 knows-step m ws fs i s h j known _ _ _ _ (claims n f x) st li lj ne knows = knows-beside m ws fs (set fs i f) i j CLAIM_COUNTER (n + 1) s h [] 0 known st li lj ne (counter refl) knows
 knows-step m ws fs i s h j known _ _ _ _ (misses n f x) st li lj ne knows = knows-beside m ws fs (set fs i f) i j CLAIM_COUNTER (n + 1) s h [] 0 known st li lj ne (counter refl) knows

@@ -5,7 +5,7 @@ pub mod Apart
 pub mod Claimed
 pub mod Grounds
 pub mod Quiet
-pub mod Known
+pub mod OwnWords
 pub mod Events
 pub mod Claims
 pub mod Readers
@@ -20,3 +20,16 @@ pub mod Knowing
 pub mod Keeping
 pub mod Gate
 pub mod Pushing
+pub mod Acting
+pub mod ViewActs
+pub mod ViewPool
+pub mod ViewWords
+pub mod ViewSees
+pub mod ViewMeets
+pub mod ViewTells
+pub mod ViewReach
+pub mod ViewStores
+pub mod ViewPushes
+pub mod ViewMakes
+pub mod ViewFields
+pub mod ViewEvents

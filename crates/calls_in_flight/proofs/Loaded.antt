@@ -38,7 +38,7 @@ use Rattle.calls_in_flight.proofs.Claimed.{claimed-same, claims-put}
 use Rattle.calls_in_flight.proofs.Events.{step-turned}
 use Rattle.calls_in_flight.proofs.Flights.{IsBareBeside, laid_all-bare, laid_all-own, laid_all-put, others}
 use Rattle.calls_in_flight.proofs.Grounds.{bare-beside, fit_at, fits-moved, fits-put, sound_under, under}
-use Rattle.calls_in_flight.proofs.Known.{own-length, thread_at}
+use Rattle.calls_in_flight.proofs.OwnWords.{own-length, thread_at}
 use Rattle.calls_in_flight.proofs.Quiet.{puts_set, read-same}
 use Rattle.calls_in_flight.proofs.Readers.{marked, read-put}
 use Rattle.calls_in_flight.proofs.Stored.{field-bare}

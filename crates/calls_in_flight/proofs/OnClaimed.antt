@@ -51,7 +51,7 @@ use Rattle.calls_in_flight.proofs.Covers.{lifted}
 use Rattle.calls_in_flight.proofs.Events.{mine-block, no_entry}
 use Rattle.calls_in_flight.proofs.Grounds.{fit_at, free_under, holds_at, named, sound_under, threads-apart, under}
 use Rattle.calls_in_flight.proofs.InCurrent.{Placed, Seen, cover_at, depth-inner, fits-made, grown-seen, own-elsewhere, page-beside, reference}
-use Rattle.calls_in_flight.proofs.Known.{own-word, seen, seen-lifted}
+use Rattle.calls_in_flight.proofs.OwnWords.{own-word, seen, seen-lifted}
 use Rattle.calls_in_flight.proofs.Pools.{AreFree, free-moved, pool-free, pool-stands}
 use Rattle.calls_in_flight.proofs.Quiet.{puts_set, read-same}
 use Rattle.calls_in_flight.proofs.Ready.{Ready, bare-before, is-written, numbered, numbered-holds, ready, shown-at}

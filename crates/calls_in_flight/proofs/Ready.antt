@@ -21,7 +21,7 @@ use Rattle.calls_in_flight.proofs.Chains.{contents-unused, sound-set}
 use Rattle.calls_in_flight.proofs.Covers.{laid-shown}
 use Rattle.calls_in_flight.proofs.Flights.{bare-others, laid_all-bare, laid_all-own, length-laid_all, others}
 use Rattle.calls_in_flight.proofs.Grounds.{bare-beside, fit_at, holds_at, named, sound_under, under}
-use Rattle.calls_in_flight.proofs.Known.{own-depth, own-length, seen, thread_at}
+use Rattle.calls_in_flight.proofs.OwnWords.{own-depth, own-length, seen, thread_at}
 use Rattle.calls_in_flight.proofs.Quiet.{covers-beside}
 
 -- what a cover shows, and what stands under it

@@ -45,7 +45,7 @@ use Rattle.calls_in_flight.proofs.Covers.{lifted}
 use Rattle.calls_in_flight.proofs.Events.{SameGround, completed-same, fits-bare, no_entry, own-basis, same_flight}
 use Rattle.calls_in_flight.proofs.Flights.{IsBareIn, laid_all-set}
 use Rattle.calls_in_flight.proofs.Grounds.{fit_at, fits-beside, fits-moved, holds_at, named, sound_under, threads-apart, under}
-use Rattle.calls_in_flight.proofs.Known.{own-logged, put-bare, thread_at}
+use Rattle.calls_in_flight.proofs.OwnWords.{own-logged, put-bare, thread_at}
 use Rattle.calls_in_flight.proofs.Quiet.{keeps_same, mine-kept, puts_set, puts_still}
 
 -- ---- a field of a present object is no thread's own

@@ -1,26 +1,9 @@
 -- What a call in flight has put into the words that isn't there yet in the state, or isn't there any more.
-use Rattle.std.specs.Prelude.{◌≡◌, ◌≢◌, ℕ, List, [], Option, None, slice_index_or}
+use Rattle.std.specs.Prelude.{◌≡◌, ◌≢◌, ℕ, List, [], None, slice_index_or}
 use Rattle.std.specs.List.{All}
-
--- A covered place: the word that stands there, and the word that the state shows there.
-pub record Cover : Type 0 where
-  pub place : ℕ
-  pub stands : ℕ
-  pub shown : ℕ
-
--- A region of which a thread becomes a reader.
-pub record Reading : Type 0 where
-  pub owner : ℕ
-  pub depth : ℕ
-
--- A call in flight of a thread: its covers, the pages that it has claimed and not entered yet, the region of which it has yet to
--- become a reader, and the claims that it may still make.
-pub record Flight : Type 0 where
-  pub thread : ℕ
-  pub covers : List Cover
-  pub claimed : List ℕ
-  pub reading : Option Reading
-  pub claims : ℕ
+pub use Rattle.calls_in_flight.specs.declared.notes.Cover.{Cover}
+pub use Rattle.calls_in_flight.specs.declared.notes.Flight.{Flight}
+pub use Rattle.calls_in_flight.specs.declared.notes.Reading.{Reading}
 
 -- No call of the thread is in flight.
 abbrev pub at_rest : ℕ → Flight

@@ -38,6 +38,8 @@ pub data IsStep (m : Areas) (ws : List ℕ) (fs : List Flight) (i : ℕ) : List 
   -- a word of the thread's own is stored under a cover, or the last cover is settled
   lays : (a w : ℕ) (f : Flight) → Lays m ws fs i a w f → IsStep m ws fs i (slice_set ws a w) (slice_set fs i f) [] 0
   settles : (a w : ℕ) (f : Flight) → Settles ws fs i a w f → IsStep m ws fs i (slice_set ws a w) (slice_set fs i f) [] 0
+  -- a word is loaded, and nothing comes of it
+  looks : i < length fs → IsStep m ws fs i ws fs [] 0
   -- the claim counter is loaded or raised
   finds : (f : Flight) → FindsPage ws fs i f → IsStep m ws fs i ws (slice_set fs i f) [] 0
   claims : (n : ℕ) (f : Flight) → ClaimsPage m ws fs i n f → IsStep m ws fs i (slice_set ws CLAIM_COUNTER (n + 1)) (slice_set fs i f) [] 0

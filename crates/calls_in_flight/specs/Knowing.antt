@@ -9,15 +9,11 @@ use Rattle.yak_model.specs.declared.history.Entry.{Entry}
 use Rattle.yak_model.specs.Spaces.{SpaceState}
 use Rattle.yak_model.specs.State.{State, Thing, view}
 use Rattle.region_pages.specs.declared.TheConstants.{CLAIM_COUNTER, POOL_LENGTH}
+pub use Rattle.calls_in_flight.specs.declared.notes.Known.{Known}
 use Rattle.calls_in_flight.specs.Flight.{Flight, flight_at}
 use Rattle.calls_in_flight.specs.Whole.{whole}
 use Rattle.calls_in_flight.specs.Owning.{IsOwn}
 use Rattle.calls_in_flight.specs.Fits.{StandInFlight}
-
--- A word that a thread has met at a place.
-pub record Known : Type 0 where
-  pub place : ℕ
-  pub word : ℕ
 
 -- A place whose word no thread changes while the gate is open: the pool's length, an entry of the pool, and the header and the
 -- name of a present object.

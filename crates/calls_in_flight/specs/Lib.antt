@@ -9,3 +9,8 @@ pub mod Steps
 pub mod Shared
 pub mod Fields
 pub mod Making
+pub mod Actors
+pub mod FieldSteps
+pub mod OwnStores
+pub mod Seeing
+pub mod Differing

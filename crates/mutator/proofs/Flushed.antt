@@ -1,5 +1,5 @@
 -- Store buffers that are filed behind the closed gate.
-use Rattle.std.proofs.Common.{◌≡◌, ℕ, ◌-◌, List, [], sym, ap, ◌∙◌, subst, arith}
+use Rattle.std.proofs.Common.{◌≡◌, ℕ, ◌-◌, List, [], length, sym, ap, ◌∙◌, subst, arith, None}
 use Rattle.std.specs.Prelude.{◌↔◌, ◌⊎◌}
 use Rattle.std.specs.List.{Contains}
 use Rattle.std.proofs.lemmas.List.{get_or-replicate}
@@ -14,7 +14,7 @@ use Rattle.remember_sets.specs.Filed.{IsFiled, SetsHold, logged, with_no_logs, w
 use Rattle.escape_closure.proofs.Filing.{filed_recorded, filed_stands}
 use Rattle.safepoint_gate.specs.declared.rule.Place.TheVariants.{Inside}
 use Rattle.safepoint_gate.specs.declared.rule.View.{View}
-use Rattle.safepoint_gate.specs.Steps.{IsClosing, at_gate, at_place, first_thread, written}
+use Rattle.safepoint_gate.specs.Steps.{IsClosing, KeepBuffers, MayOpen, at_gate, first_thread, flushed, with_own, written}
 use Rattle.mutator.specs.Calls.{FlushesBuffers}
 use Rattle.mutator.proofs.Stepped.{closing_explains, stepped_view}
 
@@ -33,20 +33,30 @@ module _ (m : Areas) (was now : Contents) (filed : (a : ℕ) → IsFiled now a �
       let none : List ℕ = [] in
       ap (λ (x : Contents). buffer_of x t) others ∙ get_or-replicate m.threads (t - 1) none [] (omega (arith, thread.0, thread.1))
 
+  -- so none is longer than before
+  pub files_keep : KeepBuffers m was now
+  files_keep t thread = let e = ap (λ (b : List ℕ). length b) (files_own t thread) in omega (arith, e)
+
 -- the gate may be opened over the words
-pub may_stay : (v c d : View) → c ≡ at_gate v c.words c.history → written d [] ≡ written c [] → StandsStill c.map (contents c.map c.words) (contents c.map d.words) → StandsStill d.map (contents d.map d.closing) (contents d.map d.words)
-may_stay v c d is same still =
-    let stays : StandsStill v.map (contents v.map c.words) (contents v.map d.words) = subst (λ m. StandsStill m (contents m c.words) (contents m d.words)) (ap (λ (x : View). x.map) is) still in
-    subst (λ (x : View). StandsStill x.map (contents x.map x.closing) (contents x.map d.words)) (sym (stepped_view v c d is same)) stays
+pub may_stay : (v c d : View) → c ≡ at_gate v c.words c.history → written d [] ≡ written c [] → StandsStill c.map (contents c.map c.words) (contents c.map d.words) → KeepBuffers c.map (contents c.map c.words) (contents c.map d.words)
+    → buffer_of (contents c.map d.words) (first_thread v.own) ≡ [] → MayOpen d None
+may_stay v c d is same still keep none =
+    let map_same : c.map ≡ v.map = ap (λ (x : View). x.map) is in
+    subst (λ (x : View). StandsStill x.map (contents x.map x.closing) (contents x.map d.words) × KeepBuffers x.map (contents x.map x.closing) (contents x.map d.words) × (buffer_of (contents x.map d.words) (first_thread x.own) ≡ [])) (sym (stepped_view v c d is same))
+    (
+      subst (λ m. StandsStill m (contents m c.words) (contents m d.words)) map_same still,
+      subst (λ m. KeepBuffers m (contents m c.words) (contents m d.words)) map_same keep,
+      subst (λ m. buffer_of (contents m d.words) (first_thread v.own) ≡ []) map_same none,
+    )
 
 -- the gate was closed, the buffers were filed, and the gate was opened
-module _ (v c d w : View) (is : c ≡ at_gate v c.words c.history) (known : IsClosing c) (same : written d [] ≡ written c []) (opened : w ≡ at_place d Inside) (explained : Explains d.map (contents d.map d.words) d.history)
+module _ (v c d w : View) (is : c ≡ at_gate v c.words c.history) (known : IsClosing c) (same : written d [] ≡ written c []) (opened : w ≡ with_own d Inside (flushed d.own)) (explained : Explains d.map (contents d.map d.words) d.history)
     (still : StandsStill c.map (contents c.map c.words) (contents c.map d.words)) (filed : buffer_of (contents c.map d.words) (first_thread v.own) ≡ []) where
   abbrev after : View
-  after = at_place (written (at_gate v c.words c.history) d.words) Inside
+  after = with_own (written (at_gate v c.words c.history) d.words) Inside (flushed v.own)
 
   after_is : w ≡ after
-  after_is = opened ∙ ap (λ (x : View). at_place x Inside) (stepped_view v c d is same)
+  after_is = opened ∙ ap (λ (x : View). with_own x Inside (flushed x.own)) (stepped_view v c d is same)
 
   map_same : c.map ≡ v.map
   map_same = ap (λ (x : View). x.map) is

@@ -1,10 +1,11 @@
 -- Resting mutators and their seats.
-use Rattle.std.proofs.Common.{◌≡◌, ℕ, zero, suc, ◌+◌, ◌≤◌, List, [], ◌∷◌, ◌++◌, length, get_or, refl, sym, ap, ◌∙◌, subst, arith, length-append, zero-add}
+use Rattle.std.proofs.Common.{◌≡◌, ℕ, zero, suc, ◌+◌, ◌≤◌, List, [], ◌∷◌, ◌++◌, length, get_or, replicate, refl, sym, ap, ◌∙◌, subst, arith, length-append, zero-add}
 use Rattle.std.specs.List.{remove}
 use Rattle.std.proofs.lemmas.List.{append-nil}
 use mathlib.Core.Option.{some, some-ne-none, some-injective}
 use lib.ListN.{get_elem?}
-use Rattle.heap_words.specs.Contents.{contents}
+use Rattle.heap_words.specs.Contents.{Contents, contents}
+use Rattle.heap_core.specs.Opening.{IsOpened}
 use Rattle.yak_model.specs.declared.history.Entry.{Entry}
 use Rattle.yak_model.specs.Continued.{Explains}
 use Rattle.safepoint_gate.specs.declared.gate.Gate.{Gate}
@@ -96,6 +97,10 @@ finishes v w seats is known own = record {
 }
 
 -- ---- mutators of a new heap
+
+-- whose store buffers are empty
+pub opened_empty : (m : Areas) (c : Contents) → IsOpened m c → c.buffers ≡ replicate m.threads []
+opened_empty m c opened = ap (λ (x : Contents). x.buffers) opened.1
 
 -- the first of them is of its gate
 pub new_first : (gate : Gate) (all left : List Resting) (r : Resting) → all ≡ r ∷ left → AllFresh gate.table.shared.table_id gate.map (seats_of all) → IsOf gate r.away.seat.table_id r.away.seat.me.0

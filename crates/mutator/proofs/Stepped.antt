@@ -1,5 +1,5 @@
 -- A step of a core behind the closed gate.
-use Rattle.std.proofs.Common.{◌≡◌, ℕ, List, [], ◌∷◌, ◌++◌, Bool, true, false, cond, refl, sym, ap, ◌∙◌, subst}
+use Rattle.std.proofs.Common.{◌≡◌, ℕ, List, [], ◌∷◌, ◌++◌, Bool, true, false, cond, refl, sym, ap, ◌∙◌, subst, Some}
 use Rattle.heap_words.specs.declared.map.Areas.{Areas}
 use Rattle.heap_words.specs.Contents.{Contents, contents, depth_of}
 use Rattle.object_layout.specs.declared.calls.Call.{Call}
@@ -22,8 +22,9 @@ use Rattle.safepoint_gate.specs.declared.closing.Closed.{Closed}
 use Rattle.safepoint_gate.specs.declared.rule.Place.TheVariants.{Inside}
 use Rattle.safepoint_gate.specs.declared.rule.View.{View}
 use Rattle.safepoint_gate.specs.Rule.{AllMine, Mine}
-use Rattle.safepoint_gate.specs.Steps.{IsClosing, OpenedWith, at_gate, first_known, first_thread, told, with_own, written}
-use Rattle.mutator.specs.Calls.{MakesCall}
+use Rattle.safepoint_gate.specs.Steps.{IsClosing, KeepBuffers, MayOpen, OpenedWith, at_gate, first_known, first_thread, told, with_own, written}
+use Rattle.mutator.specs.Calls.{IsClosedCall, MakesCall}
+use Rattle.mutator.proofs.Buffers.{done_keeps}
 
 -- the event of a step
 abbrev pub event_of : Call → Stepped → Event
@@ -82,13 +83,18 @@ done_closed into now was closed before after given u t asked said out over first
     (λ i. (first' i, then' i, over i, now_words i, thread i)) done
 
 -- the gate may be opened with the step
-pub may_continue : (v c d : View) (asked : Call) (said : Stepped) → c ≡ at_gate v c.words c.history → written d [] ≡ written c [] → Done c.map (contents c.map c.words) (contents c.map d.words) (first_thread v.own) asked said
-    → Continues d.map (contents d.map d.closing) (contents d.map d.words) (first_thread d.own) (event_of asked said)
-may_continue v c d asked said is same done =
+pub may_continue : (v c d : View) (asked : Call) (said : Stepped) → IsClosedCall asked → c ≡ at_gate v c.words c.history → IsClosing c → written d [] ≡ written c [] → Done c.map (contents c.map c.words) (contents c.map d.words) (first_thread v.own) asked said
+    → MayOpen d (Some (event_of asked said))
+may_continue v c d asked said closed is known same done =
+    let map_same : c.map ≡ v.map = ap (λ (x : View). x.map) is in
     let step : Done v.map (contents v.map c.words) (contents v.map d.words) (first_thread v.own) asked said =
-    subst (λ m. Done m (contents m c.words) (contents m d.words) (first_thread v.own) asked said) (ap (λ (x : View). x.map) is) done in
-    subst (λ (x : View). Continues x.map (contents x.map x.closing) (contents x.map d.words) (first_thread x.own) (event_of asked said)) (sym (stepped_view v c d is same))
-    (continues v.map (contents v.map c.words) (contents v.map d.words) (first_thread v.own) asked said step)
+    subst (λ m. Done m (contents m c.words) (contents m d.words) (first_thread v.own) asked said) map_same done in
+    let before : Explains v.map (contents v.map c.words) c.history = subst (λ m. Explains m (contents m c.words) c.history) map_same (closing_explains v c is known) in
+    subst (λ (x : View). Continues x.map (contents x.map x.closing) (contents x.map d.words) (first_thread x.own) (event_of asked said) × KeepBuffers x.map (contents x.map x.closing) (contents x.map d.words)) (sym (stepped_view v c d is same))
+    (
+      continues v.map (contents v.map c.words) (contents v.map d.words) (first_thread v.own) asked said step,
+      done_keeps v.map (contents v.map c.words) (contents v.map d.words) c.history (first_thread v.own) asked said closed before step,
+    )
 
 -- the gate was closed, a step was made on the words, and the gate was opened with it
 module _ (v c d w : View) (asked : Call) (said : Stepped) (is : c ≡ at_gate v c.words c.history) (known : IsClosing c) (same : written d [] ≡ written c []) (opened : OpenedWith d (event_of asked said) w)

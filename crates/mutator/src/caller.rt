@@ -1,9 +1,12 @@
 //! A caller for a thread of a heap that threads share.
-ghost use Rattle.std.specs.Prelude.{◌≡◌, ◌↔◌, None, refl};
+ghost use Rattle.std.specs.Prelude.{◌≡◌, ◌↔◌, ℕ, None, refl};
 ghost use Rattle.std.specs.FinMap.{empty};
 ghost use Rattle.std.specs.Option.{ForSome};
+ghost use Rattle.object_layout.specs.Calls.{IsCall};
+ghost use Rattle.yak_model.specs.Private.{KnownObjects};
+ghost use Rattle.yak_model.specs.Standing.{Counted, MovesKnown, Stays};
 ghost use Rattle.safepoint_gate.specs.Seats.{IsOf};
-ghost use Rattle.mutator.specs.Callers.{KnowsPart, standing_shared};
+ghost use Rattle.mutator.specs.Callers.{IsAtEnd, KnowsPart, standing_shared};
 ghost use Rattle.mutator.specs.Running.{IsOfHeap, view_in};
 
 use crate::heap::Heap;
@@ -58,7 +61,13 @@ impl<'h, R: Wait> Caller for MutatorCaller<'h, R> {
 
     ghost told = { λ s. record { some = s.some; none_free = s.none_free } };
 
-    fn make_call(&mut self, call: Call) -> Reply {
+    fn make_call(&mut self, call: Call) -> Reply
+        requires { IsCall call }
+        ensures stays { Stays ⟦<MutatorCaller<'h, R> as Caller>⟧.base ⟦<MutatorCaller<'h, R> as Caller>⟧.tells ⟦<MutatorCaller<'h, R> as Caller>⟧.tells_known self.old self.new }
+        ensures counted { Counted (⟦<MutatorCaller<'h, R> as Caller>⟧.standing self.old) call result (⟦<MutatorCaller<'h, R> as Caller>⟧.standing self.new) }
+        ensures known { (known : KnownObjects) → ⟦<MutatorCaller<'h, R> as Caller>⟧.knows self.old known → MovesKnown (⟦<MutatorCaller<'h, R> as Caller>⟧.standing self.old) known call result (⟦<MutatorCaller<'h, R> as Caller>⟧.standing self.new).own (⟦<MutatorCaller<'h, R> as Caller>⟧.knows self.new) }
+        ensures at_end { IsAtEnd (view_in self.new.mutator.inside).map (view_in self.old.mutator.inside).own (view_in self.new.mutator.inside).own call result }
+    {
         let (stepped, depth) = self.mutator.call_told(self.rt, self.heap, call);
         self.made = count_up(self.made, words_made(call, stepped.reply));
         if let Some(census) = stepped.full {

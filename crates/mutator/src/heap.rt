@@ -1,5 +1,5 @@
 //! A heap that threads share.
-ghost use Rattle.std.specs.Prelude.{◌≡◌, ◌↔◌, ◌++◌, [], ◌∷◌, IfErr, IfOk, OnOk, length};
+ghost use Rattle.std.specs.Prelude.{◌≡◌, ◌↔◌, ◌++◌, [], ◌∷◌, IfErr, IfOk, OnOk, length, replicate};
 ghost use Rattle.heap_words.specs.Contents.{contents};
 ghost use Rattle.heap_words.specs.Map.{IsAreas};
 ghost use Rattle.yak_model.specs.Graph.{standard_limits};
@@ -43,6 +43,7 @@ fn resting_all(alloc: Global, mut seats: Vec<Away>) -> Result<Vec<Resting>, NoMe
 // A heap over the words of an image in the opening state.
 fn opened(alloc: Global, image: Image) -> Result<(Heap, Vec<Resting>), NoMemory>
     requires opening { StandsRecorded image.map (contents image.map image.words.items) (opening_spaces standard_limits image.map.threads) }
+    requires empty { (contents image.map image.words.items).buffers ≡ replicate image.map.threads [] }
     ensures map { IfOk result (λ r. r.0.gate.map ≡ image.map) }
     ensures count { IfOk result (λ r. length (seats_of r.1.items) ≡ image.map.threads) }
     ensures seats { IfOk result (λ r. AllFresh r.0.gate.table.shared.table_id image.map (seats_of r.1.items)) }

@@ -1,20 +1,24 @@
 //! Mutators of threads that are inside.
-ghost use Rattle.std.specs.Prelude.{◌≡◌, [], IsSome, Some};
-ghost use Rattle.heap_words.specs.Contents.{buffer_of, contents};
+ghost use Rattle.std.specs.Prelude.{◌≡◌, ℕ, List, IsSome, Some};
 ghost use Rattle.object_layout.specs.Calls.{IsCall};
-ghost use Rattle.yak_model.specs.Continued.{StandsStill};
-ghost use Rattle.safepoint_gate.specs.declared.rule.Place.TheVariants.{Away as AwayPlace};
+ghost use Rattle.safepoint_gate.specs.declared.rule.Place.TheVariants.{Away as AwayPlace, Inside as InsidePlace};
 ghost use Rattle.safepoint_gate.specs.Seats.{IsOf};
+ghost use Rattle.safepoint_gate.specs.Singles.{IsQuiet};
 ghost use Rattle.safepoint_gate.specs.Steps.{at_place, first_thread};
-ghost use Rattle.mutator.specs.Calls.{FlushesBuffers, MakesCall, MakesReply};
+ghost use Rattle.calls_in_flight.specs.declared.notes.Known.{Known};
+ghost use Rattle.heap_core.specs.Steps.{plain};
+ghost use Rattle.barriers.specs.Barred.{OnlyLoads};
+ghost use Rattle.mutator.specs.Calls.{FlushesBuffers, IsClosedCall, Makes, MakesCall, MakesReply};
+ghost use Rattle.mutator.specs.Quick.{AnswersOrCollects};
 ghost use Rattle.mutator.specs.Callers.{first_told};
 ghost use Rattle.mutator.specs.Running.{IsOfHeap, view_in};
 
 use crate::closed_calls::{flush_closed, step_closed};
 use crate::heap::Heap;
 use crate::resting::Resting;
+use barriers::depth_place;
 use heap_core::Stepped;
-use object_layout::{Call, Reply};
+use object_layout::{Call, NoPage, Reply};
 use safepoint_gate::Inside;
 use std::sync::Wait;
 
@@ -23,11 +27,14 @@ use std::sync::Wait;
 pub struct Mutator {
     pub(crate) inside: Option<Inside>,
     ghost present: { IsSome inside },
+    // no call of it is in flight
+    ghost quiet: { IsQuiet (view_in inside) },
 }
 
 impl Mutator {
     // The thread of the seat makes calls.
     pub(crate) fn of(inside: Inside) -> Mutator
+        requires quiet { IsQuiet inside.seat.me.0 }
         ensures inside { result.inside ≡ Some inside }
     {
         Mutator {
@@ -69,7 +76,7 @@ impl Mutator {
     pub fn poll<R: Wait>(&mut self, rt: &R, heap: &Heap)
         requires heap { IsOfHeap heap.now self.old.inside }
         ensures heap { IsOfHeap heap.now self.new.inside }
-        ensures view { view_in self.new.inside ≡ view_in self.old.inside }
+        ensures view { view_in self.new.inside ≡ at_place (view_in self.old.inside) InsidePlace }
     {
         if let Some(inside) = self.inside.take() {
             self.inside = Some(inside.leave(&heap.gate).enter(rt, &heap.gate));
@@ -87,34 +94,22 @@ impl Mutator {
         }
     }
 
-    /// Makes a call, and tells the thread's depth at the call beside what the step says.
-    pub(crate) fn call_told<R: Wait>(&mut self, rt: &R, heap: &Heap, call: Call) -> (Stepped, u8)
-        requires heap { IsOfHeap heap.now self.old.inside }
-        requires number { IsCall call }
-        ensures heap { IsOfHeap heap.now self.new.inside }
-        ensures makes { MakesCall (view_in self.old.inside) (view_in self.new.inside) call result.0 }
-        ensures depth { result.1 ≡ (first_told (view_in self.old.inside).own).depth }
-    {
-        match self.inside.take() {
-            Some(inside) => {
-                let (inside, stepped, depth) = step_closed(rt, &heap.gate, inside, call);
-                self.inside = Some(inside);
-                (stepped, depth)
-            }
-            None => unreachable!(),
-        }
-    }
-
     /// Makes a call behind the closed gate. Where a new object doesn't fit the thread's current page and no page is free, and where
     /// an end needs more pages than are free, one collection of the control space comes first.
-    pub fn call_closed<R: Wait>(&mut self, rt: &R, heap: &Heap, call: Call) -> Stepped
+    fn call_closed<R: Wait>(&mut self, rt: &R, heap: &Heap, call: Call) -> Stepped
         requires heap { IsOfHeap heap.now self.old.inside }
-        requires number { IsCall call }
+        requires call { IsClosedCall call }
         ensures heap { IsOfHeap heap.now self.new.inside }
         ensures makes { MakesCall (view_in self.old.inside) (view_in self.new.inside) call result }
     {
-        let (stepped, _depth) = self.call_told(rt, heap, call);
-        stepped
+        match self.inside.take() {
+            Some(inside) => {
+                let (inside, stepped) = step_closed(rt, &heap.gate, inside, call);
+                self.inside = Some(inside);
+                stepped
+            }
+            None => unreachable!(),
+        }
     }
 
     /// Ends the innermost epoch, behind the closed gate.
@@ -146,13 +141,86 @@ impl Mutator {
         stepped.reply
     }
 
-    /// Makes an object of k fields in the innermost space, behind the closed gate. Where it doesn't fit the thread's current page
-    /// and no page is free, one collection of the control space comes first.
+    /// Makes an object of k fields in the innermost space. Where it doesn't fit the thread's current page and no page was left, the
+    /// gate is closed and the object is tried again, after one collection of the control space where it still has no room.
     pub fn new_or_collect<R: Wait>(&mut self, rt: &R, heap: &Heap, k: u32) -> Stepped
         requires heap { IsOfHeap heap.now self.old.inside }
         ensures heap { IsOfHeap heap.now self.new.inside }
-        ensures makes { MakesCall (view_in self.old.inside) (view_in self.new.inside) (Call.New k) result }
+        ensures makes { AnswersOrCollects (view_in self.old.inside) k result (view_in self.new.inside) }
     {
-        self.call_closed(rt, heap, Call::New(k))
+        match self.new_object(heap, k) {
+            Ok(reply) => Stepped {
+                reply,
+                collected: false,
+                full: None,
+                shortage: None,
+            },
+            Err(NoPage) => self.call_closed(rt, heap, Call::New(k)),
+        }
+    }
+
+    // The depth of the thread.
+    fn depth(&mut self, heap: &Heap) -> u8
+        requires heap { IsOfHeap heap.now self.old.inside }
+        ensures heap { IsOfHeap heap.now self.new.inside }
+        ensures depth { result ≡ (first_told (view_in self.old.inside).own).depth }
+        ensures loads { (more lasting : List Known) × OnlyLoads (view_in self.old.inside) more lasting (view_in self.new.inside) }
+    {
+        match &mut self.inside {
+            Some(inside) => {
+                let at = depth_place(heap.gate.map(), inside.thread());
+                inside.load_own(&heap.gate, at, None) as u8
+            }
+            None => unreachable!(),
+        }
+    }
+
+    // Stores, and files all buffers before where the own one is full.
+    fn store_or_flush<R: Wait>(&mut self, rt: &R, heap: &Heap, s: u32, f: u32, x: u32) -> Reply
+        requires heap { IsOfHeap heap.now self.old.inside }
+        ensures heap { IsOfHeap heap.now self.new.inside }
+        ensures made { Makes (view_in self.old.inside) (Call.Store s f x) (plain result) (view_in self.new.inside) }
+    {
+        for _ in rt.forever() {
+            if let Ok(reply) = self.store(heap, s, f, x) {
+                return reply;
+            }
+            self.flush(rt, heap);
+        }
+        unreachable!()
+    }
+
+    /// Makes a call, by whichever way, and tells the thread's depth at the call beside what the step says. Where the store buffer is
+    /// full, all buffers are filed before.
+    pub fn call_told<R: Wait>(&mut self, rt: &R, heap: &Heap, call: Call) -> (Stepped, u8)
+        requires heap { IsOfHeap heap.now self.old.inside }
+        requires number { IsCall call }
+        ensures heap { IsOfHeap heap.now self.new.inside }
+        ensures made { Makes (view_in self.old.inside) call result.0 (view_in self.new.inside) }
+        ensures depth { result.1 ≡ (first_told (view_in self.old.inside).own).depth }
+    {
+        let depth = self.depth(heap);
+        let reply = match call {
+            Call::Int(i) => self.push_int(heap, i),
+            Call::Null => self.push_null(heap),
+            Call::Dup(s) => self.dup(heap, s),
+            Call::Pop => self.pop(heap),
+            Call::Load(s, f) => self.load(heap, s, f),
+            Call::Store(s, f, x) => self.store_or_flush(rt, heap, s, f, x),
+            Call::Get(s) => self.get(heap, s),
+            Call::Same(s, x) => self.same(heap, s, x),
+            Call::Begin => self.begin(heap),
+            Call::New(k) => return (self.new_or_collect(rt, heap, k), depth),
+            Call::End | Call::Collect | Call::Census => {
+                return (self.call_closed(rt, heap, call), depth);
+            }
+        };
+        let stepped = Stepped {
+            reply,
+            collected: false,
+            full: None,
+            shortage: None,
+        };
+        (stepped, depth)
     }
 }

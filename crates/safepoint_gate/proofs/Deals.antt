@@ -1,5 +1,5 @@
 -- Seats that are made, cut and joined keep the rule.
-use Rattle.std.proofs.Common.{◌≡◌, ◌⊎◌, ⊎_elim, inl, inr, ◌==◌, ℕ, zero, suc, ◌+◌, ◌-◌, ◌<◌, ◌≤◌, Bool, true, false, List, [], ◌∷◌, ◌++◌, take, drop, length, set, refl, sym, ap, ◌∙◌, subst, arith, length-append, eq-eqb, ne_eqb, set-set, get_or-set_same}
+use Rattle.std.proofs.Common.{◌≡◌, ◌⊎◌, ⊎_elim, inl, inr, ◌==◌, ℕ, zero, suc, ◌+◌, ◌-◌, ◌<◌, ◌≤◌, Bool, true, false, List, [], ◌∷◌, ◌++◌, take, drop, length, set, refl, sym, ap, ◌∙◌, subst, arith, length-append, eq-eqb, ne_eqb, get_or, replicate}
 use Rattle.std.specs.Prelude.{if◌then◌else◌, slice_index}
 use Rattle.std.proofs.lemmas.List.{get_or-replicate, set-get_or}
 use mathlib.Core.Option.{none, some, some-ne-none, some-injective}
@@ -9,9 +9,8 @@ use lib.ListN.{get_elem?}
 use Rattle.atomic_table.specs.Table.{Splits, Joins, opening, Allows, step, keeps}
 use Rattle.atomic_table.proofs.Lists.{at_snoc, set_else}
 use Rattle.heap_words.specs.declared.map.Areas.{Areas}
-use Rattle.heap_words.specs.Map.{IsAreas, total_of}
-use Rattle.heap_words.specs.Contents.{contents}
-use Rattle.yak_model.specs.Continued.{Explains}
+use Rattle.heap_words.specs.Map.{HasThread, IsAreas, total_of}
+use Rattle.heap_words.specs.Contents.{buffer_of, contents}
 use Rattle.yak_model.specs.Graph.{idle, standard_limits, thread_of}
 use Rattle.yak_model.specs.Recorded.{StandsRecorded}
 use Rattle.yak_model.specs.Spaces.{SpaceState, opening_spaces}
@@ -20,10 +19,14 @@ use Rattle.yak_model.proofs.Lasting.{private_first}
 use Rattle.safepoint_gate.specs.declared.rule.Place.TheVariants.{Away}
 use Rattle.safepoint_gate.specs.declared.rule.Own.{Own}
 use Rattle.safepoint_gate.specs.declared.rule.View.{View}
-use Rattle.safepoint_gate.specs.Rule.{total, present, inner, asking, closed, present_at, inner_at, asking_at, closed_at, times, stands_for, numbers, hidden, thread_told, Counted, Mine, Fits, Kept, newcomer, fresh, first_view}
+use Rattle.safepoint_gate.specs.Rule.{total, present, inner, asking, closed, present_at, inner_at, asking_at, closed_at, moving, moving_at, times, stands_for, numbers, hidden, thread_told, AreByThread, IsUnderway, Mine, Fits, Kept, StandsOpen, Underway, newcomer, fresh, first_view}
 use Rattle.safepoint_gate.specs.Steps.{of_first, of_others, of_both, of_none, first_thread, at_gate, seals, Sat}
-use Rattle.safepoint_gate.proofs.Totals.{total_set, total_two, total_snoc, total_below}
-use Rattle.safepoint_gate.proofs.Keeps.{St, fits_set, asks-present, bounds, changes, closing_known, explained, settled_whole, some_words}
+use Rattle.safepoint_gate.proofs.Totals.{total_at, total_set, total_two, total_snoc, total_below}
+use Rattle.safepoint_gate.proofs.Flying.{all_rest, rest_differs, stand_open}
+use Rattle.safepoint_gate.proofs.Keeps.{St, fits_set, asks-present, bounds, closes, closing_known, explained, moving-present, some_words}
+use Rattle.calls_in_flight.specs.declared.notes.Flight.{Flight}
+use Rattle.calls_in_flight.specs.declared.notes.Known.{Known}
+use Rattle.calls_in_flight.specs.Flight.{at_rest, flight_at}
 
 get_drop : (l : List Own) (k : ℕ) (o : Own) → get_elem? (drop 1 l) k ≡ some o → get_elem? l (suc k) ≡ some o
 get_drop [] k o e = absurd (some-ne-none o (sym e))
@@ -94,29 +97,56 @@ fresh_length : (k n : ℕ) → length (fresh k n) ≡ n
 fresh_length k zero = refl
 fresh_length k (suc n) = let r = fresh_length (suc k) n in omega arith
 
+-- threads at rest, in order
+abbrev rests_from : ℕ → ℕ → List Flight
+rests_from k zero = []
+rests_from k (suc n) = at_rest k ∷ rests_from (suc k) n
+
+rests_long : (k n : ℕ) → length (rests_from k n) ≡ n
+rests_long k zero = refl
+rests_long k (suc n) = let r = rests_long (suc k) n in omega arith
+
+rests_at : (k n i : ℕ) → i < n → flight_at (rests_from k n) i ≡ at_rest (k + i)
+rests_at k zero i li = absurd (omega arith)
+rests_at k (suc n) zero li = let z : k ≡ k + 0 = omega arith in ap at_rest z
+rests_at k (suc n) (suc i) li = let z : suc k + i ≡ k + suc i = omega arith in rests_at (suc k) n i (omega arith) ∙ ap at_rest z
+
 module _ (m : Areas) where
-  pub begins : IsAreas m → (words : List ℕ) → length words ≡ total_of m → slice_index words 0 ≡ 0 → StandsRecorded m (contents m words) (opening_spaces standard_limits m.threads) → Kept m (opening words [] (first_view m))
-  begins areas words long zero_gate stands =
+  abbrev start : Underway
+  start = record { flights = rests_from 1 m.threads; lasting = λ t. []; logged = λ t. 0 }
+
+  start_at : (t : ℕ) → HasThread m t → flight_at (rests_from 1 m.threads) (t - 1) ≡ at_rest t
+  start_at t ht = let back : 1 + (t - 1) ≡ t = omega (arith, ht.0) in rests_at 1 m.threads (t - 1) (omega (arith, ht.0, ht.1)) ∙ ap at_rest back
+
+  pub begins : IsAreas m → (words : List ℕ) → length words ≡ total_of m → slice_index words 0 ≡ 0 → (contents m words).buffers ≡ replicate m.threads [] → StandsRecorded m (contents m words) (opening_spaces standard_limits m.threads) → Kept m (opening words [] (first_view m))
+  begins areas words long zero_gate empty stands =
       let many = fresh_length 1 m.threads in
       record {
         history = [];
+        underway = start;
         areas = areas;
         wide = long;
         all_given = omega arith;
         counted = record { count = omega arith; one = omega arith; alone = λ h. absurd (omega arith) };
         once = λ t thread. let r = fresh_once t 1 m.threads thread.0 (let p = thread.1 in omega arith) in omega arith;
+        by_thread = by;
         fits = one;
-        open_ = λ _. subst (λ z. Explains m (contents m z) []) (sym hidden_same) (explains_opening m (contents m words) stands);
+        open_ = λ _. subst (λ z. StandsOpen m z [] start) (sym hidden_same)
+            (stand_open m words [] start areas long by (all_rest m (rests_from 1 m.threads) by start_at) (λ t ht. refl)
+            (λ t ht. let none : buffer_of (contents m words) t ≡ [] = ap (λ (bs : List (List ℕ)). get_or bs (t - 1) []) empty ∙ get_or-replicate m.threads (t - 1) [] [] (omega (arith, ht.0, ht.1)) in omega (arith, ap (λ (l : List ℕ). length l) none))
+            (explains_opening m (contents m words) stands));
       }
     where
       hidden_same : hidden words ≡ words
       hidden_same = ap (λ z. set words 0 z) (sym zero_gate) ∙ set-get_or words 0 0
 
-      first : Fits m (hidden words) [] (first_view m)
+      by : AreByThread m (rests_from 1 m.threads)
+      by = record { count = rests_long 1 m.threads; threads = λ t ht. ap (λ (f : Flight). f.thread) (start_at t ht) }
+
+      first : Fits m (hidden words) [] start (first_view m)
       first = record {
         map_is = λ _. refl;
         single = omega arith;
-        settled = refl;
         mine = λ j o e. let r = fresh_at 1 m.threads j o e in let below = r.1 in subst (Mine m []) (sym r.0)
             record {
               thread = (omega arith, omega arith);
@@ -125,11 +155,19 @@ module _ (m : Areas) where
               knows = private_first standard_limits m.threads (1 + j);
               goes_on = ([], refl);
             };
+        calls = λ j o e. let r = fresh_at 1 m.threads j o e in let below = r.1 in subst (IsUnderway m start []) (sym r.0)
+            record {
+              flight_is = start_at (1 + j) (omega arith, omega arith);
+              lasting_is = refl;
+              few = omega arith;
+              differs = rest_differs m (newcomer (1 + j)) [] refl;
+            };
+        rests = λ _. ((λ j o e. let r = fresh_at 1 m.threads j o e in subst (λ (x : Own). x.flight ≡ at_rest x.thread) (sym r.0) refl), refl);
         knows = λ c. absurd (omega arith);
       }
 
-      one : (j : ℕ) (v : View) → get_elem? (first_view m ∷ []) j ≡ some v → Fits m (hidden words) [] v
-      one zero v e = subst (Fits m (hidden words) []) (some-injective _ v e) first
+      one : (j : ℕ) (v : View) → get_elem? (first_view m ∷ []) j ≡ some v → Fits m (hidden words) [] start v
+      one zero v e = subst (Fits m (hidden words) [] start) (some-injective _ v e) first
       one (suc j) v e = absurd (some-ne-none v (sym e))
 
   pub splits_keeps : (id : ℕ) (v : View) → v.place ≡ Away → Splits (Kept m) id v (of_others v) (of_first v)
@@ -157,19 +195,23 @@ module _ (m : Areas) where
       let one = k.counted.one in
       let alone = k.counted.alone in
       let given = k.all_given in
-      let left : Fits m (hidden s.words) k.history l = record { map_is = λ h. f.map_is (omega arith); settled = f.settled; single = omega arith; mine = λ j o e. f.mine (suc j) o (get_drop v.own j o e); knows = λ e. absurd (omega arith) } in
-      let right : Fits m (hidden s.words) k.history r = record { map_is = λ h. f.map_is (omega arith); settled = f.settled; single = omega arith; mine = λ j o e. f.mine j o (get_take v.own j o e); knows = λ e. absurd (omega arith) } in
-      let after : (j : ℕ) (u : View) → get_elem? (vs ++ r ∷ []) j ≡ some u → Fits m (hidden s.words) k.history u =
-      λ j u e. ⊎_elim (fits_set m (Fits m (hidden s.words) k.history) s.views id l left (λ j' u' _ e'. k.fits j' u' e') j u) (λ (same : r ≡ u). subst (Fits m (hidden s.words) k.history) same right) (at_snoc vs r u j e) in
+      let quiet = f.rests (ap moving_at away) in
+      let calls : (j : ℕ) (o : Own) → get_elem? v.own j ≡ some o → IsUnderway m k.underway [] o = λ j o e. subst (λ (z : List Known). IsUnderway m k.underway z o) quiet.1 (f.calls j o e) in
+      let left : Fits m (hidden s.words) k.history k.underway l = record { map_is = λ h. f.map_is (omega arith); calls = λ j o e. calls (suc j) o (get_drop v.own j o e); rests = λ _. ((λ j o e. quiet.0 (suc j) o (get_drop v.own j o e)), refl); single = omega arith; mine = λ j o e. f.mine (suc j) o (get_drop v.own j o e); knows = λ e. absurd (omega arith) } in
+      let right : Fits m (hidden s.words) k.history k.underway r = record { map_is = λ h. f.map_is (omega arith); calls = λ j o e. calls j o (get_take v.own j o e); rests = λ _. ((λ j o e. quiet.0 j o (get_take v.own j o e)), refl); single = omega arith; mine = λ j o e. f.mine j o (get_take v.own j o e); knows = λ e. absurd (omega arith) } in
+      let after : (j : ℕ) (u : View) → get_elem? (vs ++ r ∷ []) j ≡ some u → Fits m (hidden s.words) k.history k.underway u =
+      λ j u e. ⊎_elim (fits_set m (Fits m (hidden s.words) k.history k.underway) s.views id l left (λ j' u' _ e'. k.fits j' u' e') j u) (λ (same : r ≡ u). subst (Fits m (hidden s.words) k.history k.underway) same right) (at_snoc vs r u j e) in
       record {
         history = k.history;
+        underway = k.underway;
+        by_thread = k.by_thread;
         areas = k.areas;
         wide = k.wide;
         all_given = omega arith;
         counted = record { count = omega arith; one = omega arith; alone = λ h. let z = alone (omega arith) in omega arith };
         once = λ t thread. let x = k.once t thread in let y = total_set (stands_for t) s.views id v l at in let z = total_snoc (stands_for t) vs r in let q = times_cut t v.own in omega arith;
         fits = after;
-        open_ = λ z. subst (λ y. Explains m (contents m y) k.history) (sym (settled_whole (hidden s.words) (vs ++ r ∷ []) (λ j u e. (after j u e).settled))) (explained m s k (omega arith));
+        open_ = λ z. k.open_ (omega arith);
       }
 
   pub joins_keeps : (id other : ℕ) (v w : View) → v.place ≡ Away → w.place ≡ Away → 1 ≤ length v.own → Joins (Kept m) id v other w (of_both v w) of_none
@@ -202,19 +244,30 @@ module _ (m : Areas) where
       let one = k.counted.one in
       let alone = k.counted.alone in
       let given = k.all_given in
-      let both : Fits m (hidden s.words) k.history b = record { map_is = λ h. f.map_is some_own; settled = f.settled; single = omega arith; mine = λ j o e. ⊎_elim (f.mine j o) (λ (x : (j' : ℕ) × (get_elem? w.own j' ≡ some o)). g.mine x.0 o x.1) (get_append v.own w.own j o e); knows = λ e. absurd (omega arith) } in
-      let spent : Fits m (hidden s.words) k.history of_none = record { map_is = λ h. absurd (omega arith); settled = refl; single = omega arith; mine = λ j o e. absurd (some-ne-none o (sym e)); knows = λ e. absurd (omega arith) } in
-      let after : (j : ℕ) (u : View) → get_elem? (set vs other of_none) j ≡ some u → Fits m (hidden s.words) k.history u =
-      fits_set m (Fits m (hidden s.words) k.history) vs other of_none spent (λ j u _ e. fits_set m (Fits m (hidden s.words) k.history) s.views id b both (λ j' u' _ e'. k.fits j' u' e') j u e) in
+      let quiet = f.rests (ap moving_at away) in
+      let quiet' = g.rests (ap moving_at away') in
+      let both : Fits m (hidden s.words) k.history k.underway b = record {
+        map_is = λ h. f.map_is some_own;
+        single = omega arith;
+        mine = λ j o e. ⊎_elim (f.mine j o) (λ (x : (j' : ℕ) × (get_elem? w.own j' ≡ some o)). g.mine x.0 o x.1) (get_append v.own w.own j o e);
+        calls = λ j o e. ⊎_elim (λ (x : get_elem? v.own j ≡ some o). subst (λ (z : List Known). IsUnderway m k.underway z o) quiet.1 (f.calls j o x)) (λ (x : (j' : ℕ) × (get_elem? w.own j' ≡ some o)). subst (λ (z : List Known). IsUnderway m k.underway z o) quiet'.1 (g.calls x.0 o x.1)) (get_append v.own w.own j o e);
+        rests = λ _. ((λ j o e. ⊎_elim (quiet.0 j o) (λ (x : (j' : ℕ) × (get_elem? w.own j' ≡ some o)). quiet'.0 x.0 o x.1) (get_append v.own w.own j o e)), refl);
+        knows = λ e. absurd (omega arith);
+      } in
+      let spent : Fits m (hidden s.words) k.history k.underway of_none = record { map_is = λ h. absurd (omega arith); calls = λ j o e. absurd (some-ne-none o (sym e)); rests = λ _. ((λ j o e. absurd (some-ne-none o (sym e))), refl); single = omega arith; mine = λ j o e. absurd (some-ne-none o (sym e)); knows = λ e. absurd (omega arith) } in
+      let after : (j : ℕ) (u : View) → get_elem? (set vs other of_none) j ≡ some u → Fits m (hidden s.words) k.history k.underway u =
+      fits_set m (Fits m (hidden s.words) k.history k.underway) vs other of_none spent (λ j u _ e. fits_set m (Fits m (hidden s.words) k.history k.underway) s.views id b both (λ j' u' _ e'. k.fits j' u' e') j u e) in
       record {
         history = k.history;
+        underway = k.underway;
+        by_thread = k.by_thread;
         areas = k.areas;
         wide = k.wide;
         all_given = omega arith;
         counted = record { count = omega arith; one = omega arith; alone = λ h. let z = alone (omega arith) in omega arith };
         once = λ t thread. let x = k.once t thread in let y = total_set (stands_for t) s.views id v b at in let z = total_set (stands_for t) vs other w of_none there in let q = times_append t v.own w.own in omega arith;
         fits = after;
-        open_ = λ z. subst (λ y. Explains m (contents m y) k.history) (sym (settled_whole (hidden s.words) (set vs other of_none) (λ j u e. (after j u e).settled))) (explained m s k (omega arith));
+        open_ = λ z. k.open_ (omega arith);
       }
 
   -- where a seat that is away stands for all threads, no other seat is present
@@ -247,17 +300,13 @@ module _ (m : Areas) where
       let P = total_set present s.views id v w at in
       let A = total_set asking s.views id v w at in
       let I = total_set inner s.views id v w at in
-      let known = explained m s k (omega arith) in (
+      let quiet : (j : ℕ) (u : View) → get_elem? s.views j ≡ some u → moving u ≡ 0 = λ j u there. let one = total_at present s.views j u there in let below : moving u ≤ present u = moving-present u.place in omega arith in
+      let known = explained m s k (omega arith) quiet in
+      let settled : moving v ≡ 0 = ap moving_at away in (
         w,
         keeps,
         tt,
-        changes m s k id v w me.1 0 4294967297 (hidden s.words) k.history at
-            (subst (λ z. Counted z (set s.views id w)) (sym (get_or-set_same s.words 0 4294967297 0 (omega arith))) record { count = omega arith; one = omega arith; alone = λ _. omega arith })
-            (λ t. refl)
-            refl
-            (set-set s.words 0 4294967297 0)
-            record { map_is = f.map_is; single = omega arith; mine = f.mine; settled = f.settled; knows = λ _. record { words_are = refl; history_is = refl; explains = known } }
-            (λ j u apart e g. g)
-            (λ z. known),
-        ((refl, refl), closing_known m s k id v at (omega (arith, all)) known),
+        closes m s k id v me.1 4294967297 at settled (omega (arith, all)) known
+            record { count = omega arith; one = omega arith; alone = λ _. omega arith },
+        ((refl, refl), closing_known m s k id v at (omega (arith, all)) settled known),
       )

@@ -1,11 +1,10 @@
 -- Steps that add entries to the history keep the rule.
-use Rattle.std.proofs.Common.{◌≡◌, ◌≢◌, ◌==◌, ℕ, zero, suc, ◌%◌, ◌≤◌, Bool, true, List, [], ◌∷◌, ◌++◌, length, get_or, set, refl, sym, ap, ◌∙◌, subst, arith, bit_and, eq-eqb, get_or-set_same, set-set, Some, lit≤, append_assoc}
+use Rattle.std.proofs.Common.{◌≡◌, ◌≢◌, ℕ, zero, suc, ◌%◌, ◌≤◌, List, [], ◌∷◌, ◌++◌, length, set, refl, sym, ap, ◌∙◌, subst, arith, bit_and, get_or-set_same, set-set, length-set, Some, lit≤, append_assoc}
 use Rattle.std.proofs.lemmas.List.{append-nil}
-use Rattle.std.specs.Prelude.{if◌then◌else◌}
 use Rattle.std.proofs.lemmas.Nat.{and_mask}
 use mathlib.Core.Option.{none, some, some-ne-none, some-injective}
 use lib.ListN.{get_elem?}
-use Rattle.atomic_table.specs.Table.{step, keeps, stepped, Allows}
+use Rattle.atomic_table.specs.Table.{step, keeps, Allows}
 use Rattle.heap_words.specs.declared.map.Areas.{Areas}
 use Rattle.heap_words.specs.Contents.{contents}
 use Rattle.object_layout.specs.declared.calls.Event.{Event}
@@ -19,27 +18,16 @@ use Rattle.yak_model.specs.Spaces.{SpaceState, spaces}
 use Rattle.yak_model.proofs.Continued.{explains_more, has_others, one_state, part_others, part_own}
 use Rattle.yak_model.proofs.Lasting.{becomes_known, private_more, private_others}
 use Rattle.safepoint_gate.specs.declared.rule.Own.{Own}
-use Rattle.safepoint_gate.specs.declared.rule.Place.{Place}
 use Rattle.safepoint_gate.specs.declared.rule.Place.TheVariants.{Inside, Closed}
-use Rattle.safepoint_gate.specs.declared.rule.View.{View}
-use Rattle.safepoint_gate.specs.Rule.{present, inner, asking, closed, present_at, inner_at, asking_at, closed_at, times, stands_for, hidden, thread_told, AllMine, Counted, Mine, Kept}
-use Rattle.safepoint_gate.specs.Steps.{MayOpen, Sat, with_own, with_entries, told, first_known, first_thread, opens_with}
-use Rattle.safepoint_gate.proofs.Totals.{total_set, total_at, total_two}
-use Rattle.safepoint_gate.proofs.Keeps.{St, gate_of, changes, bounds, some_words}
-use Rattle.safepoint_gate.proofs.Closers.{others_open}
-
-pub only : (own : List Own) → length own ≡ 1 → (o : Own) × (own ≡ o ∷ [])
-only [] e = absurd (omega arith)
-only (o ∷ []) e = (o, refl)
-only (o ∷ p ∷ own) e = absurd (omega arith)
-
-hit : (b : Bool) → b ≡ true → if◌then◌else◌ {A = ℕ} b 1 0 ≡ 1
-hit b e = ap (λ (c : Bool). if◌then◌else◌ {A = ℕ} c 1 0) e
-
-pub times_at : (own : List Own) (k : ℕ) (o : Own) → get_elem? own k ≡ some o → 1 ≤ times o.thread own
-times_at [] k o at = absurd (some-ne-none o (sym at))
-times_at (x ∷ xs) zero o at = let e : x.thread ≡ o.thread = ap (λ (y : Own). y.thread) (some-injective x o at) in omega (arith, hit (x.thread == o.thread) (eq-eqb x.thread o.thread e))
-times_at (x ∷ xs) (suc k) o at = let r = times_at xs k o at in omega arith
+use Rattle.safepoint_gate.specs.Rule.{present, inner, asking, closed, present_at, inner_at, asking_at, closed_at, moving_at, hidden, thread_told, AllMine, AllRest, Counted, Mine, Kept}
+use Rattle.safepoint_gate.specs.Steps.{KeepBuffers, MayOpen, Sat, with_own, with_entries, told, first_known, first_thread, opens_with}
+use Rattle.safepoint_gate.proofs.Totals.{total_set, total_at}
+use Rattle.safepoint_gate.proofs.Keeps.{gate_of, bounds, resting, some_words}
+use Rattle.safepoint_gate.proofs.Changing.{acts}
+use Rattle.safepoint_gate.proofs.Closers.{closed_quiet, others_open}
+use Rattle.safepoint_gate.proofs.Keeps as Keep
+use Rattle.safepoint_gate.proofs.Flying.{beside_same, each, only, rest_differs, stand_open}
+use Rattle.calls_in_flight.specs.Flight.{at_rest}
 
 module _ (m : Areas) where
   -- the history with the entries of a call is legal
@@ -88,44 +76,12 @@ module _ (m : Areas) where
       single q whole is zero p at = subst (Mine m whole) (some-injective q p at) is
       single q whole is (suc k) p at = absurd (some-ne-none p (sym at))
 
-  -- the seat's one thread makes a call. What that owes: the count, and words that the history with its entries explains
-  pub adds : (s : St) (k : Kept m s) (id : ℕ) (v : View) (p : Place) (cs : List (ℕ × Unit {0})) (i n : ℕ) (words : List ℕ) (o : Own) (event : Event) (knows : KnownObjects) → get_elem? s.views id ≡ some v → v.own ≡ o ∷ []
-      → closed_at p ≡ 0 → present_at p ≤ 1
-      → ((j : ℕ) (u : View) → j ≢ id → get_elem? s.views j ≡ some u → closed u ≡ 0)
-      → (known : Explains m (contents m words) (k.history ++ entries_told (first_thread v.own) event))
-      → Becomes k.history (first_thread v.own) event (first_known v.own) knows
-      → Counted (get_or (set s.words i n) 0 0) (set s.views id (with_own v p (told v.own (entries_told (first_thread v.own) event) (thread_of known.state.graph (first_thread v.own)) knows (k.history ++ entries_told (first_thread v.own) event))))
-      → hidden (set s.words i n) ≡ words
-      → Kept m (stepped s i n id cs (with_own v p (told v.own (entries_told (first_thread v.own) event) (thread_of known.state.graph (first_thread v.own)) knows (k.history ++ entries_told (first_thread v.own) event))) keeps)
-  adds s k id v p cs i n words o event knows at own not single others known becomes counted now =
-      let t = first_thread v.own in
-      let more = entries_told t event in
-      let has = thread_of known.state.graph t in
-      let w = with_own v p (told v.own more has knows (k.history ++ more)) in
-      let is : w.own ≡ with_entries o more has knows (k.history ++ more) ∷ [] = ap (λ z. told z more has knows (k.history ++ more)) own in
-      let by : t ≡ o.thread = ap first_thread own in
-      let f = k.fits id v at in
-      let mine = f.mine 0 o (ap (λ z. get_elem? z 0) own) in
-      changes m s k id v w cs i n words (k.history ++ more) at counted
-      (λ u. ap (times u) is ∙ ap (times u) (sym own))
-      (ap length is ∙ ap length (sym own))
-      now
-      record {
-        map_is = λ _. f.map_is (let l = ap length own in omega arith);
-        single = let l = ap length is in omega arith;
-        mine = mine_told k.history event v.own o known.state knows own known.lawful.legal becomes known.leaves f.mine;
-        settled = f.settled;
-        knows = λ c. absurd (omega arith);
-      }
-      (λ j u apart there g. let z = others j u apart there in record {
-        map_is = g.map_is;
-        single = g.single;
-        settled = g.settled;
-        mine = λ l q q_at. mine_others k.history t event q (let a = mine.thread.0 in omega arith) (λ same. let once = times_at u.own l q q_at in let twice = total_two (stands_for o.thread) s.views id j v u (λ b. apart (sym b)) at there in
-            let here = times_at v.own 0 o (ap (λ z. get_elem? z 0) own) in let most = k.once o.thread mine.thread in let there' : times o.thread u.own ≡ times q.thread u.own = ap (λ x. times x u.own) (sym by ∙ same) in absurd (omega arith)) known.lawful.legal (g.mine l q q_at);
-        knows = λ c. absurd (omega arith);
-      })
-      (λ _. known)
+  -- a seat's one thread with the entries of a call
+  pub mine_one : (history : List Entry) (event : Event) (own : List Own) (o : Own) (s : SpaceState) (known : KnownObjects) → own ≡ o ∷ [] → Legal history (first_thread own) event
+      → Becomes history (first_thread own) event (first_known own) known → spaces standard_limits m.threads (history ++ entries_told (first_thread own) event) s → AllMine m history own
+      → Mine m (history ++ entries_told (first_thread own) event) (with_entries o (entries_told (first_thread own) event) (thread_of s.graph (first_thread own)) known (history ++ entries_told (first_thread own) event))
+  mine_one history event own o s known is legal becomes leaves mine =
+      mine_own history (first_thread own) event o s known (ap first_thread is) legal (subst (λ k. Becomes history (first_thread own) event k known) (ap first_known is) becomes) leaves (mine 0 o (ap (λ z. get_elem? z 0) is))
 
   -- the closer opens with a call
   pub opens_with_keeps : (slots id : ℕ) (me : Sat) (event : Event) → me.0.place ≡ Closed → length me.0.own ≡ 1 → MayOpen me.0 (Some event)
@@ -145,12 +101,21 @@ module _ (m : Areas) where
       let same : v.map ≡ m = f.map_is (omega (arith, single)) in
       let before : Explains v.map (contents v.map v.closing) v.history =
       subst (λ (y : Areas × List Entry). Explains y.0 (contents y.0 v.closing) y.1) (λ j. (sym same j, sym knows.history_is j)) knows.explains in
-      let after : Explains v.map (contents v.map v.words) (v.history ++ more) = explains_more v.map (contents v.map v.closing) (contents v.map v.words) v.history t event before continues in
+      let after : Explains v.map (contents v.map v.words) (v.history ++ more) = explains_more v.map (contents v.map v.closing) (contents v.map v.words) v.history t event before continues.0 in
       let known : Explains m (contents m (hidden s.words)) (k.history ++ more) =
       subst (λ (y : Areas × List ℕ × List Entry). Explains y.0 (contents y.0 y.1) (y.2 ++ more)) (λ j. (same j, knows.words_are j, knows.history_is j)) after in
+      let buffers : KeepBuffers m (contents m v.closing) (contents m (hidden s.words)) = subst (λ (y : Areas × List ℕ). KeepBuffers y.0 (contents y.0 v.closing) (contents y.0 y.1)) (λ j. (same j, knows.words_are j)) continues.1 in
       let has = thread_of known.state.graph t in
       let made = becomes_known standard_limits m.threads k.history t event known.lawful.legal t (first_known v.own) in
       let w = with_own v Inside (told v.own more has made.0 (k.history ++ more)) in
+      let p' : Own = with_entries o more has made.0 (k.history ++ more) in
+      let is_own : w.own ≡ p' ∷ [] = ap (λ z. told z more has made.0 (k.history ++ more)) own in
+      let o_at : get_elem? v.own 0 ≡ some o = ap (λ z. get_elem? z 0) own in
+      let quiet = f.rests (ap moving_at is) in
+      let call = f.calls 0 o o_at in
+      let rest : o.flight ≡ at_rest o.thread = quiet.0 0 o o_at in
+      let rests : AllRest w.own = subst AllRest (sym is_own) (each (λ (x : Own). x.flight ≡ at_rest x.thread) p' rest) in
+      let none_moves = closed_quiet m s k id v at c in
       let b = bounds m s k in
       let count = k.counted.count in
       let one = k.counted.one in
@@ -159,17 +124,24 @@ module _ (m : Areas) where
       let A = total_set asking s.views id v w at in
       let C = total_set closed s.views id v w at in
       let wide : 1 ≤ length s.words = subst (λ z. 1 ≤ z) (sym k.wide) (some_words m) in
-      let masked : bit_and (gate_of s) 4294967295 ≡ gate_of s % 4294967296 = and_mask (gate_of s) 32 in (
+      let masked : bit_and (gate_of s) 4294967295 ≡ gate_of s % 4294967296 = and_mask (gate_of s) 32 in
+      let mine = f.mine 0 o o_at in
+      let by : t ≡ o.thread = ap first_thread own in (
         w,
         keeps,
         tt,
-        adds s k id v Inside me.1 0 (bit_and (gate_of s) 4294967295) (hidden s.words) o event made.0 at own refl (omega arith)
+        acts m s k id v w me.1 0 (bit_and (gate_of s) 4294967295) (hidden s.words) (k.history ++ more) o p' k.underway at own is_own refl same refl (omega arith) (λ _. (rests, refl))
             (λ j u apart there. others_open m s k id j v u at c apart there)
-            known
-            made.1
+            (λ q apart. mine_others k.history t event q (let z = mine.thread.0 in omega arith) (λ e. apart (sym by ∙ e)) known.lawful.legal)
+            (mine_one k.history event v.own o known.state made.0 own known.lawful.legal made.1 known.leaves f.mine)
+            record { flight_is = call.flight_is; lasting_is = call.lasting_is ∙ quiet.1; few = call.few; differs = rest_differs m p' [] rest }
+            k.by_thread
+            (beside_same m k.underway v.own)
             (subst (λ z. Counted z (set s.views id w)) (sym (get_or-set_same s.words 0 (bit_and (gate_of s) 4294967295) 0 (omega arith)))
             record { count = omega arith; one = omega arith; alone = λ h. absurd (omega arith) })
-            (set-set s.words 0 (bit_and (gate_of s) 4294967295) 0),
+            (set-set s.words 0 (bit_and (gate_of s) 4294967295) 0)
+            (stand_open m (hidden s.words) (k.history ++ more) k.underway k.areas (length-set s.words 0 0 ∙ k.wide) k.by_thread (resting m s k none_moves) (λ x ht. (Keep.still m s k none_moves x ht).1)
+            (λ x ht. let z = buffers x ht in let y = knows.counted x ht in omega (arith, z, y)) known),
         (
           record {
             has = has;
@@ -180,5 +152,6 @@ module _ (m : Areas) where
             mine = subst (λ (y : Areas × List Entry). AllMine y.0 (y.1 ++ more) w.own) (λ j. (sym same j, sym knows.history_is j)) (mine_told k.history event v.own o known.state made.0 own known.lawful.legal made.1 known.leaves f.mine);
           },
           refl,
+          rests,
         ),
       )

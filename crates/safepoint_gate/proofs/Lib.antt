@@ -1,6 +1,12 @@
 pub mod Totals
+pub mod Flying
+pub mod Quiet
+pub mod Ranges
 pub mod Keeps
+pub mod Changing
 pub mod Closers
 pub mod Deals
 pub mod Events
+pub mod Singly
+pub mod Plays
 pub mod Dealt

@@ -1,4 +1,5 @@
 pub mod Rule
 pub mod Steps
+pub mod Singles
 pub mod Seats
 pub mod Made

@@ -2,7 +2,9 @@
 ghost use Rattle.std.specs.Prelude.{◌≡◌, ◌≢◌, ◌<◌, ◌≤◌, [], length, slice_index, MatchOption};
 ghost use Rattle.heap_words.specs.Map.{HasThread, IsAreas, total_of};
 ghost use Rattle.safepoint_gate.specs.declared.rule.Place.TheVariants.{Inside as InsidePlace, Asking, Closed as ClosedPlace};
+ghost use Rattle.safepoint_gate.specs.Rule.{AllRest};
 ghost use Rattle.safepoint_gate.specs.Seats.{IsOf};
+ghost use Rattle.safepoint_gate.specs.Singles.{IsQuiet};
 ghost use Rattle.safepoint_gate.specs.Steps.{Closes, IsClosing, MayOpen, Opened, OpenedWith, at_gate, at_place, first_thread};
 
 use crate::gate::Gate;
@@ -71,6 +73,7 @@ impl Gate {
         requires seat { seat.old.table_id ≡ self.now.table.shared.table_id }
         requires inside { seat.old.me.0.place ≡ InsidePlace }
         requires single { length seat.old.me.0.own ≡ 1 }
+        requires rests { AllRest seat.old.me.0.own }
         ensures same { (seat.new.table_id ≡ seat.old.table_id) × (seat.new.me.1 ≡ seat.old.me.1) }
         ensures asked { result < CLOSING → seat.new.me.0 ≡ at_place seat.old.me.0 Asking }
         ensures refused { CLOSING ≤ result → seat.new.me.0 ≡ seat.old.me.0 }
@@ -120,9 +123,10 @@ impl Gate {
 }
 
 impl Inside {
-    /// Closes the gate, once no other thread is inside.
+    /// Closes the gate, once no other thread is inside. No call of the thread may be in flight.
     pub fn close<'g, R: Wait>(self, rt: &R, gate: &'g Gate) -> Closed<'g>
         requires gate { IsOf gate.now self.seat.table_id self.seat.me.0 }
+        requires quiet { IsQuiet self.seat.me.0 }
         ensures gate { IsOf gate.now result.seat.table_id result.seat.me.0 }
         ensures view { result.seat.me.0 ≡ at_gate self.seat.me.0 result.seat.me.0.words result.seat.me.0.history }
         ensures closing { IsClosing result.seat.me.0 }
@@ -150,6 +154,7 @@ impl Gate {
         requires still { MayOpen seat.old.me.0 None }
         ensures same { (seat.new.table_id ≡ seat.old.table_id) × (seat.new.me.1 ≡ seat.old.me.1) }
         ensures opened { Opened seat.old.me.0 None seat.new.me.0 }
+        ensures rests { AllRest seat.new.me.0.own }
     {
         self.table.shared.fetch_and::<Open>(seat, 0, COUNT);
     }
@@ -163,6 +168,7 @@ impl Gate {
         requires continues { MayOpen seat.old.me.0 (Some event) }
         ensures same { (seat.new.table_id ≡ seat.old.table_id) × (seat.new.me.1 ≡ seat.old.me.1) }
         ensures opened { OpenedWith seat.old.me.0 event seat.new.me.0 }
+        ensures rests { AllRest seat.new.me.0.own }
     {
         self.table.shared.fetch_and::<OpenWith<E>>(seat, 0, COUNT);
     }
@@ -175,6 +181,7 @@ impl<'g> Closed<'g> {
         ensures gate { IsOf self.entry.gate.now result.seat.table_id result.seat.me.0 }
         ensures table { result.seat.table_id ≡ self.entry.seat.table_id }
         ensures opened { Opened self.entry.seat.me.0 event result.seat.me.0 }
+        ensures quiet { IsQuiet result.seat.me.0 }
         ensures thread { result.thread ≡ self.entry.thread }
     {
         let Closed {

@@ -8,11 +8,12 @@ mod gate;
 mod made;
 mod rule;
 mod seats;
+mod singles;
 
 pub use closing::Closed;
 pub use finished::{Finished, close_all};
 pub use gate::Gate;
-pub use rule::{Own, Pending, Place, View};
+pub use rule::{Own, Place, View};
 pub use seats::{Away, Inside};
 
 /// The bit of the gate that a thread sets to close it. The bits below count the threads that are inside or retreating.

@@ -1,5 +1,5 @@
 //! A gate as it is made, with a seat for each thread.
-ghost use Rattle.std.specs.Prelude.{◌≡◌, ◌≤◌, ◌++◌, [], ◌∷◌, IfOk, OnOk, length};
+ghost use Rattle.std.specs.Prelude.{◌≡◌, ◌≤◌, ◌++◌, [], ◌∷◌, IfOk, OnOk, length, replicate};
 ghost use Rattle.heap_words.specs.Contents.{contents};
 ghost use Rattle.heap_words.specs.Map.{HasThread};
 ghost use Rattle.yak_model.specs.Graph.{standard_limits};
@@ -29,6 +29,7 @@ impl Gate {
     // The words of an image, and a seat that stands for all threads.
     fn opened(alloc: Global, image: Image) -> Result<(Gate, Token), NoMemory>
         requires opening { StandsRecorded image.map (contents image.map image.words.items) (opening_spaces standard_limits image.map.threads) }
+        requires empty { (contents image.map image.words.items).buffers ≡ replicate image.map.threads [] }
         ensures map { IfOk result (λ r. r.0.map ≡ image.map) }
         ensures seat { IfOk result (λ r. (r.1.table_id ≡ r.0.table.shared.table_id) × (r.1.me ≡ (first_view image.map, []))) }
     {
@@ -59,6 +60,7 @@ impl Gate {
     /// `NoMemory` where an allocation was refused; the image is given up.
     pub fn new(alloc: Global, image: Image) -> Result<(Gate, Vec<Away>), NoMemory>
         requires opening { StandsRecorded image.map (contents image.map image.words.items) (opening_spaces standard_limits image.map.threads) }
+        requires empty { (contents image.map image.words.items).buffers ≡ replicate image.map.threads [] }
         ensures map { IfOk result (λ r. r.0.map ≡ image.map) }
         ensures count { IfOk result (λ r. length r.1.items ≡ image.map.threads) }
         ensures seats { IfOk result (λ r. AllFresh r.0.table.shared.table_id image.map r.1.items) }

@@ -1,6 +1,7 @@
 //! What holds of the table between any two steps, and what each step tells.
 
 use atomic_table::{Join, Play, Seat, Split, TableRule};
+use calls_in_flight::{Flight, Known};
 use heap_words::Areas;
 use object_layout::Event;
 use std::collections::LinkedList;
@@ -29,12 +30,12 @@ pub struct Own {
     pub known: ObjectMap,
     /// The history as it was after the thread's last call.
     pub past: LinkedList<Entry>,
-}
-
-/// A word that a call in flight has still to put at a place.
-pub struct Pending {
-    pub at: usize,
-    pub word: u64,
+    /// What its call that is under way has put into the words, or has still to put there.
+    pub flight: Flight,
+    /// The places and words of all its loads of own words, of headers and of the pool, and of its claims.
+    pub loads: LinkedList<Known>,
+    /// The number of entries that it has put into its store buffer since it last filed all buffers.
+    pub put: u64,
 }
 
 /// What a seat knows. No value of it is made.
@@ -43,8 +44,8 @@ pub struct View {
     pub map: Areas,
     pub own: LinkedList<Own>,
     pub place: Place,
-    /// What a call that is under way has still to write.
-    pub flight: LinkedList<Pending>,
+    /// The words that the thread inside has met and that no other thread changes meanwhile.
+    pub lasting: LinkedList<Known>,
     /// The words as they are while the seat has closed the gate, and then as it opened it.
     pub words: LinkedList<u64>,
     /// The words as they were when it closed the gate.
@@ -149,6 +150,89 @@ impl<E: Adds> Play<(), View> for OpenWith<E> {
     ghost use Rattle.safepoint_gate.specs.Steps.{opens_with};
 
     ghost then = { opens_with E.event };
+}
+
+/// A load of a word that lasts.
+pub struct Meet;
+
+impl Play<(), View> for Meet {
+    ghost use Rattle.safepoint_gate.specs.Singles.{meets};
+
+    ghost then = { meets };
+}
+
+pub struct MeetWith<E> {
+    event: PhantomData<E>,
+}
+
+impl<E: Adds> Play<(), View> for MeetWith<E> {
+    ghost use Rattle.safepoint_gate.specs.Singles.{meets_with};
+
+    ghost then = { meets_with E.event };
+}
+
+/// A store of an own word.
+pub struct Put;
+
+impl Play<(), View> for Put {
+    ghost use Rattle.safepoint_gate.specs.Singles.{puts};
+
+    ghost then = { puts };
+}
+
+pub struct PutWith<E> {
+    event: PhantomData<E>,
+}
+
+impl<E: Adds> Play<(), View> for PutWith<E> {
+    ghost use Rattle.safepoint_gate.specs.Singles.{puts_with};
+
+    ghost then = { puts_with E.event };
+}
+
+/// A load of the claim counter, of the pool's length or of an entry of the pool.
+pub struct LoadPool;
+
+impl Play<(), View> for LoadPool {
+    ghost use Rattle.safepoint_gate.specs.Singles.{loads_pool};
+
+    ghost then = { loads_pool };
+}
+
+pub struct Claim;
+
+impl Play<(), View> for Claim {
+    ghost use Rattle.safepoint_gate.specs.Singles.{claims};
+
+    ghost then = { claims };
+}
+
+pub struct LoadField<E> {
+    event: PhantomData<E>,
+}
+
+impl<E: Adds> Play<(), View> for LoadField<E> {
+    ghost use Rattle.safepoint_gate.specs.Singles.{loads_field};
+
+    ghost then = { loads_field E.event };
+}
+
+pub struct StoreField<E> {
+    event: PhantomData<E>,
+}
+
+impl<E: Adds> Play<(), View> for StoreField<E> {
+    ghost use Rattle.safepoint_gate.specs.Singles.{stores_field};
+
+    ghost then = { stores_field E.event };
+}
+
+pub struct SetReader;
+
+impl Play<(), View> for SetReader {
+    ghost use Rattle.safepoint_gate.specs.Singles.{sets_reader};
+
+    ghost then = { sets_reader };
 }
 
 /// The first thread for which a seat stands gets a seat of its own, and a seat takes in the threads of another.

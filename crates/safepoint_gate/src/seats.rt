@@ -2,8 +2,9 @@
 ghost use Rattle.std.specs.Prelude.{◌≡◌, ◌≢◌, ◌<◌, ◌≤◌, [], length};
 ghost use Rattle.heap_words.specs.Map.{HasThread};
 ghost use Rattle.safepoint_gate.specs.declared.rule.Place.TheVariants.{Away as AwayPlace, Inside as InsidePlace, Retreating, Asking};
-ghost use Rattle.safepoint_gate.specs.Rule.{asking, closed, present};
+ghost use Rattle.safepoint_gate.specs.Rule.{AllRest, asking, closed, present};
 ghost use Rattle.safepoint_gate.specs.Seats.{IsOf};
+ghost use Rattle.safepoint_gate.specs.Singles.{IsQuiet};
 ghost use Rattle.safepoint_gate.specs.Steps.{at_place, first_thread, of_both};
 
 use crate::CLOSING;
@@ -44,6 +45,7 @@ impl Gate {
         ensures same { (seat.new.table_id ≡ seat.old.table_id) × (seat.new.me.1 ≡ seat.old.me.1) }
         ensures inside { result < CLOSING → seat.new.me.0 ≡ at_place seat.old.me.0 InsidePlace }
         ensures retreating { CLOSING ≤ result → seat.new.me.0 ≡ at_place seat.old.me.0 Retreating }
+        ensures rests { AllRest seat.old.me.0.own }
     {
         self.table.shared.fetch_add::<Enter>(seat, 0, 1)
     }
@@ -52,6 +54,7 @@ impl Gate {
     fn go(&self, seat: &mut Token)
         requires seat { seat.old.table_id ≡ self.now.table.shared.table_id }
         requires present { (present seat.old.me.0 ≡ 1) × (asking seat.old.me.0 ≡ 0) × (closed seat.old.me.0 ≡ 0) }
+        requires rests { AllRest seat.old.me.0.own }
         ensures same { (seat.new.table_id ≡ seat.old.table_id) × (seat.new.me.1 ≡ seat.old.me.1) }
         ensures away { seat.new.me.0 ≡ at_place seat.old.me.0 AwayPlace }
     {
@@ -73,6 +76,7 @@ impl Away {
         requires single { length self.seat.me.0.own ≡ 1 }
         ensures gate { IsOf gate.now result.seat.table_id result.seat.me.0 }
         ensures view { result.seat.me.0 ≡ at_place self.seat.me.0 InsidePlace }
+        ensures quiet { IsQuiet result.seat.me.0 }
         ensures thread { result.thread ≡ self.thread }
     {
         let Away { mut seat, thread } = self;
@@ -109,9 +113,10 @@ impl Inside {
         self.thread
     }
 
-    /// Goes out.
+    /// Goes out. No call of the thread may be in flight.
     pub fn leave(self, gate: &Gate) -> Away
         requires gate { IsOf gate.now self.seat.table_id self.seat.me.0 }
+        requires quiet { IsQuiet self.seat.me.0 }
         ensures gate { IsOf gate.now result.seat.table_id result.seat.me.0 }
         ensures view { result.seat.me.0 ≡ at_place self.seat.me.0 AwayPlace }
         ensures thread { result.thread ≡ self.thread }

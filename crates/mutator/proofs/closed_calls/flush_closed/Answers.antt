@@ -7,9 +7,9 @@ use Rattle.yak_model.specs.Continued.{StandsStill}
 use Rattle.yak_model.specs.Recorded.{SomeRecorded}
 use Rattle.standing_calls.proofs.Logs.{buffers-told}
 use Rattle.safepoint_gate.specs.declared.rule.View.{View}
-use Rattle.safepoint_gate.specs.Steps.{first_thread}
+use Rattle.safepoint_gate.specs.Steps.{KeepBuffers, first_thread}
 use Rattle.mutator.proofs.Stepped.{closing_explains, some_recorded}
-use Rattle.mutator.proofs.Flushed.{files_own, files_still, flushes, may_stay}
+use Rattle.mutator.proofs.Flushed.{files_keep, files_own, files_still, flushes, may_stay}
 use Rattle.mutator.proofs.closed_calls.flush_closed.Goals as goal
 
 pub file_logs-requires-clause-buffers : goal.file_logs-requires-clause-buffers
@@ -31,7 +31,12 @@ open-requires g c =
     let e = c.file_logs.ensures in
     let still : StandsStill closed.map (contents closed.map closed.words) (contents closed.map filed.words) =
     subst (λ x. StandsStill x (contents x closed.words) (contents x filed.words)) (sym same) (files_still m (contents m closed.words) (contents m filed.words) e.filed e.sets e.others e.sound.limits) in
-    record { may_open = may_stay v closed filed c.close-closed.ensures.view (ap (λ (b : TableId × View). b.1) e.base) still }
+    let keep : KeepBuffers closed.map (contents closed.map closed.words) (contents closed.map filed.words) =
+    subst (λ x. KeepBuffers x (contents x closed.words) (contents x filed.words)) (sym same) (files_keep m (contents m closed.words) (contents m filed.words) e.filed e.sets e.others e.sound.limits) in
+    let thread : HasThread m (first_thread v.own) = subst (λ (y : Areas × ℕ). HasThread y.0 y.1) (λ i. ((c.requires.gate.1 ∙ sym c.map.ensures) i, sym c.args.inside.numbered i)) c.args.inside.threaded in
+    let none : buffer_of (contents closed.map filed.words) (first_thread v.own) ≡ [] =
+    subst (λ x. buffer_of (contents x filed.words) (first_thread v.own) ≡ []) (sym same) (files_own m (contents m closed.words) (contents m filed.words) e.filed e.sets e.others e.sound.limits (first_thread v.own) thread) in
+    record { may_open = may_stay v closed filed c.close-closed.ensures.view (ap (λ (b : TableId × View). b.1) e.base) still keep none }
 
 pub returns-clause-flushes : goal.returns-clause-flushes
 returns-clause-flushes g c =

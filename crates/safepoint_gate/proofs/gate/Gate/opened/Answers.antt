@@ -9,4 +9,4 @@ pub of_words-requires : goal.of_words-requires
 of_words-requires c =
     let image = c.args.image in
     subst (λ (y : Areas × List ℕ). Kept y.0 (opening y.1 [] (first_view y.0))) (λ i. (sym c.map-map.ensures i, sym c.as_slice.ensures i))
-    (begins image.map image.areas image.words.items image.whole image.gate_zero c.requires.opening)
+    (begins image.map image.areas image.words.items image.whole image.gate_zero c.requires.empty c.requires.opening)
