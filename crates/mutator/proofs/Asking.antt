@@ -1,6 +1,6 @@
 -- What the parts of a short call do, by what the thread knows before and after.
 use Rattle.std.proofs.Common.{◌≡◌, ◌≢◌, ℕ, zero, suc, ◌+◌, ◌*◌, ◌≤◌, ◌<◌, List, [], ◌∷◌, ◌++◌, length, refl, sym, ap, ◌∙◌, subst, arith, inl, inr, append-nil}
-use Rattle.std.specs.Prelude.{◌⊎◌, Option, Some, None}
+use Rattle.std.specs.Prelude.{◌⊎◌, ◌↔◌, Option, Some, None}
 use Rattle.std.specs.List.{All}
 use Rattle.std.proofs.lemmas.List.Elements.{All-append}
 use Rattle.object_layout.specs.declared.TheConstants.{MAX_DEPTH}
@@ -18,6 +18,7 @@ use Rattle.calls_in_flight.specs.declared.notes.Known.{Known}
 use Rattle.calls_in_flight.specs.Flight.{at_rest}
 use Rattle.calls_in_flight.specs.Actors.{Actor, HasOnly, IsAtRest, MayLoad, Shows, in_block}
 use Rattle.calls_in_flight.specs.OwnStores.{IsPushOf, MayStore, above_stack, begins, done_by, pops, pushes}
+use Rattle.calls_in_flight.specs.Seeing.{slot_told}
 use Rattle.calls_in_flight.specs.Steps.{depth_at, length_at, logged_at, slot_at, with_covers}
 use Rattle.safepoint_gate.specs.declared.rule.Own.{Own}
 use Rattle.safepoint_gate.specs.declared.rule.View.{View}
@@ -127,6 +128,24 @@ still v so = record {
   shows = λ q x h. h;
   own = λ j d lt. absurd (omega (arith, lt));
 }
+
+-- two slots were loaded, one after the other
+module _ (v u w : View) (k j word other : ℕ) (single : length v.own ≡ 1) (again : length u.own ≡ 1) (quiet : IsQuiet v) (first : k < length (actor v).told.stack) (second : j < length (actor v).told.stack)
+    (loaded : Loaded v (slot_at v.map (actor v).thread k) None word u) (next : Loaded u (slot_at u.map (actor u).thread j) None other w) where
+  pub looks_both : Searches v w
+  looks_both = then v u w single (looks_slot v u k word single loaded) (looks_slot u w j other again next)
+
+  pub shows_first : ShowsSlot w k word
+  shows_first = slot_still u w again (looks_slot u w j other again next) k word (shows_slot v u k word single quiet first loaded)
+
+  pub shows_second : ShowsSlot w j other
+  shows_second =
+      let searched = looks_slot v u k word single loaded in
+      let long = length_still v u single searched (length (actor v).told.stack) refl in
+      shows_slot u w j other again (quiet_still v u single searched quiet) (omega (arith, second, long)) next
+
+  pub same_known : word ≡ other ↔ slot_told (actor w) k ≡ slot_told (actor w) j
+  same_known = next.1.so.sees.same k j word other shows_first.0 shows_second.0 shows_first.1 shows_second.1
 
 -- ---- a store that tells the entry
 

@@ -15,3 +15,4 @@ pub mod Refusing
 pub mod Asking
 pub mod Trying
 pub mod Deciding
+pub mod Valued
