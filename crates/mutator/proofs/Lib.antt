@@ -16,3 +16,6 @@ pub mod Asking
 pub mod Trying
 pub mod Deciding
 pub mod Valued
+pub mod FieldTests
+pub mod FoundFields
+pub mod SettledLoads

@@ -5,3 +5,4 @@ pub mod Quick
 pub mod Making
 pub mod Callers
 pub mod Finishing
+pub mod FieldCalls

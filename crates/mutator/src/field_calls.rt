@@ -1,8 +1,11 @@
 //! Loads and stores of fields that wait for nobody, on a seat that is inside.
-ghost use Rattle.std.specs.Prelude.{◌≡◌, IfErr, IfOk};
+ghost use Rattle.std.specs.Prelude.{◌≡◌, ◌<◌, IfErr, IfOk, length};
+ghost use Rattle.object_layout.specs.declared.replies.Refusal.{Refusal as TheRefusal};
+ghost use Rattle.object_layout.specs.declared.replies.Reply.TheVariants as the_reply;
 ghost use Rattle.safepoint_gate.specs.Seats.{IsOf};
-ghost use Rattle.safepoint_gate.specs.Singles.{IsQuiet};
+ghost use Rattle.safepoint_gate.specs.Singles.{IsQuiet, IsSo, actor};
 ghost use Rattle.barriers.specs.Barred.{IsLogFull};
+ghost use Rattle.mutator.specs.FieldCalls.{FindsField, ReachesField};
 ghost use Rattle.mutator.specs.Quick.{Answered, AnswersStore};
 
 use crate::quick_calls::{refuse, stack_length, tell, told};
@@ -12,7 +15,17 @@ use object_layout::{Addr, Call, LogFull, Refusal, Reply, address, field_count};
 use safepoint_gate::{Gate, Inside};
 
 // The object to which a slot refers, where it has the field, or the refusal of the call, which is told.
-fn field_of(inside: &mut Inside, gate: &Gate, s: u32, f: u32, call: Call) -> Result<Addr, Reply> {
+fn field_of(inside: &mut Inside, gate: &Gate, s: u32, f: u32, call: Call) -> Result<Addr, Reply>
+    requires gate { IsOf gate.now inside.old.seat.table_id inside.old.seat.me.0 }
+    requires quiet { IsQuiet inside.old.seat.me.0 }
+    requires so { IsSo inside.old.seat.me.0 }
+    requires slot { s < length (actor inside.old.seat.me.0).told.stack }
+    requires call { ReachesField (length (actor inside.old.seat.me.0).told.stack) s f call }
+    ensures gate { IsOf gate.now inside.new.seat.table_id inside.new.seat.me.0 }
+    ensures found { IfOk result (λ object. FindsField inside.old.seat.me.0 s f object.0 inside.new.seat.me.0) }
+    ensures refused { IfErr result (λ said. Answered inside.old.seat.me.0 call said inside.new.seat.me.0 × ((why : TheRefusal) × (said ≡ the_reply.Refused why))) }
+    ensures thread { inside.new.thread ≡ inside.old.thread }
+{
     let at = slot_place(gate.map(), inside.thread(), s as usize);
     let word = inside.load_own(gate, at, None);
     let Some(object) = address(word) else {
