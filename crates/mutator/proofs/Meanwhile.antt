@@ -1,11 +1,12 @@
 -- Steps of a thread between two of its calls, and calls by whichever way.
-use Rattle.std.proofs.Common.{◌≡◌, ◌≢◌, ℕ, List, [], ◌∷◌, ◌++◌, Bool, true, false, true≢false, length, refl, sym, ap, ◌∙◌, subst, arith, Option, Some, None, MatchOption, inl, inr}
+use Rattle.std.proofs.Common.{◌≡◌, ◌≢◌, ℕ, ◌≤◌, List, [], ◌∷◌, ◌++◌, Bool, true, false, true≢false, length, refl, sym, ap, ◌∙◌, subst, arith, Option, Some, None, MatchOption, inl, inr}
 use Rattle.object_layout.specs.declared.calls.Call.{Call}
 use Rattle.object_layout.specs.declared.calls.Call.TheVariants as call
 use Rattle.object_layout.specs.declared.calls.Event.{Event}
 use Rattle.object_layout.specs.declared.replies.Census.{Census}
 use Rattle.object_layout.specs.declared.replies.Reply.{Reply}
 use Rattle.object_layout.specs.declared.replies.Reply.TheVariants as reply
+use Rattle.heap_words.specs.declared.TheConstants.{MAX_DEPTH}
 use Rattle.heap_words.specs.declared.map.Areas.{Areas}
 use Rattle.heap_words.specs.Contents.{Contents, contents}
 use Rattle.yak_model.specs.Continued.{entries_told}
@@ -22,21 +23,28 @@ use Rattle.yak_model.specs.declared.history.Entry.TheVariants.{Said}
 use Rattle.yak_model.proofs.Lasting.{around}
 use Rattle.calls_in_flight.specs.declared.notes.Flight.{Flight}
 use Rattle.calls_in_flight.specs.declared.notes.Known.{Known}
+use Rattle.calls_in_flight.specs.Actors.{Actor, Shows}
 use Rattle.calls_in_flight.specs.Flight.{at_rest}
+use Rattle.calls_in_flight.specs.Steps.{depth_at}
 use Rattle.heap_core.specs.declared.owned.Stepped.{Stepped}
 use Rattle.heap_core.specs.Done.{CollectsWhere, FillsHeap, TellsFull}
 use Rattle.heap_core.specs.Steps.{plain}
 use Rattle.heap_core.proofs.Filling.{new-or-other, not-full}
 use Rattle.safepoint_gate.specs.declared.rule.Own.{Own}
+use Rattle.safepoint_gate.specs.declared.seats.Inside as seat
+use Rattle.std.specs.Prelude.{IsSome}
+use Rattle.mutator.specs.Running.{view_in}
 use Rattle.safepoint_gate.specs.declared.rule.Place.TheVariants.{Inside}
 use Rattle.safepoint_gate.specs.declared.rule.View.{View}
 use Rattle.safepoint_gate.specs.Rule.{AllMine}
-use Rattle.safepoint_gate.specs.Singles.{IsQuiet, Says, actor, actor_in, loads_in, loads_of, moved, put_in, put_of, with_call}
+use Rattle.safepoint_gate.specs.Singles.{IsQuiet, Loaded, Says, actor, actor_in, loads_in, loads_of, moved, put_in, put_of, with_call}
 use Rattle.safepoint_gate.specs.Steps.{first_known, first_thread, flushed, told}
 use Rattle.barriers.specs.Barred.{IsLogFull, OnlyLoads}
 use Rattle.mutator.specs.Calls.{FlushesBuffers, Makes, MakesCall}
 use Rattle.mutator.specs.Quick.{Answered, Answers, AnswersOrCollects, AnswersStore, at_once, closed, told_by}
-use Rattle.mutator.proofs.Answering.{actor_moved, call_again, mine_back, thread_kept}
+use Rattle.mutator.specs.Callers.{first_told}
+use Rattle.mutator.proofs.Answering.{actor_moved, call_again, mine_back, thread_in, thread_kept}
+use Rattle.mutator.proofs.Looking.{loaded_is, shows_loaded}
 use Rattle.mutator.proofs.Stepped.{entries_same, event_of}
 
 -- ---- what a thread has between its calls
@@ -179,8 +187,8 @@ does_full g t (call.Load s f) h other d = let e = d.0 in cc
 does_full g t (call.Store s f x) h other d = let e = d.0 in cc
 does_full g t (call.Get s) h other d = shown_full g (slot_of g t s) d.0
 does_full g t (call.Same s x) h other d = elim d.0 [
-  | inl yes ↦ let e = yes.0 in cc
-  | inr no ↦ let e = no.0 in cc
+  | inl same ↦ let e = same.0 in cc
+  | inr other ↦ let e = other.0 in cc
 ]
 does_full g t call.Begin h other d = let e = d.0 in cc
 does_full g t call.End h other d = let e = d.0.2 in cc
@@ -300,3 +308,45 @@ makes_quiet v w asked said single h = rests v.own (entries_told (first_thread v.
     rests : (own : List Own) (more : List Entry) → length own ≡ 1 → w.own ≡ with_call (told own more h.says.has h.says.known (h.says.history ++ more)) (at_rest (first_thread own)) h.loads h.put → IsQuiet w
     rests [] more one is = absurd (omega arith)
     rests (o ∷ own) more one is = subst (λ (l : List Own). (actor_in l w.lasting).flight ≡ at_rest (first_thread l)) (sym is) refl
+
+-- ---- the depth
+
+told_by_own : (own : List Own) (lasting : List Known) → (actor_in own lasting).told ≡ first_told own
+told_by_own [] lasting = refl
+told_by_own (o ∷ own) lasting = refl
+
+-- as it was loaded
+pub depth_loaded : (v w : View) (n : ℕ) → length v.own ≡ 1 → IsQuiet v → Loaded v (depth_at v.map (first_thread v.own)) None n w → (n ≡ (first_told v.own).depth) × (n ≤ MAX_DEPTH)
+depth_loaded v w n single quiet loaded =
+    let here : Loaded v (depth_at v.map (actor v).thread) None n w = subst (λ (t : ℕ). Loaded v (depth_at v.map t) None n w) (thread_in v) loaded in
+    let same = loaded_is v w (depth_at v.map (actor v).thread) n single here in
+    let map : w.map ≡ v.map = ap (λ (x : View). x.map) here.0 in
+    let shows : Shows (actor w) (depth_at w.map (actor w).thread) n = subst (λ (p : ℕ). Shows (actor w) p n) (λ i. depth_at (sym map i) (sym (ap (λ (a : Actor). a.thread) same) i)) (shows_loaded v w (depth_at v.map (actor v).thread) n single quiet here) in
+    let is : n ≡ (actor w).told.depth = here.1.so.sees.depth_is n shows in
+    let few = here.1.so.sees.not_deep in
+    (is ∙ ap (λ (a : Actor). a.told.depth) same ∙ ap (λ (t : Thread). t.depth) (told_by_own v.own v.lasting), omega (arith, is, few))
+
+-- ---- mutators
+
+-- the seat of a mutator that makes calls is inside
+pub place_in : (inside : Option seat.Inside) → IsSome inside → (view_in inside).place ≡ Inside
+place_in None some = absurd (true≢false (sym some))
+place_in (Some inside) some = inside.inside
+
+pub single_in : (inside : Option seat.Inside) → IsSome inside → length (view_in inside).own ≡ 1
+single_in None some = absurd (true≢false (sym some))
+single_in (Some inside) some = inside.single
+
+-- ---- a call after the depth was loaded
+
+-- words were loaded, and nothing else was done
+abbrev pub Loads : View → View → Type 0
+Loads v u = (more lasting : List Known) × OnlyLoads v more lasting u
+
+pub told_made : (v u w : View) (given asked : Call) (said : Stepped) → Loads v u → v.place ≡ Inside → given ≡ asked → Makes u asked said w → Makes v given said w
+told_made v u w given asked said before place is h =
+    subst (λ (x : Call). Makes v x said w) (sym is) (makes_since v u w asked said (meanwhile_loads v v u before.0 before.1 (meanwhile_none v place) before.2) h)
+
+pub told_answered : (v u w : View) (given asked : Call) (said : Reply) → Loads v u → v.place ≡ Inside → given ≡ asked → ((k : ℕ) → asked ≢ call.New k) → Answered u asked said w → Makes v given (plain said) w
+told_answered v u w given asked said before place is other h =
+    told_made v u w given asked (plain said) before place is (makes_answered u w asked said (meanwhile_loads v v u before.0 before.1 (meanwhile_none v place) before.2).place_is other h)
