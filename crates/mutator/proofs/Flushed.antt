@@ -42,8 +42,7 @@ pub may_stay : (v c d : View) → c ≡ at_gate v c.words c.history → written 
     → buffer_of (contents c.map d.words) (first_thread v.own) ≡ [] → MayOpen d None
 may_stay v c d is same still keep none =
     let map_same : c.map ≡ v.map = ap (λ (x : View). x.map) is in
-    subst (λ (x : View). StandsStill x.map (contents x.map x.closing) (contents x.map d.words) × KeepBuffers x.map (contents x.map x.closing) (contents x.map d.words) × (buffer_of (contents x.map d.words) (first_thread x.own) ≡ [])) (sym (stepped_view v c d is same))
-    (
+    subst (λ (x : View). StandsStill x.map (contents x.map x.closing) (contents x.map d.words) × KeepBuffers x.map (contents x.map x.closing) (contents x.map d.words) × (buffer_of (contents x.map d.words) (first_thread x.own) ≡ [])) (sym (stepped_view v c d is same)) (
       subst (λ m. StandsStill m (contents m c.words) (contents m d.words)) map_same still,
       subst (λ m. KeepBuffers m (contents m c.words) (contents m d.words)) map_same keep,
       subst (λ m. buffer_of (contents m d.words) (first_thread v.own) ≡ []) map_same none,

@@ -90,8 +90,7 @@ may_continue v c d asked said closed is known same done =
     let step : Done v.map (contents v.map c.words) (contents v.map d.words) (first_thread v.own) asked said =
     subst (λ m. Done m (contents m c.words) (contents m d.words) (first_thread v.own) asked said) map_same done in
     let before : Explains v.map (contents v.map c.words) c.history = subst (λ m. Explains m (contents m c.words) c.history) map_same (closing_explains v c is known) in
-    subst (λ (x : View). Continues x.map (contents x.map x.closing) (contents x.map d.words) (first_thread x.own) (event_of asked said) × KeepBuffers x.map (contents x.map x.closing) (contents x.map d.words)) (sym (stepped_view v c d is same))
-    (
+    subst (λ (x : View). Continues x.map (contents x.map x.closing) (contents x.map d.words) (first_thread x.own) (event_of asked said) × KeepBuffers x.map (contents x.map x.closing) (contents x.map d.words)) (sym (stepped_view v c d is same)) (
       continues v.map (contents v.map c.words) (contents v.map d.words) (first_thread v.own) asked said step,
       done_keeps v.map (contents v.map c.words) (contents v.map d.words) c.history (first_thread v.own) asked said closed before step,
     )

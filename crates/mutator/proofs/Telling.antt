@@ -125,10 +125,6 @@ module _ (v w : View) (asked : Call) (said : Stepped) (makes : Makes v asked sai
   mine_after : Mine m (history ++ more) after
   mine_after = all_after 0 after refl
 
-  -- the thread is the same
-  pub call_thread : first_thread w.own ≡ first_thread v.own
-  call_thread = ap first_thread own_after ∙ sym thread_is
-
   -- the call's entries end the history
   pub call_at_end : IsAtEnd m v.own w.own asked said.reply
   call_at_end = subst (λ (x : List Own × List Own). IsAtEnd m x.0 x.1 asked said.reply) (λ i. (sym own i, sym own_after i)) (record {
