@@ -1,8 +1,7 @@
 -- Which statuses making a trace and checking one may end with, and what the number of each tells.
-use Rattle.std.proofs.Common.{◌≡◌, ◌≤◌, ◌<◌, ◌⊎◌, ℕ, List, [], length, refl, sym, subst, inl, inr}
+use Rattle.std.proofs.Common.{◌≡◌, ◌≤◌, ◌<◌, ◌⊎◌, ℕ, List, [], length, refl, subst, inl, inr}
 use denote.Enum.Declared.{tag_of}
 use Rattle.std.specs.Io.KnownBytes.{Appends}
-use Rattle.yak_io.specs.Causes.{Rose}
 use Rattle.script_text.specs.declared.TheConstants.{INPUT_LIMIT}
 use Rattle.script_text.specs.declared.faults.Bad.{Bad}
 use Rattle.script_text.specs.Contents.{Contents}
@@ -20,8 +19,8 @@ use Rattle.yak.specs.declared.forms.Tracing.{Tracing}
 use Rattle.yak.specs.declared.forms.Tracing.TheVariants.{Make, Check}
 use Rattle.yak.specs.Forms.{IsTraced}
 use Rattle.yak.specs.Keeping.{Keeping}
-use Rattle.yak.specs.Endings.{EndsRefused, Input, IsFaultless, IsInput, IsTooLarge, KeepsNothing, Output, WritesNothing, number_of}
-use Rattle.yak.specs.Traced.{AnswersCheck, AnswersTrace, AnswersTracing, EndsBadScript, EndsBadTrace, EndsBroken, EndsLawful, EndsTraced, OfInput, tracing_ends, tracing_means, tracing_to}
+use Rattle.yak.specs.Endings.{Input, IsFaultless, IsInput, KeepsNothing, Output, number_of}
+use Rattle.yak.specs.Traced.{AnswersCheck, AnswersTrace, AnswersTracing, OfInput, tracing_ends, tracing_means, tracing_to}
 use Rattle.yak.proofs.Numbers.{number_is, of_number, one_of_two}
 use Rattle.yak.proofs.Statuses.{Never, not_large, same_input, too_many}
 use Rattle.yak.proofs.Words.{one_form}
