@@ -1,10 +1,10 @@
 -- The pool made anew.
-use Rattle.std.proofs.Common.{◌≡◌, ℕ, List, [], ◌∷◌, length, set, refl, ap, ◌∙◌, arith, get_or-set_other, length-set}
+use Rattle.std.proofs.Common.{◌≡◌, ℕ, List, [], ◌∷◌, length, set, refl, ap, ◌∙◌, length-set}
 use Rattle.std.proofs.lemmas.List.{set-set}
 use Rattle.heap_words.specs.declared.map.Areas.{Areas}
 use Rattle.heap_words.specs.declared.TheConstants.{HEAD_WORDS}
 use Rattle.heap_words.specs.Contents.{Contents}
-use Rattle.yak_model.specs.Stands.{claim_counter, free_pages, pool_length, set_entries}
+use Rattle.yak_model.specs.Stands.{free_pages, set_entries}
 use Rattle.region_pages.specs.Freeing.{free_below, pool_with}
 use Rattle.region_pages.specs.declared.TheConstants.{CLAIM_COUNTER, POOL_LENGTH}
 use Rattle.region_pages.proofs.Freed.{rebuilt_free}

@@ -1,5 +1,5 @@
 -- Sums over tasks that are dealt out, and the counts of their words.
-use Rattle.std.proofs.Common.{◌≡◌, ℕ, zero, suc, ◌+◌, ◌*◌, ◌<◌, ◌≤◌, ◌||◌, List, [], ◌∷◌, ◌++◌, Bool, true, false, true≢false, Option, Some, None, All, cond, count_by, filter_map, flat_map, length, sum_by, refl, ap, sym, ◌∙◌, add-one, arith}
+use Rattle.std.proofs.Common.{◌≡◌, ℕ, zero, suc, ◌+◌, ◌*◌, ◌<◌, ◌≤◌, ◌||◌, List, [], ◌∷◌, ◌++◌, Bool, true, false, true≢false, Option, Some, None, All, cond, flat_map, length, sum_by, refl, ap, sym, ◌∙◌, add-one, arith}
 use Rattle.std.specs.List.{range_with_len, slice_get, cons_option}
 use Rattle.std.specs.Ordering.{eq_by_cmp}
 use Rattle.std.proofs.lemmas.Grind.{flat_map-append}
@@ -15,7 +15,7 @@ use Rattle.group_jobs.specs.Dealings.{dealt_words, tasks_at, words_at}
 use Rattle.group_jobs.specs.Tallies.{busy_tasks, is_busy, tasks_room, words_in, words_room}
 use Rattle.group_jobs.specs.Tasks.{AreTasks, task_bytes}
 use Rattle.group_jobs.specs.declared.tasks.Task.{Task}
-use Rattle.group_jobs.proofs.Counting.{get-word_counts, no_place, same_counts, told_of}
+use Rattle.group_jobs.proofs.Counting.{get-word_counts, no_place, same_counts}
 use Rattle.group_jobs.proofs.Tasking.{words_of_tasks}
 
 -- what a task has, if there is one

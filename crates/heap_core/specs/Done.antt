@@ -11,7 +11,7 @@ use Rattle.object_layout.specs.declared.TheConstants.{OBJECT_WORDS}
 use Rattle.heap_words.specs.declared.map.Areas.{Areas}
 use Rattle.heap_words.specs.Map.{HasRegion}
 use Rattle.heap_words.specs.Contents.{Contents, depth_of, with_readers}
-use Rattle.epoch_lattice.specs.declared.Space.TheVariants.{Control, Region}
+use Rattle.epoch_lattice.specs.declared.Space.TheVariants.{Region}
 use Rattle.yak_model.specs.declared.history.Entry.{Entry}
 use Rattle.yak_model.specs.Spaces.{EndsEpoch, SpaceState}
 use Rattle.yak_model.specs.State.{object_of}

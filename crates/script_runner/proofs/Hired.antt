@@ -1,10 +1,9 @@
 -- The workers of a run, before it and after it.
-use Rattle.std.proofs.Common.{◌≡◌, ◌⊎◌, ⊎_elim, inl, inr, ◌+◌, ◌-◌, ◌≤◌, ◌<◌, ℕ, zero, suc, List, [], ◌∷◌, ◌++◌, length, get_or, take, refl, sym, ap, subst, ◌∙◌, arith, length-append, Option, Some, None, IsSome}
+use Rattle.std.proofs.Common.{◌≡◌, ◌⊎◌, ⊎_elim, inl, inr, ◌+◌, ◌-◌, ◌≤◌, ◌<◌, ℕ, zero, suc, List, [], ◌∷◌, ◌++◌, length, get_or, take, refl, sym, ap, subst, ◌∙◌, arith, Option, Some, None, IsSome}
 use Rattle.std.specs.List.{remove}
 use mathlib.Core.Option.{some, some-ne-none, some-injective}
 use lib.ListN.{get_elem?}
 use Rattle.heap_words.specs.declared.map.Areas.{Areas}
-use Rattle.heap_words.specs.Map.{HasThread}
 use Rattle.object_layout.specs.declared.replies.Reply.{Reply}
 use Rattle.object_layout.specs.declared.replies.Reply.TheVariants.{Ok}
 use Rattle.yak_model.specs.History.{part}
@@ -18,13 +17,13 @@ use Rattle.safepoint_gate.specs.Steps.{first_calls, first_thread}
 use Rattle.mutator.proofs.Telling.{only}
 use Rattle.mutator.specs.declared.resting.Resting.{Resting}
 use Rattle.mutator.specs.Resting.{seats_of}
-use Rattle.mutator.specs.Finishing.{AllOf, Finishes}
+use Rattle.mutator.specs.Finishing.{AllOf, Finishes, owns_of}
 use Rattle.mutator.proofs.Rested.{seats_length, seats_more}
 use Rattle.script_text.specs.declared.scripts.Line.{Line}
 use Rattle.script_text.specs.Contents.{Heap}
 use Rattle.script_runner.specs.declared.workers.Worker.{Worker}
 use Rattle.script_runner.specs.Runs.{all_said, calls_of}
-use Rattle.script_runner.specs.Threaded.{HasMade, HasRun, IsReady, IsThreaded}
+use Rattle.script_runner.specs.Threaded.{HasEach, HasMade, HasRun, IsReady, IsThreaded}
 use Rattle.script_runner.specs.Workers.{AllRan, AllReady, AllThere, AreGathered, AreSeats}
 use Rattle.script_runner.proofs.Worked.{no_line, said_agree}
 
@@ -142,6 +141,20 @@ module _ (all workers left : List Worker) (w : Worker) (back after : List Restin
 
 -- ---- after a run
 
+in_first : (o : Own) (own : List Own) (P : ℕ → Own → Type 0) → P 0 o → ((k : ℕ) (x : Own) → get_elem? own k ≡ some x → P (suc k) x) → (k : ℕ) (x : Own) → get_elem? (o ∷ own) k ≡ some x → P k x
+in_first o own P here more zero x at = subst (P 0) (some-injective o x at) here
+in_first o own P here more (suc k) x at = more k x at
+
+-- seats of one thread each, of whose threads something holds
+singles : (seats : List Away) (P : ℕ → Own → Type 0) → ((k : ℕ) (a : Away) → get_elem? seats k ≡ some a → (o : Own) × (a.seat.me.0.own ≡ o ∷ []) × P k o)
+    → (length (owns_of seats) ≡ length seats) × ((k : ℕ) (o : Own) → get_elem? (owns_of seats) k ≡ some o → P k o)
+singles [] P each = (refl, λ k o at. absurd (some-ne-none o (sym at)))
+singles (a ∷ seats) P each =
+    let first = each 0 a refl in
+    let more = singles seats (λ k. P (suc k)) (λ k b at. each (suc k) b at) in
+    let own : owns_of (a ∷ seats) ≡ first.0 ∷ owns_of seats = ap (λ (l : List Own). l ++ owns_of seats) first.1 in
+    (ap length own ∙ ap suc more.0, λ k o at. in_first first.0 (owns_of seats) P first.2 more.1 k o (ap (λ (l : List Own). get_elem? l k) (sym own) ∙ at))
+
 room_of : (gate : Gate) (t : ℕ) (lines : List Line) (replies : List Reply) (r : Option Resting) → HasRun gate t lines r replies → length replies ≡ length lines
 room_of gate t lines replies None ran = absurd ran
 room_of gate t lines replies (Some resting) ran = ran.1
@@ -173,6 +186,20 @@ module _ (gate : Gate) (lines : List Line) (workers : List Worker) (ran : AllRan
       let made = made_of seats long are k lt w.0 a in
       subst (λ (x : Away). IsOf gate x.seat.table_id x.seat.me.0) (sym made.1 ∙ here.1) made.2.gate_is
 
+  -- the seats have each thread once, in order
+  ran_each : (seats : List Away) → length seats ≡ length workers → AreSeats workers seats → HasEach (length workers) (owns_of seats)
+  ran_each seats long are =
+      let all = singles seats (λ k o. o.thread ≡ k + 1) (λ k a at.
+      let here = inside seats k a at in
+      let lt : k < length workers = let p = here.0 in omega arith in
+      let w = element workers k lt in
+      let made = made_of seats long are k lt w.0 a in
+      let resting = made.0 in
+      let away : a ≡ resting.away = sym here.1 ∙ made.1 in
+      let one = only resting.away.seat.me.0.own resting.single in
+      (one.0, ap (λ (x : Away). x.seat.me.0.own) away ∙ one.1, sym (ap first_thread one.1) ∙ (resting.away.numbered ∙ made.2.thread))) in
+      record { count = all.0 ∙ long; order = all.1 }
+
   -- the one history has each thread's lines with their replies
   pub threaded : (size : Heap) (replies : List Reply) (seats : List Away) (v : View) → v.map ≡ gate.map → gate.map.pages ≡ size.pages → gate.map.threads ≡ size.threads → length workers ≡ gate.map.threads
       → length seats ≡ length workers → length replies ≡ length lines → AreSeats workers seats → AreGathered lines workers replies → Finishes v seats → IsThreaded size lines replies v
@@ -181,6 +208,7 @@ module _ (gate : Gate) (lines : List Line) (workers : List Worker) (ran : AllRan
     pages = ap (λ (m : Areas). m.pages) same ∙ pages;
     threads = ap (λ (m : Areas). m.threads) same ∙ threads;
     explains = finishes.explains;
+    every = subst (λ (y : ℕ × List Own). HasEach y.0 y.1) (λ i. ((many ∙ ap (λ (m : Areas). m.threads) (sym same)) i, sym finishes.own i)) (ran_each seats long are);
     mine = finishes.mine;
     told = λ t thread.
         let k : ℕ = t - 1 in

@@ -1,17 +1,16 @@
 -- The calls of one thread among the lines of all.
-use Rattle.std.proofs.Common.{◌≡◌, ◌≢◌, ◌==◌, ◌+◌, ◌≤◌, ◌<◌, ℕ, zero, suc, Bool, true, false, cond, eqb, List, [], ◌∷◌, ◌++◌, take, get_or, set, length, refl, sym, ap, subst, ◌∙◌, arith, eq-eqb, ne_eqb, get_or-set_same, length-set}
+use Rattle.std.proofs.Common.{◌≡◌, ◌≢◌, ◌+◌, ◌≤◌, ◌<◌, ℕ, zero, suc, Bool, cond, eqb, List, [], ◌∷◌, ◌++◌, take, get_or, set, length, refl, sym, ap, ◌∙◌, arith, eq-eqb, ne_eqb, get_or-set_same, length-set}
 use mathlib.Core.Logic.{dite}
 use native.Mathlib.Decide.{ℕ_discrete}
 use Rattle.std.proofs.lemmas.List.{append-nil, take_more}
 use Rattle.std.proofs.lemmas.List.Elements.{filter-append}
-use Rattle.object_layout.specs.declared.calls.Call.{Call}
 use Rattle.object_layout.specs.declared.calls.Call.TheVariants.{Int}
 use Rattle.object_layout.specs.declared.replies.Reply.{Reply}
 use Rattle.object_layout.specs.declared.replies.Reply.TheVariants.{Ok}
 use Rattle.yak_model.specs.declared.history.Entry.{Entry}
 use Rattle.yak_model.specs.History.{caller, part}
 use Rattle.script_text.specs.declared.scripts.Line.{Line}
-use Rattle.script_runner.specs.Runs.{all_said, calls_of, said}
+use Rattle.script_runner.specs.Runs.{all_said, said}
 use Rattle.script_runner.proofs.Runs.{said_more}
 
 abbrev pub no_line : Line

@@ -5,3 +5,5 @@ pub mod Table
 pub mod Single
 pub mod Progress
 pub mod Spelling
+pub mod Replied
+pub mod Joined

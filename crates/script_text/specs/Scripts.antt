@@ -85,10 +85,14 @@ IsScript bytes script = IsScriptOf (lines bytes) script
 abbrev pub IsBadLine : List ℕ → Bad → Type 0
 IsBadLine bytes bad = IsBadOf (lines bytes) bad
 
+-- what an error says of lines
+abbrev pub RefusesOf : List (List ℕ) → ReadError → Type 0
+RefusesOf lines (Refused bad) = IsBadOf lines bad
+RefusesOf lines Memory = Unit {0}
+
 -- what an error says of the bytes
 abbrev pub Refuses : List ℕ → ReadError → Type 0
-Refuses bytes (Refused bad) = IsBadLine bytes bad
-Refuses bytes Memory = Unit {0}
+Refuses bytes error = RefusesOf (lines bytes) error
 
 -- a good line adds its command, if it holds one
 abbrev pub Adds : ℕ → ℕ → List ℕ → List Line → List Line → Type 0

@@ -2,7 +2,10 @@
 ghost use Rattle.std.specs.Prelude.{◌≡◌, ℕ, List};
 ghost use Rattle.script_text.specs.declared.faults.Bad.{Bad};
 ghost use Rattle.script_text.specs.Contents.{Contents};
+ghost use Rattle.object_layout.specs.declared.replies.Reply.{Reply as Said};
+ghost use Rattle.script_text.specs.Replies.{IsReply, reply_text, reply_words};
 ghost use Rattle.script_text.specs.Scripts.{IsScript, IsBadLine};
+ghost use Rattle.script_text.specs.Words.{words};
 
 /// A text is one script at most.
 #[tactic(auto, using(crate::proofs::Single::same_script))]
@@ -20,4 +23,16 @@ pub fn law_one_refusal()
 #[tactic(auto, using(crate::proofs::Single::script_or_refusal))]
 pub fn law_script_or_refusal()
     ensures { (bytes : List ℕ) (script : Contents) (bad : Bad) → IsScript bytes script → IsBadLine bytes bad → ⊥ }
+{}
+
+/// No two replies have the same words.
+#[tactic(auto, using(crate::proofs::Replied::same_reply))]
+pub fn law_one_reply()
+    ensures { (one other : Said) → IsReply one → IsReply other → reply_words one ≡ reply_words other → one ≡ other }
+{}
+
+/// The words of a reply's text.
+#[tactic(auto, using(crate::proofs::Replied::reply_words_are))]
+pub fn law_reply_words()
+    ensures { (reply : Said) → IsReply reply → words (reply_text reply) ≡ reply_words reply }
 {}

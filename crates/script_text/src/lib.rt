@@ -8,6 +8,7 @@ mod numbers;
 mod printing;
 mod reading;
 mod replies;
+mod saying;
 mod scripts;
 #[cfg(test)]
 mod tests;
@@ -15,12 +16,16 @@ mod words;
 
 pub use commands::find_call;
 pub use faults::{Bad, ReadError, Reason};
-pub use laws::{law_one_refusal, law_one_script, law_script_or_refusal};
+pub use laws::{
+    law_one_refusal, law_one_reply, law_one_script, law_reply_words, law_script_or_refusal,
+};
 pub use numbers::number_of;
 pub use printing::print_script;
-pub use reading::{command_word, read_script, text_lines};
+pub use reading::{command_word, is_silent, read_front, read_script, text_lines};
 pub use replies::print_reply;
+pub use saying::read_reply;
 pub use scripts::{Line, Script};
+pub use words::Words;
 
 /// The greatest number of bytes of a text that is read.
 pub const INPUT_LIMIT: usize = 16777216;

@@ -1,11 +1,11 @@
 //! Reading a script.
-ghost use Rattle.std.specs.Prelude.{◌≡◌, ◌≤◌, ◌⊎◌, ℕ, List, Ok, Err, MatchOption, MatchResult, MatchBool, IfOk, IfErr, OnOk, length};
+ghost use Rattle.std.specs.Prelude.{◌≡◌, ◌≤◌, ◌+◌, ◌⊎◌, ◌∷◌, ℕ, [], List, Ok, Err, MatchOption, MatchResult, MatchBool, IfOk, IfErr, IfSome, OnOk, length, take};
 ghost use Rattle.script_text.specs.declared.faults.Bad.{Bad};
 ghost use Rattle.script_text.specs.declared.faults.ReadError.TheVariants.{Refused, Memory};
 ghost use Rattle.script_text.specs.Contents.{Contents, Heap};
 ghost use Rattle.script_text.specs.Printing.{IsValid};
 ghost use Rattle.script_text.specs.Words.{lines};
-ghost use Rattle.script_text.specs.Scripts.{IsSilent, HasCommandWord, IsCommand, IsFault, IsHeader, IsScript, IsBadLine, Refuses, Adds, Stops};
+ghost use Rattle.script_text.specs.Scripts.{IsSilent, HasCommandWord, IsCommand, IsFault, IsHeader, IsScript, IsScriptOf, IsBadLine, Refuses, RefusesOf, Adds, Stops};
 
 use crate::commands::read_command;
 use crate::faults::{Bad, ReadError, Reason};
@@ -45,7 +45,7 @@ fn read_header(line: &[u8]) -> Option<Header>
 }
 
 /// Whether a line is empty or a comment.
-fn is_silent(line: &[u8]) -> bool
+pub fn is_silent(line: &[u8]) -> bool
     ensures { MatchBool result (IsSilent line.now) (IsSilent line.now → ⊥) }
 {
     Words::of(line).next().is_none() || line.first() == Some(&b'#')
@@ -113,18 +113,38 @@ pub fn text_lines<'a>(bytes: &'a [u8]) -> Lines<'a>
     bytes.lines()
 }
 
-/// The script of a text.
-fn read_lines(alloc: Global, bytes: &[u8]) -> Result<Script, ReadError>
+/// The next of the first so many lines.
+fn next_of<'a>(lines: &mut Lines<'a>, left: &mut u32) -> Option<&'a [u8]>
+    ensures next { MatchOption result (take left.old lines.old ≡ []) (λ line. take left.old lines.old ≡ line.now ∷ take left.new lines.new) }
+    ensures shorter { IfSome result (λ line. length lines.old ≡ length lines.new + 1) }
+{
+    if *left == 0 {
+        return None;
+    }
+    *left -= 1;
+    lines.next()
+}
+
+/// A text has no more lines than bytes.
+fn few_lines(bytes: &[u8])
+    ensures { length (lines bytes.now) ≤ length bytes.now }
+{
+    let _lines = text_lines(bytes);
+}
+
+/// The script of the first lines of a text.
+fn read_lines(alloc: Global, bytes: &[u8], count: u32) -> Result<Script, ReadError>
     requires { length bytes.now ≤ INPUT_LIMIT }
-    ensures found { IfOk result (λ script. IsScript bytes.now script) }
-    ensures refused { IfErr result (λ error. Refuses bytes.now error) }
+    ensures found { IfOk result (λ script. IsScriptOf (take count (lines bytes.now)) script) }
+    ensures refused { IfErr result (λ error. RefusesOf (take count (lines bytes.now)) error) }
 {
     let bad_header = Bad {
         line: 1,
         reason: Reason::BadHeader,
     };
     let mut lines = text_lines(bytes);
-    let Some(first) = lines.next() else {
+    let mut left = count;
+    let Some(first) = next_of(&mut lines, &mut left) else {
         return Err(ReadError::Refused(bad_header));
     };
     let Some(header) = read_header(first) else {
@@ -132,7 +152,7 @@ fn read_lines(alloc: Global, bytes: &[u8]) -> Result<Script, ReadError>
     };
     let mut commands = Vec::new(alloc);
     let mut number: u32 = 2;
-    'lines: while let Some(line) = lines.next() {
+    'lines: while let Some(line) = next_of(&mut lines, &mut left) {
         match add_line(&mut commands, line, number, header.threads) {
             Ok(()) => number += 1,
             Err(error) => return Err(error),
@@ -145,6 +165,15 @@ fn read_lines(alloc: Global, bytes: &[u8]) -> Result<Script, ReadError>
     })
 }
 
+/// Reads the first lines of a text as a script, as `read_script` reads all of them.
+pub fn read_front(alloc: Global, bytes: &[u8], count: u32) -> Result<Script, ReadError>
+    requires { length bytes.now ≤ INPUT_LIMIT }
+    ensures found { IfOk result (λ script. IsScriptOf (take count (lines bytes.now)) script × IsValid script) }
+    ensures refused { IfErr result (λ error. RefusesOf (take count (lines bytes.now)) error) }
+{
+    read_lines(alloc, bytes, count)
+}
+
 /// Reads a script. A text that is none is refused at its first bad line, for the first reason that applies to it.
 /// `docs/FORMAT.md` has the format.
 pub fn read_script(alloc: Global, bytes: &[u8]) -> Result<Script, ReadError>
@@ -154,5 +183,6 @@ pub fn read_script(alloc: Global, bytes: &[u8]) -> Result<Script, ReadError>
     ensures every_script { (script : Contents) → IsScript bytes.now script → (result ≡ Ok script) ⊎ (result ≡ Err Memory) }
     ensures every_fault { (bad : Bad) → IsBadLine bytes.now bad → (result ≡ Err (Refused bad)) ⊎ (result ≡ Err Memory) }
 {
-    read_lines(alloc, bytes)
+    few_lines(bytes);
+    read_lines(alloc, bytes, u32::MAX)
 }

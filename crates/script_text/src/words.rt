@@ -26,7 +26,7 @@ fn cut(bytes: &[u8]) -> Option<(&[u8], &[u8])>
 
 /// The words of a line that are still to come.
 #[derive(Drop)]
-pub(crate) struct Words<'a> {
+pub struct Words<'a> {
     rest: &'a [u8],
 }
 
@@ -38,14 +38,21 @@ impl<'a> Model for Words<'a> {
 
 impl<'a> Words<'a> {
     /// All the words of a line.
-    pub(crate) fn of(line: &'a [u8]) -> Words<'a>
+    pub fn of(line: &'a [u8]) -> Words<'a>
         ensures { result ≡ words line.now }
     {
         Words { rest: line }
     }
 
+    /// The text of the words that are still to come.
+    pub fn rest(&self) -> &'a [u8]
+        ensures { words result.now ≡ self.now }
+    {
+        self.rest
+    }
+
     /// The next word.
-    pub(crate) fn next(&mut self) -> Option<&'a [u8]>
+    pub fn next(&mut self) -> Option<&'a [u8]>
         ensures { MatchOption result ((self.old ≡ []) × (self.new ≡ [])) (λ word. self.old ≡ word.now ∷ self.new) }
     {
         'blanks: while let Some((word, after)) = cut(self.rest) {

@@ -20,9 +20,8 @@ use Rattle.yak_model.specs.Graph.{fields_at, slot_of}
 use Rattle.yak_model.specs.Spaces.{SpaceState, home_of}
 use Rattle.yak_model.specs.State.{IsDatum, object_of}
 use Rattle.yak_model.specs.Placed.{datum_word}
-use Rattle.yak_model.specs.Stands.{Stands, set_entries}
-use Rattle.yak_model.specs.Recorded.{Enters, Recorded}
-use Rattle.yak_model.specs.Recorded.{SomeRecorded, StandsRecorded}
+use Rattle.yak_model.specs.Stands.{set_entries}
+use Rattle.yak_model.specs.Recorded.{Enters}
 use Rattle.remember_sets.specs.Filed.{BuffersHold, IsFiled, SetsHold, logged, with_sets}
 
 -- The space of the object to which a value refers, if it refers to one.

@@ -1,5 +1,5 @@
 -- What a call of a thread does to the heap.
-use Rattle.std.specs.Prelude.{◌≡◌, ◌⊎◌, ℕ, ◌<◌, List, [], ◌∷◌, ◌++◌, length, Some}
+use Rattle.std.specs.Prelude.{◌≡◌, ◌⊎◌, ℕ, ◌<◌, [], ◌∷◌, ◌++◌, length, Some}
 use Rattle.object_layout.specs.declared.names.Name.{Name}
 use Rattle.object_layout.specs.declared.calls.Call.{Call}
 use Rattle.object_layout.specs.declared.calls.Call.TheVariants.{Get, Same, Census}
@@ -10,7 +10,6 @@ use Rattle.object_layout.specs.declared.replies.Refusal.TheVariants.{StackFull}
 use Rattle.heap_words.specs.declared.map.Areas.{Areas}
 use Rattle.heap_words.specs.declared.TheConstants.{STACK_SLOTS}
 use Rattle.heap_words.specs.Contents.{Contents, stack_of, with_stack}
-use Rattle.yak_model.specs.declared.history.Entry.{Entry}
 use Rattle.yak_model.specs.declared.history.Entry.TheVariants.{Said}
 use Rattle.yak_model.specs.Spaces.{SpaceState}
 use Rattle.yak_model.specs.State.{State, Thing, view}

@@ -7,7 +7,7 @@ use Rattle.std.proofs.lemmas.List.Elements.{All-nil, All-cons, All-head, All-tai
 use Rattle.object_layout.specs.declared.names.Name.{Name}
 use Rattle.yak_model.specs.declared.TheConstants.{BUCKETS}
 use Rattle.yak_model.specs.Private.{KnownObjects}
-use Rattle.yak_model.specs.Tables.{AreDifferent, AreInBucket, IsCountTable, LacksWord, Link, bucket_of}
+use Rattle.yak_model.specs.Tables.{AreDifferent, AreInBucket, IsCountTable, LacksWord, Link}
 use Rattle.yak_model.specs.Texts.{WordCounts, word_cmp}
 use Rattle.heap_tables.proofs.Places.{word_cases}
 use Rattle.sums_by_key.specs.declared.lines.Line.{Line}

@@ -3,7 +3,7 @@ use Rattle.std.proofs.Common.{zero, suc, ◌≡◌, ℕ, ◌+◌, ◌-◌, ◌�
 use Rattle.std.proofs.lemmas.List.{append_assoc}
 use Rattle.std.proofs.lemmas.List.Elements.{All-nil, All-cons, All-head, All-tail}
 use Rattle.std.proofs.lemmas.List.Sums.{sum_by-append}
-use Rattle.object_layout.specs.declared.TheConstants.{MAX_INT, WORD_LIMIT}
+use Rattle.object_layout.specs.declared.TheConstants.{WORD_LIMIT}
 use Rattle.sums_by_key.specs.declared.lines.Line.{Line}
 use Rattle.std.proofs.Math.Seq.{take-add}
 use Rattle.yak_model.specs.declared.datum.Datum.{Datum}
@@ -13,7 +13,6 @@ use Rattle.yak_model.specs.Standing.{Standing}
 use Rattle.heap_tables.specs.Runs.{KeepsKnown}
 use Rattle.sums_by_key.specs.declared.TheConstants.{TABLE_SLOT}
 use Rattle.sums_by_key.specs.Held.{AreSummable, HoldsSums}
-use Rattle.sums_by_key.specs.Sums.{total_of}
 
 all_left : {X : Type 0} (P : X → Type 0) (xs ys : List X) → All P (xs ++ ys) → All P xs
 all_left P [] ys all = All-nil P

@@ -1,5 +1,5 @@
 -- What a check answers.
-use Rattle.std.proofs.Common.{◌≡◌, ℕ, ◌+◌, ◌<◌, List, [], ◌∷◌, ◌++◌, Bool, true, false, ◌&&◌, Option, Some, None, Result, Ok, Err, IfOk, length, get_or, zero, suc, refl, sym, ap, subst, ◌∙◌, arith}
+use Rattle.std.proofs.Common.{◌≡◌, ℕ, ◌<◌, List, [], ◌∷◌, Option, Some, None, Result, Ok, Err, IfOk, length, get_or, zero, suc, refl, ap, subst, arith}
 use Rattle.std.specs.Prelude.{IfNone, IfSome}
 use Rattle.script_text.specs.Contents.{Contents}
 use Rattle.script_text.specs.Printing.{Rises}

@@ -1,5 +1,5 @@
 -- How histories end.
-use Rattle.std.proofs.Common.{◌≡◌, ◌⊎◌, ℕ, List, [], ◌∷◌, ◌++◌, Bool, true, false, refl, sym, ap, subst, ◌∙◌, inl, inr, Option, Some, None}
+use Rattle.std.proofs.Common.{◌≡◌, ℕ, List, [], ◌∷◌, ◌++◌, Bool, true, false, sym, subst, Option}
 use Rattle.std.specs.Prelude.{MatchBool}
 use Rattle.yak_model.specs.declared.history.Entry.TheVariants as happened
 use Rattle.object_layout.specs.declared.calls.Call.{Call}

@@ -1,11 +1,10 @@
 -- Histories that traces tell, entry by entry.
-use Rattle.std.proofs.Common.{◌≡◌, ◌⊎◌, ℕ, ◌≤◌, ◌+◌, ◌*◌, List, [], ◌∷◌, ◌++◌, Bool, true, false, Result, Ok, Err, IfOk, length, refl, sym, ap, subst, ◌∙◌, inl, inr, Option, Some, None, append_assoc}
-use Rattle.std.proofs.lemmas.List.{append-nil, length-replicate}
+use Rattle.std.proofs.Common.{◌≡◌, ◌⊎◌, ℕ, List, [], ◌∷◌, ◌++◌, Bool, true, false, Result, Ok, Err, IfOk, length, refl, sym, ap, subst, ◌∙◌, inl, inr, Option, Some, None}
+use Rattle.std.proofs.lemmas.List.{length-replicate}
 use Rattle.std.specs.Prelude.{MatchOption}
 use Rattle.object_layout.specs.declared.replies.Reply.{Reply}
 use Rattle.object_layout.specs.declared.replies.Reply.TheVariants as reply
 use Rattle.script_text.specs.Contents.{Contents}
-use Rattle.yak_model.specs.Agreement.{MachinesAgree}
 use Rattle.object_layout.specs.declared.calls.Call.{Call}
 use Rattle.object_layout.specs.declared.calls.Call.TheVariants as call
 use Rattle.object_layout.specs.declared.replies.Refusal.{Refusal}
@@ -14,18 +13,18 @@ use Rattle.yak_model.specs.declared.datum.Datum.TheVariants as datum
 use Rattle.yak_model.specs.Graph.{Does, Graph, put_field, refusal_of, slot_of, standard_limits}
 use Rattle.yak_model.specs.declared.history.Entry as history
 use Rattle.yak_model.specs.declared.history.Entry.TheVariants as happened
-use Rattle.yak_model.specs.Lawful.{BeginsWithCause, EndsAsked, EndsCollected, IsEntryLawful, IsLawful, IsReplyLawful}
+use Rattle.yak_model.specs.Lawful.{BeginsWithCause, EndsAsked, EndsCollected, IsReplyLawful}
 use Rattle.yak_model.specs.Machine.{CanTurn}
 use Rattle.yak_model.specs.Spaces.{SpaceState, Turns, opening_spaces, spaces}
 use Rattle.yak_model.specs.Unique.{StatesAreUnique}
-use Rattle.yak_model.proofs.Turned.{turns_between, turns_more, turns_unique}
+use Rattle.yak_model.proofs.Turned.{turns_more, turns_unique}
 use Rattle.trace_check.specs.declared.traces.Entry.{Entry}
 use Rattle.trace_check.specs.declared.traces.Step.{Step}
-use Rattle.trace_check.specs.Traces.{history_of, told}
-use Rattle.trace_check.specs.Breaks.{AllContinue, Continues, EachTells, HasRoom, IsLawfulTrace, IsWhole, Leaves, NamesNext}
+use Rattle.trace_check.specs.Traces.{history_of}
+use Rattle.trace_check.specs.Breaks.{AllContinue, Continues, EachTells, HasRoom, Leaves}
 use Rattle.trace_check.specs.Cursors.{PointAtNext}
 use Rattle.trace_check.specs.Progress.{HasBegun, IsAt, Names}
-use Rattle.trace_check.specs.Steps.{IsCaused, IsLast, MayFollow, entry_of, last_alone}
+use Rattle.trace_check.specs.Steps.{IsLast, MayFollow, entry_of, last_alone}
 use Rattle.trace_check.proofs.Ends.{last_is, one_is}
 use Rattle.trace_check.proofs.Naming.{history_more}
 

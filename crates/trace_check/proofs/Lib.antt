@@ -6,3 +6,8 @@ pub mod Histories
 pub mod Whole
 pub mod Answering
 pub mod Traced
+pub mod Digits
+pub mod ReadTo
+pub mod Dropping
+pub mod Single
+pub mod Printed

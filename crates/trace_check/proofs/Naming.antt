@@ -1,9 +1,8 @@
 -- The lines that entries name.
-use Rattle.std.proofs.Common.{◌≡◌, ◌≢◌, ◌⊎◌, ◌==◌, ℕ, zero, suc, ◌+◌, ◌-◌, ◌<◌, ◌≤◌, Bool, true, false, true≢false, cond, List, [], ◌∷◌, ◌++◌, length, get_or, set, drop, map, filter, refl, sym, ap, subst, ◌∙◌, inl, inr, arith, append_assoc, add-one}
-use Rattle.std.specs.Prelude.{slice_index, slice_set}
+use Rattle.std.proofs.Common.{◌≡◌, ◌≢◌, ◌==◌, ℕ, zero, suc, ◌+◌, ◌<◌, ◌≤◌, Bool, true, false, cond, List, [], ◌∷◌, ◌++◌, length, drop, filter, refl, sym, ap, subst, ◌∙◌, inl, inr, arith, append_assoc, add-one}
 use Rattle.std.specs.List.{Contains}
-use Rattle.std.proofs.lemmas.Bool.{eqb-true, eq-eqb, eqb-false, ne_eqb, cases_Bool}
-use Rattle.std.proofs.lemmas.List.{append-nil, append_cancel_left, drop_all}
+use Rattle.std.proofs.lemmas.Bool.{eqb-true, eq-eqb, ne_eqb}
+use Rattle.std.proofs.lemmas.List.{append-nil, drop_all}
 use Rattle.std.proofs.lemmas.List.Elements.{filter-append}
 use Rattle.std.proofs.Math.Seq.{drop-cons}
 use Rattle.object_layout.specs.Calls.{IsCall}
@@ -12,7 +11,6 @@ use Rattle.script_text.specs.Printing.{Rises}
 use Rattle.yak_model.specs.declared.history.Entry as history
 use Rattle.yak_model.proofs.Lists.{contains_cases, contains_cons}
 use Rattle.trace_check.specs.declared.traces.Entry.{Entry}
-use Rattle.trace_check.specs.declared.traces.Entry.TheVariants as entry
 use Rattle.trace_check.specs.Traces.{all_named, history_of, lines_at, named, own, told}
 use Rattle.trace_check.specs.Cursors.{line_at, no_line}
 

@@ -1,5 +1,5 @@
 -- The cursors at the next lines of the threads.
-use Rattle.std.proofs.Common.{◌≡◌, ◌≢◌, ◌⊎◌, ℕ, ◌+◌, ◌-◌, ◌<◌, ◌≤◌, List, [], ◌∷◌, ◌++◌, length, get_or, set, drop, map, refl, sym, ap, subst, ◌∙◌, inl, inr, arith, append_assoc, get_or-set_same, get_or-set_other, length-set}
+use Rattle.std.proofs.Common.{◌≡◌, ◌≢◌, ℕ, ◌+◌, ◌-◌, ◌<◌, List, [], ◌∷◌, ◌++◌, length, drop, map, refl, sym, ap, subst, ◌∙◌, inl, inr, arith, append_assoc, get_or-set_same, get_or-set_other, length-set}
 use Rattle.std.specs.Prelude.{slice_index, slice_set}
 use Rattle.std.proofs.lemmas.Bool.{cases_eq, cases_lt}
 use Rattle.std.proofs.lemmas.List.{append-nil, append_cancel_left}
@@ -10,7 +10,7 @@ use Rattle.yak_model.specs.declared.history.Entry.TheVariants as happened
 use Rattle.trace_check.specs.declared.traces.Entry.{Entry}
 use Rattle.trace_check.specs.declared.traces.Entry.TheVariants as entry
 use Rattle.trace_check.specs.declared.traces.Step.TheVariants as step
-use Rattle.trace_check.specs.Traces.{all_named, lines_at, own, told}
+use Rattle.trace_check.specs.Traces.{all_named, lines_at, own}
 use Rattle.trace_check.specs.Breaks.{NamesNext}
 use Rattle.trace_check.specs.Cursors.{IsNextPlace, PointAtNext, line_at}
 use Rattle.trace_check.specs.Progress.{IsStepOf, Names}

@@ -1,8 +1,8 @@
 -- Traces that grow by the entries of a line.
-use Rattle.std.proofs.Common.{◌≡◌, ℕ, ◌+◌, ◌<◌, ◌≤◌, Bool, true, false, cond, List, [], ◌∷◌, ◌++◌, Result, Ok, Err, OnOk, length, get_or, map, take, refl, sym, ap, subst, ◌∙◌, arith, append_assoc}
+use Rattle.std.proofs.Common.{◌≡◌, ℕ, ◌+◌, ◌<◌, ◌≤◌, Bool, true, false, List, [], ◌∷◌, ◌++◌, Result, Ok, Err, OnOk, length, map, take, refl, sym, ap, subst, ◌∙◌, arith, append_assoc}
 use Rattle.std.proofs.lemmas.List.{take_all, take_more}
 use Rattle.epoch_lattice.specs.declared.Space.TheVariants.{Control}
-use Rattle.object_layout.specs.declared.calls.Call.TheVariants.{Collect, Int}
+use Rattle.object_layout.specs.declared.calls.Call.TheVariants.{Collect}
 use Rattle.object_layout.specs.declared.replies.Reply.{Reply}
 use Rattle.object_layout.specs.declared.replies.Reply.TheVariants as reply
 use Rattle.heap_words.specs.declared.map.Areas.{Areas}
@@ -25,7 +25,6 @@ use Rattle.yak_model.specs.Stands.{Stands}
 use Rattle.yak_model.specs.Unique.{StatesAreUnique}
 use Rattle.yak_model.proofs.Turned.{turns_more}
 use Rattle.trace_check.specs.declared.traces.Entry.{Entry}
-use Rattle.trace_check.specs.declared.traces.Entry.TheVariants as entry
 use Rattle.trace_check.specs.Traces.{AreOfThreads, all_named, history_of, lines_at, own}
 use Rattle.trace_check.specs.Breaks.{EachTells, IsLawfulTrace, Leaves}
 use Rattle.trace_check.specs.Cursors.{line_at, no_line}

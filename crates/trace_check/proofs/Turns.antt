@@ -1,12 +1,11 @@
 -- Replies that a state doesn't allow, and words that are determined.
-use Rattle.std.proofs.Common.{◌≡◌, ◌⊎◌, ◌≤◌, ◌<◌, ℕ, List, Bool, true, false, true≢false, cond, leb, leb-true, leb-false, refl, sym, ap, subst, ◌∙◌, arith, Option, Some, None}
-use Rattle.std.specs.Prelude.{IsTrue, ◌↔◌, MatchOption}
+use Rattle.std.proofs.Common.{◌≡◌, ◌<◌, ℕ, Bool, true, false, cond, leb, leb-true, refl, sym, subst, ◌∙◌, arith, Some, None}
+use Rattle.std.specs.Prelude.{IsTrue, MatchOption}
 use Rattle.std.specs.List.{sum_by}
 use Rattle.std.specs.FinMap as finite
 use Rattle.std.specs.FinSet as names
 use Rattle.object_layout.specs.declared.names.Name.{Name}
 use Rattle.object_layout.specs.declared.calls.Call.TheVariants as call
-use Rattle.object_layout.specs.declared.replies.Refusal.{Refusal}
 use Rattle.object_layout.specs.declared.replies.Refusal.TheVariants as refusal
 use Rattle.object_layout.specs.declared.replies.Reply.{Reply}
 use Rattle.object_layout.specs.declared.replies.Reply.TheVariants as reply

@@ -1,7 +1,7 @@
 -- Traces that break nowhere are the lawful ones.
-use Rattle.std.proofs.Common.{◌≡◌, ◌≢◌, ◌⊎◌, ℕ, ◌+◌, ◌-◌, ◌≤◌, ◌<◌, Bool, true, false, ◌&&◌, List, [], ◌∷◌, ◌++◌, length, drop, map, refl, sym, ap, subst, ◌∙◌, inl, inr, arith, Option, Some, None, append_assoc}
+use Rattle.std.proofs.Common.{◌≡◌, ◌⊎◌, ℕ, ◌+◌, ◌-◌, ◌≤◌, ◌<◌, Bool, true, false, ◌&&◌, List, [], ◌∷◌, ◌++◌, length, drop, map, refl, sym, ap, subst, ◌∙◌, inl, inr, arith, Option, append_assoc}
 use Rattle.std.specs.Prelude.{MatchBool, slice_index}
-use Rattle.std.proofs.lemmas.Bool.{cases_lt, cases_order}
+use Rattle.std.proofs.lemmas.Bool.{cases_lt}
 use Rattle.std.proofs.lemmas.List.{append-nil, append_cancel_left}
 use Rattle.script_text.specs.declared.scripts.Line.{Line}
 use Rattle.script_text.specs.Contents.{Contents}
@@ -10,7 +10,7 @@ use Rattle.yak_model.specs.Agreement.{MachinesAgree}
 use Rattle.yak_model.specs.Graph.{standard_limits}
 use Rattle.yak_model.specs.declared.history.Entry as history
 use Rattle.yak_model.specs.declared.history.Entry.TheVariants as happened
-use Rattle.yak_model.specs.Lawful.{BeginsWithCause, EndsCollected, IsEntryLawful, IsLawful}
+use Rattle.yak_model.specs.Lawful.{BeginsWithCause, EndsCollected, IsEntryLawful}
 use Rattle.yak_model.specs.Machine.{CanTurn}
 use Rattle.yak_model.specs.Spaces.{SpaceState, opening_spaces, spaces}
 use Rattle.yak_model.specs.Unique.{StatesAreUnique}
@@ -19,9 +19,8 @@ use Rattle.trace_check.specs.declared.traces.Entry.{Entry}
 use Rattle.trace_check.specs.declared.traces.Entry.TheVariants as entry
 use Rattle.trace_check.specs.declared.traces.Step.{Step}
 use Rattle.trace_check.specs.Traces.{all_named, history_of, lines_at, named, own, told}
-use Rattle.trace_check.specs.Breaks.{AllContinue, Continues, EachTells, HasRoom, IsLawfulTrace, IsWhole, Leaves, NamesNext, TraceBreaksAt}
-use Rattle.trace_check.specs.Cursors.{PointAtNext, line_at}
-use Rattle.trace_check.specs.Progress.{HasBegun, IsAt}
+use Rattle.trace_check.specs.Breaks.{Continues, EachTells, HasRoom, IsLawfulTrace, IsWhole, NamesNext, TraceBreaksAt}
+use Rattle.trace_check.specs.Progress.{IsAt}
 use Rattle.trace_check.specs.Steps.{last_alone}
 use Rattle.trace_check.proofs.Histories.{settled_is}
 use Rattle.trace_check.proofs.Naming.{history_append, line_of_number, named_append, own_append, own_at_end, own_first, own_from, rises_in}

@@ -6,3 +6,4 @@ pub mod Cursors
 pub mod Progress
 pub mod Texts
 pub mod Making
+pub mod Reading

@@ -1,5 +1,5 @@
 -- Entries of a history one after the other, as far as the next one depends on the last.
-use Rattle.std.specs.Prelude.{◌≡◌, ℕ, List, [], ◌∷◌, ◌++◌, Option, Some, None, MatchOption}
+use Rattle.std.specs.Prelude.{◌≡◌, ℕ, List, [], ◌∷◌, ◌++◌, Option, Some, None}
 use Rattle.object_layout.specs.Calls.{IsCall}
 use Rattle.yak_model.specs.declared.history.Entry as history
 use Rattle.yak_model.specs.declared.history.Entry.TheVariants as happened

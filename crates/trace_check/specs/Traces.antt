@@ -1,6 +1,5 @@
 -- What the entries of a trace name, and the history that they tell.
-use Rattle.std.specs.Prelude.{◌≡◌, ◌≤◌, ◌==◌, ℕ, Bool, List, [], ◌∷◌, ◌++◌, filter, map}
-use Rattle.object_layout.specs.declared.TheConstants.{MAX_THREADS}
+use Rattle.std.specs.Prelude.{◌≤◌, ◌==◌, ℕ, List, [], ◌∷◌, ◌++◌, filter, map}
 use Rattle.script_text.specs.declared.scripts.Line.{Line}
 use Rattle.script_text.specs.Contents.{Contents}
 use Rattle.trace_check.specs.declared.traces.Entry.{Entry}

@@ -1,6 +1,8 @@
 //! Printing a trace.
 ghost use Rattle.std.specs.Prelude.{◌≡◌, ◌++◌, IfOk, OnOk};
 ghost use Rattle.script_text.specs.Printing.{IsValid};
+ghost use Rattle.script_text.specs.Words.{lines};
+ghost use Rattle.trace_check.specs.Reading.{HasNumbers, HaveNumbers, IsTraceOf};
 ghost use Rattle.trace_check.specs.Texts.{collected_line, entries_text, entry_line, mark_line, trace_text};
 ghost use Rattle.trace_check.specs.Traces.{AreOfThreads};
 
@@ -29,11 +31,18 @@ fn push_entry(alloc: Global, text: &mut Vec<u8>, entry: Entry) -> Result<(), NoM
     }
 }
 
+/// The numbers of an entry are those of its type.
+fn numbers_fit(_entry: Entry)
+    ensures { HasNumbers _entry }
+{}
+
 /// Appends the lines of entries.
 fn push_entries(alloc: Global, text: &mut Vec<u8>, entries: &[Entry]) -> Result<(), NoMemory>
-    ensures { OnOk result (text.new.items ≡ text.old.items ++ entries_text entries.now) }
+    ensures text { OnOk result (text.new.items ≡ text.old.items ++ entries_text entries.now) }
+    ensures numbers { OnOk result (HaveNumbers entries.now) }
 {
     'entries: for entry in entries {
+        numbers_fit(*entry);
         push_entry(alloc, text, *entry)?;
     }
     Ok(())
@@ -46,11 +55,13 @@ fn push_mark(text: &mut Vec<u8>) -> Result<(), NoMemory>
     text.extend_from_slice(b"==\n").map_err(|_| NoMemory)
 }
 
-/// The text of a trace: the script as `print_script` prints it, the line `==`, and a line for each entry.
+/// The text of a trace: the script as `print_script` prints it, the line `==`, and a line for each entry. Where it is at most
+/// `INPUT_LIMIT` bytes, reading it gives the script and the entries again.
 pub fn print_trace(alloc: Global, script: &Script, entries: &[Entry]) -> Result<Vec<u8>, NoMemory>
     requires valid { IsValid script.now }
     requires threads { AreOfThreads script.now.heap.threads entries.now }
     ensures text { IfOk result (λ text. text.items ≡ trace_text script.now entries.now) }
+    ensures reads { IfOk result (λ text. IsTraceOf (lines text.items) (record { script = script.now; entries = entries.now })) }
 {
     let mut text = print_script(alloc, script)?;
     push_mark(&mut text)?;

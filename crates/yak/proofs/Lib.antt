@@ -7,3 +7,4 @@ pub mod Ranges
 pub mod Unasked
 pub mod Numbers
 pub mod Threads
+pub mod Tracings

@@ -5,10 +5,10 @@ use Rattle.std.specs.Io.KnownBytes.{Appends}
 use Rattle.yak_io.specs.Causes.{Rose}
 use Rattle.yak.specs.contracts.endings.Status.{the_type}
 use Rattle.yak.specs.declared.endings.Status.{Status}
-use Rattle.yak.specs.declared.endings.Status.TheVariants.{Done, Usage, Refused, ReadFault, WriteFault, NoMemory, TooLarge, OutOfHeap, LongWord}
+use Rattle.yak.specs.declared.endings.Status.TheVariants.{Done, Usage, Refused, ReadFault, WriteFault, NoMemory, TooLarge, OutOfHeap, LongWord, BadTrace, NotLawful}
 use Rattle.yak.specs.declared.forms.Options.{Options}
 use Rattle.yak.specs.Keeping.{Keeping}
-use Rattle.yak.specs.Endings.{EndsCut, EndsLong, EndsOut, EndsRefused, Input, IsTooLarge, KeepsNothing, Output, WritesNothing, ends, number_of, usage_line}
+use Rattle.yak.specs.Endings.{EndsLong, EndsOut, EndsRefused, Input, IsTooLarge, KeepsNothing, Output, WritesNothing, ends, number_of, usage_line}
 use Rattle.yak.specs.Answers.{Answers}
 use Rattle.yak.specs.Forms.{IsAsked, IsCount, IsReading, IsReplay}
 use Rattle.yak.proofs.Statuses.{Never, count_ends, counted_so, excess_ends, gen_ends, generated_so, long_ends, other_words, refusal_ends, replayed_so, script_ends}
@@ -25,7 +25,9 @@ status_at (suc (suc (suc (suc zero)))) = WriteFault
 status_at (suc (suc (suc (suc (suc zero))))) = NoMemory
 status_at (suc (suc (suc (suc (suc (suc zero)))))) = TooLarge
 status_at (suc (suc (suc (suc (suc (suc (suc zero))))))) = OutOfHeap
-status_at (suc (suc (suc (suc (suc (suc (suc (suc more)))))))) = LongWord
+status_at (suc (suc (suc (suc (suc (suc (suc (suc zero)))))))) = LongWord
+status_at (suc (suc (suc (suc (suc (suc (suc (suc (suc zero))))))))) = BadTrace
+status_at (suc (suc (suc (suc (suc (suc (suc (suc (suc (suc more)))))))))) = NotLawful
 
 back : (status : Status) → status_at (number_of status) ≡ status
 back Done = refl
@@ -37,6 +39,8 @@ back NoMemory = refl
 back TooLarge = refl
 back OutOfHeap = refl
 back LongWord = refl
+back BadTrace = refl
+back NotLawful = refl
 
 pub of_number : (status other : Status) → number_of status ≡ number_of other → status ≡ other
 of_number status other e = sym (back status) ∙ (ap status_at e ∙ back other)
@@ -51,6 +55,8 @@ number_is NoMemory = refl
 number_is TooLarge = refl
 number_is OutOfHeap = refl
 number_is LongWord = refl
+number_is BadTrace = refl
+number_is NotLawful = refl
 
 pub one_of_two : (status a b : Status) → (status ≡ a) ⊎ (status ≡ b) → (number_of status ≡ number_of a) ⊎ (number_of status ≡ number_of b)
 one_of_two status a b (inl e) = inl (ap number_of e)
@@ -104,6 +110,8 @@ keeps_nothing NoMemory words input output kept h some = h.1.meaning.1
 keeps_nothing TooLarge words input output kept h some = h.1.meaning.3
 keeps_nothing OutOfHeap words input output kept h some = h.1.meaning.2
 keeps_nothing LongWord words input output kept h some = h.1.meaning.1
+keeps_nothing BadTrace words input output kept h some = absurd h.1.meaning
+keeps_nothing NotLawful words input output kept h some = absurd h.1.meaning
 
 -- ---- all that it tells
 
@@ -126,6 +134,7 @@ answers_so never status words input output kept h =
       too_large = λ e. at_too_large words input output kept (at TooLarge e);
       out_of_heap = λ e. at_out_of_heap words input output kept (at OutOfHeap e);
       long_word = λ e. at_long_word words input output kept (at LongWord e);
+      no_others = λ others. elim others [ inl e ↦ (at BadTrace e).1.meaning | inr e ↦ (at NotLawful e).1.meaning ];
       kept = keeps_nothing status words input output kept h;
       other_words = λ other. one_of_three status Usage WriteFault NoMemory (other_words status words input output kept h other);
       every_script = λ bytes script named clean fits is. one_of_two status Done NoMemory (script_ends never status words input output kept h bytes script named clean fits is);

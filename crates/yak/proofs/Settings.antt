@@ -1,5 +1,5 @@
 -- Options of a count, one after another.
-use Rattle.std.proofs.Common.{◌≡◌, ◌≢◌, ◌≤◌, ◌<◌, ◌⊎◌, ◌^◌, ◌+◌, ◌-◌, inl, inr, ℕ, Bool, true, false, not, List, [], ◌∷◌, ◌++◌, get_or, length, take, drop, String, Global, Option, None, codes, refl, sym, ap, subst, ◌∙◌, append_assoc, arith}
+use Rattle.std.proofs.Common.{◌≡◌, ◌≢◌, ◌<◌, ◌^◌, ◌-◌, inl, inr, ℕ, Bool, true, false, not, List, [], ◌∷◌, ◌++◌, get_or, length, take, drop, String, Global, None, codes, refl, sym, ap, subst, ◌∙◌, append_assoc, arith}
 use Rattle.std.specs.Prelude.{◌==◌, decimal, map, string_bytes}
 use Rattle.std.specs.Str.{bytes_eq}
 use Rattle.std.proofs.Math.Seq.{take-append_seam}
@@ -11,7 +11,7 @@ use Rattle.std.proofs.lemmas.Slice.Eq.{bytes_eq-Decides}
 use Rattle.yak.specs.declared.forms.Setting.{Setting}
 use Rattle.yak.specs.declared.forms.Setting.TheVariants.{Workers, Task, Pages}
 use Rattle.yak.specs.declared.forms.Settings.{Settings}
-use Rattle.yak.specs.Forms.{IsJoined, IsNumber, IsSetting, Sets, all_told, most_of, one_told, setting_word, tell, told, unset}
+use Rattle.yak.specs.Forms.{IsJoined, IsNumber, IsSetting, Sets, all_told, one_told, setting_word, tell, told, unset}
 
 -- ---- fronts
 

@@ -10,7 +10,7 @@ use Rattle.script_text.specs.Contents.{Contents}
 use Rattle.script_text.specs.Scripts.{IsBadLine, IsScript}
 use Rattle.yak.specs.Keeping.{Keeping}
 use Rattle.yak.specs.declared.endings.Status.{Status}
-use Rattle.yak.specs.declared.endings.Status.TheVariants.{Done, Usage, Refused, ReadFault, WriteFault, NoMemory, TooLarge, OutOfHeap, LongWord}
+use Rattle.yak.specs.declared.endings.Status.TheVariants.{Done, Usage, Refused, ReadFault, WriteFault, NoMemory, TooLarge, OutOfHeap, LongWord, BadTrace, NotLawful}
 use Rattle.yak.specs.declared.forms.Form.TheVariants.{Replay, Count, Gen}
 use Rattle.yak.specs.declared.forms.Options.{Options}
 use Rattle.group_jobs.specs.LongWords.{has_long_word}
@@ -127,6 +127,8 @@ replayed_so NoMemory words input output kept h replay done = absurd (cc done)
 replayed_so TooLarge words input output kept h replay done = absurd (cc done)
 replayed_so OutOfHeap words input output kept h replay done = absurd (cc done)
 replayed_so LongWord words input output kept h replay done = absurd (cc done)
+replayed_so BadTrace words input output kept h replay done = absurd (cc done)
+replayed_so NotLawful words input output kept h replay done = absurd (cc done)
 
 pub generated_so : (status : Status) (words : List (List ℕ)) (input : Input) (output : Output) (kept : Keeping) → ends status words input output kept
     → (rounds : ℕ) → IsGen words rounds → status ≡ Done → EndsGenerated rounds output kept
@@ -139,6 +141,8 @@ generated_so NoMemory words input output kept h rounds gen done = absurd (cc don
 generated_so TooLarge words input output kept h rounds gen done = absurd (cc done)
 generated_so OutOfHeap words input output kept h rounds gen done = absurd (cc done)
 generated_so LongWord words input output kept h rounds gen done = absurd (cc done)
+generated_so BadTrace words input output kept h rounds gen done = absurd (cc done)
+generated_so NotLawful words input output kept h rounds gen done = absurd (cc done)
 
 pub counted_so : (status : Status) (words : List (List ℕ)) (input : Input) (output : Output) (kept : Keeping) → ends status words input output kept
     → (options : Options) → IsCount words options → status ≡ Done → EndsCounted options input output kept
@@ -151,6 +155,8 @@ counted_so NoMemory words input output kept h options count done = absurd (cc do
 counted_so TooLarge words input output kept h options count done = absurd (cc done)
 counted_so OutOfHeap words input output kept h options count done = absurd (cc done)
 counted_so LongWord words input output kept h options count done = absurd (cc done)
+counted_so BadTrace words input output kept h options count done = absurd (cc done)
+counted_so NotLawful words input output kept h options count done = absurd (cc done)
 
 pub other_words : (status : Status) (words : List (List ℕ)) (input : Input) (output : Output) (kept : Keeping) → ends status words input output kept
     → (IsAsked words → ⊥) → (status ≡ Usage) ⊎ (status ≡ WriteFault) ⊎ (status ≡ NoMemory)
@@ -163,6 +169,8 @@ other_words NoMemory words input output kept h other = inr (inr refl)
 other_words TooLarge words input output kept h other = absurd (other (reading_asked words h.1.meaning.0))
 other_words OutOfHeap words input output kept h other = absurd (other (count_asked words h.1.meaning.0.0 h.1.meaning.0.1))
 other_words LongWord words input output kept h other = absurd (other (count_asked words h.1.meaning.0.0 h.1.meaning.0.1))
+other_words BadTrace words input output kept h other = absurd h.1.meaning
+other_words NotLawful words input output kept h other = absurd h.1.meaning
 
 pub script_ends : Never → (status : Status) (words : List (List ℕ)) (input : Input) (output : Output) (kept : Keeping) → ends status words input output kept
     → (bytes : List ℕ) (script : Contents) → IsReplay words → IsFaultless input output bytes → length bytes ≤ INPUT_LIMIT → IsScript bytes script → (status ≡ Done) ⊎ (status ≡ NoMemory)
@@ -177,6 +185,8 @@ script_ends never NoMemory words input output kept h bytes script named clean fi
 script_ends never TooLarge words input output kept h bytes script named clean fits is = absurd (not_large input bytes clean.told fits h.1.meaning.1)
 script_ends never OutOfHeap words input output kept h bytes script named clean fits is = absurd (count_or_replay words h.1.meaning.0.0 named h.1.meaning.0.1)
 script_ends never LongWord words input output kept h bytes script named clean fits is = absurd (count_or_replay words h.1.meaning.0.0 named h.1.meaning.0.1)
+script_ends never BadTrace words input output kept h bytes script named clean fits is = absurd h.1.meaning
+script_ends never NotLawful words input output kept h bytes script named clean fits is = absurd h.1.meaning
 
 pub refusal_ends : Never → (status : Status) (words : List (List ℕ)) (input : Input) (output : Output) (kept : Keeping) → ends status words input output kept
     → (bytes : List ℕ) (bad : Bad) → IsReplay words → IsFaultless input output bytes → length bytes ≤ INPUT_LIMIT → IsBadLine bytes bad → (status ≡ Refused) ⊎ (status ≡ NoMemory)
@@ -189,6 +199,8 @@ refusal_ends never NoMemory words input output kept h bytes bad named clean fits
 refusal_ends never TooLarge words input output kept h bytes bad named clean fits is = absurd (not_large input bytes clean.told fits h.1.meaning.1)
 refusal_ends never OutOfHeap words input output kept h bytes bad named clean fits is = absurd (count_or_replay words h.1.meaning.0.0 named h.1.meaning.0.1)
 refusal_ends never LongWord words input output kept h bytes bad named clean fits is = absurd (count_or_replay words h.1.meaning.0.0 named h.1.meaning.0.1)
+refusal_ends never BadTrace words input output kept h bytes bad named clean fits is = absurd h.1.meaning
+refusal_ends never NotLawful words input output kept h bytes bad named clean fits is = absurd h.1.meaning
 
 pub gen_ends : (status : Status) (words : List (List ℕ)) (input : Input) (output : Output) (kept : Keeping) → ends status words input output kept
     → (rounds : ℕ) → IsGen words rounds → (Rose output.faults_before output.faults_after → ⊥) → (status ≡ Done) ⊎ (status ≡ NoMemory)
@@ -201,6 +213,8 @@ gen_ends NoMemory words input output kept h rounds gen well = inr refl
 gen_ends TooLarge words input output kept h rounds gen well = absurd (reading_or_gen words rounds h.1.meaning.0 gen)
 gen_ends OutOfHeap words input output kept h rounds gen well = absurd (count_or_gen words h.1.meaning.0.0 rounds h.1.meaning.0.1 gen)
 gen_ends LongWord words input output kept h rounds gen well = absurd (count_or_gen words h.1.meaning.0.0 rounds h.1.meaning.0.1 gen)
+gen_ends BadTrace words input output kept h rounds gen well = absurd h.1.meaning
+gen_ends NotLawful words input output kept h rounds gen well = absurd h.1.meaning
 
 pub count_ends : (status : Status) (words : List (List ℕ)) (input : Input) (output : Output) (kept : Keeping) → ends status words input output kept
     → (options : Options) (bytes : List ℕ) → IsCount words options → IsFaultless input output bytes → length bytes ≤ INPUT_LIMIT → has_long_word bytes ≡ false → (status ≡ Done) ⊎ (status ≡ OutOfHeap) ⊎ (status ≡ NoMemory)
@@ -215,6 +229,8 @@ count_ends OutOfHeap words input output kept h options bytes count clean fits sh
 count_ends LongWord words input output kept h options bytes count clean fits short =
     let told = h.1.meaning.0.2 in
     absurd (not_both told.0 bytes (sym (same_input input bytes told.0 clean.told told.1)) short told.2.long)
+count_ends BadTrace words input output kept h options bytes count clean fits short = absurd h.1.meaning
+count_ends NotLawful words input output kept h options bytes count clean fits short = absurd h.1.meaning
 
 pub long_ends : (status : Status) (words : List (List ℕ)) (input : Input) (output : Output) (kept : Keeping) → ends status words input output kept
     → (options : Options) (bytes : List ℕ) → IsCount words options → IsFaultless input output bytes → length bytes ≤ INPUT_LIMIT → has_long_word bytes ≡ true → (status ≡ LongWord) ⊎ (status ≡ NoMemory)
@@ -229,6 +245,8 @@ long_ends OutOfHeap words input output kept h options bytes count clean fits lon
     let out = h.1.meaning.0.2 in
     absurd (not_both bytes out.0 (same_input input bytes out.0 clean.told out.1) out.2.short long)
 long_ends LongWord words input output kept h options bytes count clean fits long = inl refl
+long_ends BadTrace words input output kept h options bytes count clean fits long = absurd h.1.meaning
+long_ends NotLawful words input output kept h options bytes count clean fits long = absurd h.1.meaning
 
 pub excess_ends : (status : Status) (words : List (List ℕ)) (input : Input) (output : Output) (kept : Keeping) → ends status words input output kept
     → (bytes : List ℕ) → IsReading words → IsFaultless input output bytes → INPUT_LIMIT < length bytes → (status ≡ TooLarge) ⊎ (status ≡ NoMemory)
@@ -241,6 +259,8 @@ excess_ends NoMemory words input output kept h bytes reading clean many = inr re
 excess_ends TooLarge words input output kept h bytes reading clean many = inl refl
 excess_ends OutOfHeap words input output kept h bytes reading clean many = absurd (too_many input bytes h.1.meaning.0.2.0 clean.told many h.1.meaning.0.2.1)
 excess_ends LongWord words input output kept h bytes reading clean many = absurd (too_many input bytes h.1.meaning.0.2.0 clean.told many h.1.meaning.0.2.1)
+excess_ends BadTrace words input output kept h bytes reading clean many = absurd h.1.meaning
+excess_ends NotLawful words input output kept h bytes reading clean many = absurd h.1.meaning
 
 -- what a success tells, where the result is no error
 pub of_success : {T E : Type 0} (result : Result T E) (failed : Bool) (P : Type 0) → OnOk result P → failed ≡ is_err result → failed ≡ false → P
@@ -258,6 +278,8 @@ all_written NoMemory words input output kept text is all = (text, record { meani
 all_written TooLarge words input output kept text is all = (text, record { meaning = is; all = all })
 all_written OutOfHeap words input output kept text is all = (text, record { meaning = is; all = all })
 all_written LongWord words input output kept text is all = (text, record { meaning = is; all = all })
+all_written BadTrace words input output kept text is all = absurd is
+all_written NotLawful words input output kept text is all = absurd is
 
 -- the whole text of a status was written
 pub written_ends : (status : Status) (words : List (List ℕ)) (input : Input) (output : Output) (kept : Keeping) (text given : List ℕ) → belongs status words input text kept

@@ -1,5 +1,5 @@
 -- Which statuses a run in threads may end with, and what the number of each tells.
-use Rattle.std.proofs.Common.{◌≡◌, ◌≤◌, ◌<◌, ◌⊎◌, ℕ, List, [], length, refl, ap, subst, inl, inr}
+use Rattle.std.proofs.Common.{◌≡◌, ◌≤◌, ◌<◌, ◌⊎◌, ℕ, List, [], length, refl, subst, inl, inr}
 use denote.Enum.Declared.{tag_of}
 use Rattle.std.specs.Io.KnownBytes.{Appends}
 use Rattle.yak_io.specs.Causes.{Rose}
@@ -9,7 +9,7 @@ use Rattle.script_text.specs.Contents.{Contents}
 use Rattle.script_text.specs.Scripts.{IsBadLine, IsScript}
 use Rattle.yak.specs.contracts.endings.Status.{the_type}
 use Rattle.yak.specs.declared.endings.Status.{Status}
-use Rattle.yak.specs.declared.endings.Status.TheVariants.{Done, Usage, Refused, ReadFault, WriteFault, NoMemory, TooLarge, OutOfHeap, LongWord}
+use Rattle.yak.specs.declared.endings.Status.TheVariants.{Done, Usage, Refused, ReadFault, WriteFault, NoMemory, TooLarge, OutOfHeap, LongWord, BadTrace, NotLawful}
 use Rattle.yak.specs.Keeping.{Keeping}
 use Rattle.yak.specs.Endings.{EndsRefused, Input, IsFaultless, IsTooLarge, KeepsNothing, Output, WritesNothing, number_of}
 use Rattle.yak.specs.Threaded.{AnswersThreads, EndsThreaded, threads_end, threads_mean}
@@ -31,6 +31,8 @@ script_ends never NoMemory input output kept h bytes script clean fits is = inr 
 script_ends never TooLarge input output kept h bytes script clean fits is = absurd (not_large input bytes clean.told fits h.1.meaning.0)
 script_ends never OutOfHeap input output kept h bytes script clean fits is = absurd h.1.meaning
 script_ends never LongWord input output kept h bytes script clean fits is = absurd h.1.meaning
+script_ends never BadTrace input output kept h bytes script clean fits is = absurd h.1.meaning
+script_ends never NotLawful input output kept h bytes script clean fits is = absurd h.1.meaning
 
 refusal_ends : Never → (status : Status) (input : Input) (output : Output) (kept : Keeping) → threads_end status input output kept
     → (bytes : List ℕ) (bad : Bad) → IsFaultless input output bytes → length bytes ≤ INPUT_LIMIT → IsBadLine bytes bad → (status ≡ Refused) ⊎ (status ≡ NoMemory)
@@ -46,6 +48,8 @@ refusal_ends never NoMemory input output kept h bytes bad clean fits is = inr re
 refusal_ends never TooLarge input output kept h bytes bad clean fits is = absurd (not_large input bytes clean.told fits h.1.meaning.0)
 refusal_ends never OutOfHeap input output kept h bytes bad clean fits is = absurd h.1.meaning
 refusal_ends never LongWord input output kept h bytes bad clean fits is = absurd h.1.meaning
+refusal_ends never BadTrace input output kept h bytes bad clean fits is = absurd h.1.meaning
+refusal_ends never NotLawful input output kept h bytes bad clean fits is = absurd h.1.meaning
 
 excess_ends : (status : Status) (input : Input) (output : Output) (kept : Keeping) → threads_end status input output kept
     → (bytes : List ℕ) → IsFaultless input output bytes → INPUT_LIMIT < length bytes → (status ≡ TooLarge) ⊎ (status ≡ NoMemory)
@@ -58,6 +62,8 @@ excess_ends NoMemory input output kept h bytes clean many = inr refl
 excess_ends TooLarge input output kept h bytes clean many = inl refl
 excess_ends OutOfHeap input output kept h bytes clean many = absurd h.1.meaning
 excess_ends LongWord input output kept h bytes clean many = absurd h.1.meaning
+excess_ends BadTrace input output kept h bytes clean many = absurd h.1.meaning
+excess_ends NotLawful input output kept h bytes clean many = absurd h.1.meaning
 
 -- ---- what each status tells
 
@@ -91,6 +97,8 @@ keeps_nothing NoMemory input output kept h some = h.1.meaning.1
 keeps_nothing TooLarge input output kept h some = h.1.meaning.2
 keeps_nothing OutOfHeap input output kept h some = absurd h.1.meaning
 keeps_nothing LongWord input output kept h some = absurd h.1.meaning
+keeps_nothing BadTrace input output kept h some = absurd h.1.meaning
+keeps_nothing NotLawful input output kept h some = absurd h.1.meaning
 
 -- ---- all that it tells
 
@@ -108,7 +116,13 @@ answers_so never status input output kept h =
       cut = λ e. (at WriteFault e).1;
       no_memory = λ e. at_no_memory input output kept (at NoMemory e);
       too_large = λ e. at_too_large input output kept (at TooLarge e);
-      no_others = λ others. elim others [ inl e ↦ (at Usage e).1.meaning | inr (inl e) ↦ (at OutOfHeap e).1.meaning | inr (inr e) ↦ (at LongWord e).1.meaning ];
+      no_others = λ others. elim others [
+        | inl e ↦ (at Usage e).1.meaning
+        | inr (inl e) ↦ (at OutOfHeap e).1.meaning
+        | inr (inr (inl e)) ↦ (at LongWord e).1.meaning
+        | inr (inr (inr (inl e))) ↦ (at BadTrace e).1.meaning
+        | inr (inr (inr (inr e))) ↦ (at NotLawful e).1.meaning
+      ];
       kept = keeps_nothing status input output kept h;
       every_script = λ bytes script clean fits is. one_of_two status Done NoMemory (script_ends never status input output kept h bytes script clean fits is);
       every_refusal = λ bytes bad clean fits is. one_of_two status Refused NoMemory (refusal_ends never status input output kept h bytes bad clean fits is);
@@ -133,6 +147,8 @@ all_written NoMemory input output kept text is all = (text, record { meaning = i
 all_written TooLarge input output kept text is all = (text, record { meaning = is; all = all })
 all_written OutOfHeap input output kept text is all = absurd is
 all_written LongWord input output kept text is all = absurd is
+all_written BadTrace input output kept text is all = absurd is
+all_written NotLawful input output kept text is all = absurd is
 
 -- the whole text of a status was written
 pub written_ends : (status : Status) (input : Input) (output : Output) (kept : Keeping) (text given : List ℕ) → threads_mean status input text kept

@@ -27,6 +27,7 @@ pub record Answers (number : ℕ) (words : List (List ℕ)) (input : Input) (out
   pub too_large : number ≡ 6 → IsReading words × IsTooLarge input × WritesNothing output
   pub out_of_heap : number ≡ 7 → (options : Options) × IsCount words options × EndsOut options input output
   pub long_word : number ≡ 8 → ((options : Options) × IsCount words options) × EndsLong input output
+  pub no_others : (number ≡ 9) ⊎ (number ≡ 10) → ⊥
   pub kept : number ≢ 0 → KeepsNothing keeping
   pub other_words : (IsAsked words → ⊥) → (number ≡ 1) ⊎ (number ≡ 4) ⊎ (number ≡ 5)
   pub every_script : (bytes : List ℕ) (script : Contents) → IsReplay words → IsFaultless input output bytes → length bytes ≤ INPUT_LIMIT → IsScript bytes script

@@ -9,7 +9,7 @@ use Rattle.script_text.specs.declared.faults.Bad.{Bad}
 use Rattle.script_text.specs.Contents.{Contents}
 use Rattle.script_text.specs.Reasons.{bad_text}
 use Rattle.yak.specs.declared.endings.Status.{Status}
-use Rattle.yak.specs.declared.endings.Status.TheVariants.{Done, Usage, Refused, ReadFault, WriteFault, NoMemory, TooLarge, OutOfHeap, LongWord}
+use Rattle.yak.specs.declared.endings.Status.TheVariants.{Done, Usage, Refused, ReadFault, WriteFault, NoMemory, TooLarge, OutOfHeap, LongWord, BadTrace, NotLawful}
 use Rattle.object_layout.specs.declared.replies.Reply.{Reply}
 use Rattle.script_text.specs.Printing.{script_text}
 use Rattle.script_text.specs.Scripts.{IsScript, IsBadLine}
@@ -31,7 +31,7 @@ use Rattle.yak.specs.Texts.{replies_text, summary}
 
 -- what is written for words of no form that is answered
 abbrev pub usage_line : List ℕ
-usage_line = codes "usage: yak replay | threads | count [--workers n] [--task lines] [--pages p] | gen n\n"
+usage_line = codes "usage: yak replay | threads | count [--workers n] [--task lines] [--pages p] | gen n | trace | check\n"
 
 -- what a source tells before and after a run, and its counts of faults
 pub record Input : Type 0 where
@@ -130,6 +130,8 @@ comes_to ReadFault bytes text kept = ⊥
 comes_to WriteFault bytes text kept = ⊥
 comes_to OutOfHeap bytes text kept = ⊥
 comes_to LongWord bytes text kept = ⊥
+comes_to BadTrace bytes text kept = ⊥
+comes_to NotLawful bytes text kept = ⊥
 comes_to TooLarge bytes text kept = ⊥
 
 -- what the generated script of so many rounds comes to
@@ -142,6 +144,8 @@ generates ReadFault rounds text kept = ⊥
 generates WriteFault rounds text kept = ⊥
 generates OutOfHeap rounds text kept = ⊥
 generates LongWord rounds text kept = ⊥
+generates BadTrace rounds text kept = ⊥
+generates NotLawful rounds text kept = ⊥
 generates TooLarge rounds text kept = ⊥
 
 -- what counting the words of a text of bytes by one worker comes to
@@ -149,6 +153,8 @@ abbrev pub counts : Status → Options → List ℕ → List ℕ → Keeping →
 counts Done options bytes text kept = (held : Held) × (kept ≡ alone held) × Counts options bytes text held
 counts OutOfHeap options bytes text kept = RunsOut options bytes × (text ≡ []) × KeepsNothing kept
 counts LongWord options bytes text kept = TellsLong bytes text × KeepsNothing kept
+counts BadTrace options bytes text kept = ⊥
+counts NotLawful options bytes text kept = ⊥
 counts NoMemory options bytes text kept = (text ≡ []) × KeepsNothing kept
 counts Refused options bytes text kept = ⊥
 counts Usage options bytes text kept = ⊥
@@ -167,6 +173,8 @@ gives_none Refused input = ⊥
 gives_none WriteFault input = ⊥
 gives_none OutOfHeap input = ⊥
 gives_none LongWord input = ⊥
+gives_none BadTrace input = ⊥
+gives_none NotLawful input = ⊥
 
 -- what a status says of the words and of the input, the text that belongs to it, and the heap that is kept
 abbrev pub belongs : Status → List (List ℕ) → Input → List ℕ → Keeping → Type 0
@@ -184,6 +192,8 @@ belongs OutOfHeap words input text kept =
     ((options : Options) × IsCount words options × ((bytes : List ℕ) × IsInput input bytes × RunsOut options bytes)) × (text ≡ []) × KeepsNothing kept
 belongs LongWord words input text kept =
     ((options : Options) × IsCount words options × ((bytes : List ℕ) × IsInput input bytes × TellsLong bytes text)) × KeepsNothing kept
+belongs BadTrace words input text kept = ⊥
+belongs NotLawful words input text kept = ⊥
 
 -- the text of a status was written
 pub record IsWritten (words : List (List ℕ)) (input : Input) (output : Output) (status : Status) (text : List ℕ) (kept : Keeping) : Type 0 where
@@ -217,6 +227,8 @@ number_of NoMemory = 5
 number_of TooLarge = 6
 number_of OutOfHeap = 7
 number_of LongWord = 8
+number_of BadTrace = 9
+number_of NotLawful = 10
 
 -- a number stands for a status with which a run ends
 abbrev pub EndsAs : ℕ → List (List ℕ) → Input → Output → Keeping → Type 0

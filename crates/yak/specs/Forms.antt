@@ -4,7 +4,9 @@ use Rattle.object_layout.specs.declared.TheConstants.{MAX_THREADS}
 use Rattle.script_text.specs.declared.TheConstants.{INPUT_LIMIT, MAX_PAGES}
 use Rattle.yak.specs.declared.forms.TheConstants.{DEFAULT_TASK, MAX_ROUNDS}
 use Rattle.yak.specs.declared.forms.Form.{Form}
-use Rattle.yak.specs.declared.forms.Form.TheVariants.{Replay, Threads, Count, Gen}
+use Rattle.yak.specs.declared.forms.Form.TheVariants.{Replay, Threads, Count, Gen, Traced}
+use Rattle.yak.specs.declared.forms.Tracing.{Tracing}
+use Rattle.yak.specs.declared.forms.Tracing.TheVariants.{Make, Check}
 use Rattle.yak.specs.declared.forms.Options.{Options}
 use Rattle.yak.specs.declared.forms.Setting.{Setting}
 use Rattle.yak.specs.declared.forms.Setting.TheVariants.{Workers, Task, Pages}
@@ -73,12 +75,18 @@ chosen settings = record { workers = or_default settings.workers 1; task = or_de
 
 -- ---- the forms
 
+-- the word of what is done with traces
+abbrev pub tracing_word : Tracing → List ℕ
+tracing_word Make = codes "trace"
+tracing_word Check = codes "check"
+
 -- the words are of this form
 abbrev pub IsForm : List (List ℕ) → Form → Type 0
 IsForm words Replay = words ≡ codes "replay" ∷ []
 IsForm words Threads = words ≡ codes "threads" ∷ []
 IsForm words (Count options) = (settings : Settings) × (rest : List (List ℕ)) × (words ≡ codes "count" ∷ rest) × Sets settings unset rest × (options ≡ chosen settings)
 IsForm words (Gen rounds) = (rounds ≤ MAX_ROUNDS) × (words ≡ codes "gen" ∷ decimal rounds ∷ [])
+IsForm words (Traced tracing) = words ≡ tracing_word tracing ∷ []
 
 -- a form that is answered on one core
 abbrev pub IsBuiltForm : Form → Type 0
@@ -86,6 +94,7 @@ IsBuiltForm Replay = Unit {0}
 IsBuiltForm Threads = ⊥
 IsBuiltForm (Count options) = options.workers ≡ 1
 IsBuiltForm (Gen rounds) = Unit {0}
+IsBuiltForm (Traced tracing) = Unit {0}
 
 -- the words ask for what is answered
 abbrev pub IsAsked : List (List ℕ) → Type 0
@@ -103,11 +112,19 @@ IsThreads words = IsForm words Threads
 abbrev pub IsGen : List (List ℕ) → ℕ → Type 0
 IsGen words rounds = IsForm words (Gen rounds)
 
+-- the words ask for this of traces
+abbrev pub IsTraced : List (List ℕ) → Tracing → Type 0
+IsTraced words tracing = IsForm words (Traced tracing)
+
+-- the words ask for nothing of traces
+abbrev pub IsUntraced : List (List ℕ) → Type 0
+IsUntraced words = (tracing : Tracing) → IsTraced words tracing → ⊥
+
 -- the words ask for a count by one worker
 pub record IsCount (words : List (List ℕ)) (options : Options) : Type 0 where
   pub named : IsForm words (Count options)
   pub alone : options.workers ≡ 1
 
--- the words ask for what reads the input: a replay, or a count by one worker
+-- the words ask for what reads the input, but nothing of traces: a replay, or a count by one worker
 abbrev pub IsReading : List (List ℕ) → Type 0
 IsReading words = IsReplay words ⊎ ((options : Options) × IsCount words options)

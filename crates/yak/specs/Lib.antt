@@ -6,3 +6,4 @@ pub mod Keeping
 pub mod Endings
 pub mod Answers
 pub mod Threaded
+pub mod Traced

@@ -11,7 +11,7 @@ use Rattle.script_text.specs.Contents.{Contents}
 use Rattle.script_text.specs.Scripts.{IsScript, IsBadLine}
 use Rattle.script_runner.specs.Threaded.{IsThreaded}
 use Rattle.yak.specs.declared.endings.Status.{Status}
-use Rattle.yak.specs.declared.endings.Status.TheVariants.{Done, Usage, Refused, ReadFault, WriteFault, NoMemory, TooLarge, OutOfHeap, LongWord}
+use Rattle.yak.specs.declared.endings.Status.TheVariants.{Done, Usage, Refused, ReadFault, WriteFault, NoMemory, TooLarge, OutOfHeap, LongWord, BadTrace, NotLawful}
 use Rattle.yak.specs.Keeping.{Keeping, shared}
 use Rattle.yak.specs.Endings.{EndsRefused, Input, IsFaultless, IsInput, IsTooLarge, KeepsNothing, Output, Refuses, WritesNothing, number_of}
 use Rattle.yak.specs.Texts.{replies_text}
@@ -34,6 +34,8 @@ runs_to ReadFault bytes text kept = ⊥
 runs_to WriteFault bytes text kept = ⊥
 runs_to OutOfHeap bytes text kept = ⊥
 runs_to LongWord bytes text kept = ⊥
+runs_to BadTrace bytes text kept = ⊥
+runs_to NotLawful bytes text kept = ⊥
 runs_to TooLarge bytes text kept = ⊥
 
 -- what a status says of the input, the text that belongs to it, and the heap that is kept
@@ -47,6 +49,8 @@ threads_mean Usage input text kept = ⊥
 threads_mean WriteFault input text kept = ⊥
 threads_mean OutOfHeap input text kept = ⊥
 threads_mean LongWord input text kept = ⊥
+threads_mean BadTrace input text kept = ⊥
+threads_mean NotLawful input text kept = ⊥
 
 -- the text of a status was written
 pub record AreWritten (input : Input) (output : Output) (status : Status) (text : List ℕ) (kept : Keeping) : Type 0 where
@@ -88,7 +92,7 @@ pub record AnswersThreads (number : ℕ) (input : Input) (output : Output) (keep
   pub cut : number ≡ 4 → ThreadsCut input output
   pub no_memory : number ≡ 5 → WritesNothing output
   pub too_large : number ≡ 6 → IsTooLarge input × WritesNothing output
-  pub no_others : (number ≡ 1) ⊎ (number ≡ 7) ⊎ (number ≡ 8) → ⊥
+  pub no_others : (number ≡ 1) ⊎ (number ≡ 7) ⊎ (number ≡ 8) ⊎ (number ≡ 9) ⊎ (number ≡ 10) → ⊥
   pub kept : number ≢ 0 → KeepsNothing keeping
   pub every_script : (bytes : List ℕ) (script : Contents) → IsFaultless input output bytes → length bytes ≤ INPUT_LIMIT → IsScript bytes script
       → (number ≡ 0) ⊎ (number ≡ 5)

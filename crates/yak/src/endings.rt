@@ -21,4 +21,8 @@ pub enum Status {
     OutOfHeap,
     /// The text has a word that is too long to be counted.
     LongWord,
+    /// A line isn't one of a trace.
+    BadTrace,
+    /// An entry of the trace breaks it.
+    NotLawful,
 }

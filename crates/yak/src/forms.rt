@@ -1,6 +1,7 @@
 //! The forms of words that are understood.
 ghost use Rattle.std.specs.Prelude.{◌≡◌, ◌≢◌, ◌≤◌, ◌<◌, ◌++◌, ◌∷◌, ℕ, List, [], None, Some, map, codes, decimal, length, MatchBool, MatchOption, IfSome, string_bytes};
 ghost use Rattle.yak.specs.declared.forms.Form.{Form};
+ghost use Rattle.yak.specs.declared.forms.Tracing.{Tracing};
 ghost use Rattle.yak.specs.declared.forms.Setting.{Setting};
 ghost use Rattle.yak.specs.declared.forms.Settings.{Settings};
 ghost use Rattle.yak.specs.Forms.{IsAsked, IsBuiltForm, IsForm, IsJoined, IsSetting, Sets, chosen, most_of, setting_word, tell, told, unset};
@@ -24,6 +25,15 @@ pub struct Options {
     pub pages: u32,
 }
 
+/// What is done with traces.
+#[derive(Clone, Copy, Debug, PartialEq, Eq, Drop)]
+pub enum Tracing {
+    /// To run a script on one core, and write its trace.
+    Make,
+    /// To check a trace.
+    Check,
+}
+
 /// What a list of words asks for.
 #[derive(Clone, Copy, Debug, PartialEq, Eq, Drop)]
 pub enum Form {
@@ -35,6 +45,8 @@ pub enum Form {
     Count(Options),
     /// To run the generated script of so many rounds, at most `MAX_ROUNDS`.
     Gen(u32),
+    /// To make a trace or to check one.
+    Traced(Tracing),
 }
 
 /// An option of `count`.
@@ -59,7 +71,7 @@ impl Form {
         ensures { MatchBool result (IsBuiltForm self) (IsBuiltForm self → ⊥) }
     {
         match self {
-            Form::Replay | Form::Gen(_) => true,
+            Form::Replay | Form::Gen(_) | Form::Traced(_) => true,
             Form::Count(options) => options.workers == 1,
             Form::Threads => false,
         }
@@ -71,7 +83,17 @@ impl Form {
     {
         match self {
             Form::Threads => true,
-            Form::Replay | Form::Count(_) | Form::Gen(_) => false,
+            Form::Replay | Form::Count(_) | Form::Gen(_) | Form::Traced(_) => false,
+        }
+    }
+
+    /// What is done with traces, where the form is one of these.
+    pub fn tracing(self) -> Option<Tracing>
+        ensures { MatchOption result ((tracing : Tracing) → self ≢ Form.Traced tracing) (λ tracing. self ≡ Form.Traced tracing) }
+    {
+        match self {
+            Form::Traced(tracing) => Some(tracing),
+            Form::Replay | Form::Threads | Form::Count(_) | Form::Gen(_) => None,
         }
     }
 }
@@ -249,6 +271,12 @@ fn read_rest(word: &str, rest: &[String]) -> Option<Form>
     }
     if word == "threads" {
         return alone(Form::Threads, rest);
+    }
+    if word == "trace" {
+        return alone(Form::Traced(Tracing::Make), rest);
+    }
+    if word == "check" {
+        return alone(Form::Traced(Tracing::Check), rest);
     }
     if word == "gen" {
         return match read_rounds(rest) {

@@ -1,6 +1,8 @@
 //! Runs a script of calls on a heap, or counts the words of a text in one, and writes a line for each reply or word.
 #![tactic(auto)]
 
+#[cfg(test)]
+mod checked;
 mod endings;
 mod forms;
 mod generator;
@@ -9,6 +11,7 @@ mod summaries;
 #[cfg(test)]
 mod tests;
 mod threaded;
+mod traced;
 #[cfg(test)]
 mod watched;
 #[cfg(test)]

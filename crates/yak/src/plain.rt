@@ -6,18 +6,21 @@ ghost use Rattle.yak_io.specs.Causes.{Rose};
 ghost use Rattle.script_text.specs.Scripts.{IsBadLine, IsScript};
 ghost use Rattle.group_jobs.specs.LongWords.{has_long_word, long_word_line};
 ghost use Rattle.yak.specs.declared.forms.Options.{Options};
-ghost use Rattle.yak.specs.Forms.{IsAsked, IsCount, IsGen, IsReading, IsReplay};
+ghost use Rattle.yak.specs.declared.forms.Tracing.TheVariants.{Check, Make};
+ghost use Rattle.yak.specs.Forms.{IsAsked, IsCount, IsGen, IsReading, IsReplay, IsTraced, IsUntraced};
 ghost use Rattle.script_text.specs.declared.faults.Bad.{Bad};
 ghost use Rattle.script_runner.specs.Runs.{held_of};
 ghost use Rattle.yak.specs.Keeping.{alone, kept_by, nothing};
 ghost use Rattle.yak.specs.Answers.{Answers};
 ghost use Rattle.yak.specs.Endings.{usage_line, input_of, output_of, IsInput, refusal_line, KeepsNothing, comes_to, counts, generates, gives_none, belongs, ends, Input};
 ghost use Rattle.yak.specs.Threaded.{runs_to};
+ghost use Rattle.yak.specs.Traced.{AnswersCheck, AnswersTrace};
 
 use crate::endings::Status;
 use crate::forms::{Form, MAX_ROUNDS, Options, asked_form};
 use crate::generator::generated_script;
 use crate::summaries::{reply_lines, summed_up};
+use crate::traced::{asked_tracing, traced};
 use group_jobs::{CountError, count_one, long_word, print_counts};
 use heap_core::Core;
 use heap_words::{Image, Words};
@@ -40,7 +43,7 @@ pub enum Kept {
 }
 
 const USAGE: &[u8] =
-    b"usage: yak replay | threads | count [--workers n] [--task lines] [--pages p] | gen n\n";
+    b"usage: yak replay | threads | count [--workers n] [--task lines] [--pages p] | gen n | trace | check\n";
 
 /// The whole input, or why there is none.
 pub fn read_input<S: Source>(alloc: Global, source: &mut S) -> Result<Vec<u8>, Status>
@@ -78,7 +81,7 @@ pub fn stopped(alloc: Global, status: Status) -> Prepared
 }
 
 /// The line that tells the first bad line of a text and its reason.
-fn refusal(alloc: Global, bad: Bad) -> Result<Vec<u8>, AllocError>
+pub fn refusal(alloc: Global, bad: Bad) -> Result<Vec<u8>, AllocError>
     ensures { IfOk result (λ text. text.items ≡ refusal_line bad) }
 {
     let line = format!(in alloc; "{bad}\n")?;
@@ -209,6 +212,7 @@ fn usage(alloc: Global) -> Prepared
 
 /// Does all but the writing.
 fn prepare<S: Source>(alloc: Global, args: &[String], source: &mut S) -> Prepared
+    requires { IsUntraced (map string_bytes args.now) }
     ensures later { S.faults source.old ≤ S.faults source.new }
     ensures unread { (IsReading (map string_bytes args.now) → ⊥) → source.new ≡ source.old }
     ensures text { belongs result.status (map string_bytes args.now)
@@ -224,6 +228,7 @@ fn prepare<S: Source>(alloc: Global, args: &[String], source: &mut S) -> Prepare
             Err(status) => stopped(alloc, status),
         },
         Some(Form::Gen(rounds)) => generate(alloc, rounds),
+        Some(Form::Traced(_)) => unreachable!(),
         Some(Form::Threads) | None => usage(alloc),
     }
 }
@@ -236,7 +241,8 @@ fn written<S: Source, K: Sink>(
     sink: &mut K,
     kept: &mut Kept,
 ) -> Status
-    requires { KeepsNothing (kept_by ⟦<Image as Words>⟧.words kept.old) }
+    requires untraced { IsUntraced (map string_bytes args.now) }
+    requires nothing { KeepsNothing (kept_by ⟦<Image as Words>⟧.words kept.old) }
     ensures unread { (IsReading (map string_bytes args.now) → ⊥) → source.new ≡ source.old }
     ensures ends { ends result (map string_bytes args.now)
         (input_of (S.left source.old) (S.left source.new) (S.faults source.old) (S.faults source.new))
@@ -254,8 +260,10 @@ fn written<S: Source, K: Sink>(
 ///
 /// `replay` reads the source's bytes as a script and runs it, and writes a line for the reply to each command. `count` with one
 /// worker counts the words of the source's bytes in a heap, and writes a line for each word. `gen n` makes a script of n rounds
-/// as bytes, runs it as `replay` does, and writes a summary of the replies. Other words get the usage line. Nothing may be kept at
-/// the call; afterwards the heap is kept where the status is 0. All output is made in memory before the first byte is written.
+/// as bytes, runs it as `replay` does, and writes a summary of the replies. `trace` reads a script and runs it as `replay` does, and
+/// writes its trace: the script, and each entry of the history. `check` reads a trace, and writes whether it is lawful, or the
+/// first entry that breaks it. Other words get the usage line. Nothing may be kept at the call; afterwards the heap is kept where
+/// the status is 0, but nothing after `trace` and `check`. All output is made in memory before the first byte is written.
 /// `docs/FORMAT.md` has the forms and the statuses.
 pub fn plain<S: Source, K: Sink>(
     alloc: Global,
@@ -265,11 +273,20 @@ pub fn plain<S: Source, K: Sink>(
     kept: &mut Kept,
 ) -> u8
     requires { KeepsNothing (kept_by ⟦<Image as Words>⟧.words kept.old) }
-    ensures answers { Answers result (map string_bytes args.now)
+    ensures answers { IsUntraced (map string_bytes args.now) → Answers result (map string_bytes args.now)
         (input_of (S.left source.old) (S.left source.new) (S.faults source.old) (S.faults source.new))
         (output_of (K.written sink.old) (K.written sink.new) (K.faults sink.old) (K.faults sink.new)) (kept_by ⟦<Image as Words>⟧.words kept.new) }
-    ensures unread { (IsReading (map string_bytes args.now) → ⊥) → source.new ≡ source.old }
+    ensures traces { IsTraced (map string_bytes args.now) Make → AnswersTrace result
+        (input_of (S.left source.old) (S.left source.new) (S.faults source.old) (S.faults source.new))
+        (output_of (K.written sink.old) (K.written sink.new) (K.faults sink.old) (K.faults sink.new)) (kept_by ⟦<Image as Words>⟧.words kept.new) }
+    ensures checks { IsTraced (map string_bytes args.now) Check → AnswersCheck result
+        (input_of (S.left source.old) (S.left source.new) (S.faults source.old) (S.faults source.new))
+        (output_of (K.written sink.old) (K.written sink.new) (K.faults sink.old) (K.faults sink.new)) (kept_by ⟦<Image as Words>⟧.words kept.new) }
+    ensures unread { (IsReading (map string_bytes args.now) → ⊥) → IsUntraced (map string_bytes args.now) → source.new ≡ source.old }
 {
+    if let Some(tracing) = asked_tracing(args) {
+        return traced(alloc, tracing, source, sink);
+    }
     law_script_or_refusal();
     written(alloc, args, source, sink, kept) as u8
 }

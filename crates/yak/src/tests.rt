@@ -1,9 +1,9 @@
 use crate::forms::{Form, read_form};
 use crate::plain::{Kept, plain};
-use crate::threaded::run;
+use crate::threaded::{asks_threads, run};
 use epoch_lattice::{Space, below};
 use heap_core::Core;
-use heap_words::MakeError;
+use heap_words::{Image, MakeError};
 use object_layout::{
     BadSlot, Call, LogFull, NoMemory, NoPage, OutOfHeap, Reply, StackEmpty, StackFull, WORD_LIMIT,
 };
@@ -15,7 +15,7 @@ use yak_io::{Failed, MemorySink, MemorySource, NoBrake, ReadAllError, SureSource
 const FIRST_PATH: &[u8] = b"heap 4 1\n1 int 7\n1 get 1\n";
 
 const USAGE: &[u8] =
-    b"usage: yak replay | threads | count [--workers n] [--task lines] [--pages p] | gen n\n";
+    b"usage: yak replay | threads | count [--workers n] [--task lines] [--pages p] | gen n | trace | check\n";
 
 // The words of a line.
 fn words_of(alloc: Global, line: &str) -> Result<Vec<String>, AllocError> {
@@ -24,6 +24,15 @@ fn words_of(alloc: Global, line: &str) -> Result<Vec<String>, AllocError> {
         words.push(String::from_str(alloc, word)?)?;
     }
     Ok(words)
+}
+
+// The heap of one owner, where one is kept.
+fn kept_alone(kept: Kept) -> Option<Core<Image>> {
+    match kept {
+        Kept::Alone(core) => Some(core),
+        Kept::Shared(_finished) => None,
+        Kept::Nothing => None,
+    }
 }
 
 #[test]
@@ -45,13 +54,17 @@ fn other_words_give_the_usage_line(rt: HostRuntime) -> Result<(), Fail> {
         ("gen +1", 1),
         ("gen 1 1", 1),
         ("threads", 1),
+        ("trace", 0),
+        ("trace x", 1),
+        ("check", 9),
+        ("check --all", 1),
         ("count 1", 1),
         ("count --workers 2 --task=1", 1),
         ("count --workers 8", 1),
     ] {
         let args = words_of(alloc, line)?;
         let mut source = SureSource::new(Vec::from_slice(alloc, FIRST_PATH)?);
-        let mut sink = MemorySink::new(alloc, 100, Vec::new(alloc))?;
+        let mut sink = MemorySink::new(alloc, 200, Vec::new(alloc))?;
         let mut kept = Kept::Nothing;
         let ended = plain(alloc, &args, &mut source, &mut sink, &mut kept);
         assert_eq!(rt; ended, status, "{line}");
@@ -123,7 +136,7 @@ fn generated_scripts_are_summed_up(rt: HostRuntime) -> Result<(), Fail> {
             "{line}"
         );
         assert_eq!(rt; sink.written(), text.as_bytes(), "{line}");
-        let Kept::Alone(core) = kept else {
+        let Some(core) = kept_alone(kept) else {
             panic!(rt; "no heap was kept");
         };
         assert_eq!(rt; (core.pages(), core.threads()), (64, 4), "{line}");
@@ -226,9 +239,9 @@ fn words_are_counted(rt: HostRuntime) -> Result<(), Fail> {
         let ended = plain(alloc, &args, &mut source, &mut sink, &mut kept);
         assert_eq!(rt; ended, status, "{line}");
         assert_eq!(rt; sink.written(), written.as_bytes(), "{line}");
-        let is_kept = match kept {
-            Kept::Alone(core) => core.threads() == 1,
-            Kept::Nothing | Kept::Shared(_) => false,
+        let is_kept = match kept_alone(kept) {
+            Some(core) => core.threads() == 1,
+            None => false,
         };
         assert_eq!(rt; is_kept, status == 0, "{line}");
     }
@@ -289,7 +302,7 @@ fn the_kept_heap_answers_further_calls(rt: HostRuntime) -> Result<(), Fail> {
     let mut kept = Kept::Nothing;
     assert_eq!(rt; plain(alloc, &args, &mut source, &mut sink, &mut kept), 0);
     assert_eq!(rt; sink.written(), b"2 ok\n3 int 7\n".as_slice());
-    let Kept::Alone(mut core) = kept else {
+    let Some(mut core) = kept_alone(kept) else {
         panic!(rt; "no heap was kept");
     };
     assert_eq!(rt; (core.pages(), core.threads()), (4, 1));
@@ -445,6 +458,7 @@ fn threads_run_their_lines(rt: HostRuntime) -> Result<(), Fail> {
 fn the_heap_of_threads_answers_further_calls(rt: HostRuntime) -> Result<(), Fail> {
     let alloc = rt.alloc();
     let args = words_of(alloc, "threads")?;
+    assert!(rt; asks_threads(&args));
     let mut source = SureSource::new(Vec::from_slice(alloc, FIRST_PATH)?);
     let mut sink = MemorySink::new(alloc, 100, Vec::new(alloc))?;
     let mut kept = Kept::Nothing;
@@ -458,8 +472,10 @@ fn the_heap_of_threads_answers_further_calls(rt: HostRuntime) -> Result<(), Fail
         &mut kept,
     );
     assert_eq!(rt; ended, 0);
-    let Kept::Shared(finished) = kept else {
-        panic!(rt; "no heap was kept");
+    let finished = match kept {
+        Kept::Shared(finished) => finished,
+        Kept::Alone(_core) => panic!(rt; "another heap was kept"),
+        Kept::Nothing => panic!(rt; "no heap was kept"),
     };
     let map = finished.map();
     let mut core = Core::over(finished, map);

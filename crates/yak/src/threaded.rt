@@ -3,9 +3,11 @@ ghost use Rattle.std.specs.Prelude.{◌≡◌, ◌≤◌, map, [], IfOk, MatchBo
 ghost use Rattle.script_text.specs.declared.TheConstants.{INPUT_LIMIT};
 ghost use Rattle.yak.specs.Answers.{Answers};
 ghost use Rattle.yak.specs.Endings.{input_of, output_of, KeepsNothing};
-ghost use Rattle.yak.specs.Forms.{IsReading, IsThreads};
+ghost use Rattle.yak.specs.Forms.{IsReading, IsThreads, IsTraced, IsUntraced};
+ghost use Rattle.yak.specs.declared.forms.Tracing.TheVariants.{Check, Make};
 ghost use Rattle.yak.specs.Keeping.{kept_by, nothing, shared};
 ghost use Rattle.yak.specs.Threaded.{AnswersThreads, runs_to, threads_end, threads_mean};
+ghost use Rattle.yak.specs.Traced.{AnswersCheck, AnswersTrace};
 
 use crate::endings::Status;
 use crate::forms::read_form;
@@ -119,7 +121,7 @@ fn threads<R: Threads + Wait + Sync, S: Source, K: Sink, B: Brake + Sync>(
 
 /// Whether the words ask for a run in threads.
 #[tactic(auto, using(crate::proofs::Unasked::threads_form, crate::proofs::Unasked::unthreaded, crate::proofs::Unasked::none_threads))]
-fn asks_threads(args: &[String]) -> bool
+pub(crate) fn asks_threads(args: &[String]) -> bool
     ensures { MatchBool result (IsThreads (map string_bytes args.now)) (IsThreads (map string_bytes args.now) → ⊥) }
 {
     match read_form(args) {
@@ -146,10 +148,16 @@ pub fn run<R: Threads + Wait + Sync, S: Source, K: Sink, B: Brake + Sync>(
     ensures threads { IsThreads (map string_bytes args.now) → AnswersThreads result
         (input_of (S.left source.old) (S.left source.new) (S.faults source.old) (S.faults source.new))
         (output_of (K.written sink.old) (K.written sink.new) (K.faults sink.old) (K.faults sink.new)) (kept_by ⟦<Image as Words>⟧.words kept.new) }
-    ensures answers { (IsThreads (map string_bytes args.now) → ⊥) → Answers result (map string_bytes args.now)
+    ensures answers { (IsThreads (map string_bytes args.now) → ⊥) → IsUntraced (map string_bytes args.now) → Answers result (map string_bytes args.now)
         (input_of (S.left source.old) (S.left source.new) (S.faults source.old) (S.faults source.new))
         (output_of (K.written sink.old) (K.written sink.new) (K.faults sink.old) (K.faults sink.new)) (kept_by ⟦<Image as Words>⟧.words kept.new) }
-    ensures unread { (IsReading (map string_bytes args.now) → ⊥) → (IsThreads (map string_bytes args.now) → ⊥) → source.new ≡ source.old }
+    ensures traces { IsTraced (map string_bytes args.now) Make → AnswersTrace result
+        (input_of (S.left source.old) (S.left source.new) (S.faults source.old) (S.faults source.new))
+        (output_of (K.written sink.old) (K.written sink.new) (K.faults sink.old) (K.faults sink.new)) (kept_by ⟦<Image as Words>⟧.words kept.new) }
+    ensures checks { IsTraced (map string_bytes args.now) Check → AnswersCheck result
+        (input_of (S.left source.old) (S.left source.new) (S.faults source.old) (S.faults source.new))
+        (output_of (K.written sink.old) (K.written sink.new) (K.faults sink.old) (K.faults sink.new)) (kept_by ⟦<Image as Words>⟧.words kept.new) }
+    ensures unread { (IsReading (map string_bytes args.now) → ⊥) → (IsThreads (map string_bytes args.now) → ⊥) → IsUntraced (map string_bytes args.now) → source.new ≡ source.old }
 {
     if asks_threads(args) {
         return threads(rt, alloc, source, sink, brake, kept);

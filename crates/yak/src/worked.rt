@@ -17,6 +17,8 @@ fn words_of(alloc: Global, word: &str) -> Result<Vec<String>, AllocError> {
 fn worked_scripts_have_their_replies(rt: HostRuntime) -> Result<(), Fail> {
     let alloc = rt.alloc();
     let args = words_of(alloc, "replay")?;
+    let to_trace = words_of(alloc, "trace")?;
+    let to_check = words_of(alloc, "check")?;
     let in_threads = words_of(alloc, "threads")?;
     for (name, script, replies) in [
         (
@@ -147,6 +149,23 @@ fn worked_scripts_have_their_replies(rt: HostRuntime) -> Result<(), Fail> {
         let ended = plain(alloc, &args, &mut source, &mut sink, &mut kept);
         assert_eq!(rt; ended, 0, "{name}");
         assert_eq!(rt; sink.written(), replies.as_bytes(), "{name}");
+        // Its trace is lawful.
+        let mut source = SureSource::new(Vec::from_slice(alloc, script.as_bytes())?);
+        let mut traced = MemorySink::new(alloc, 5000, Vec::new(alloc))?;
+        let mut none = Kept::Nothing;
+        assert_eq!(rt;
+            plain(alloc, &to_trace, &mut source, &mut traced, &mut none),
+            0,
+            "{name} traced"
+        );
+        let mut source = SureSource::new(Vec::from_slice(alloc, traced.written())?);
+        let mut sink = MemorySink::new(alloc, 100, Vec::new(alloc))?;
+        assert_eq!(rt;
+            plain(alloc, &to_check, &mut source, &mut sink, &mut none),
+            0,
+            "{name} checked"
+        );
+        assert_eq!(rt; sink.written(), b"lawful\n".as_slice(), "{name} checked");
         // The script of one thread has the same replies in threads.
         if script.as_bytes().get(7) != Some(&b'1') {
             continue;

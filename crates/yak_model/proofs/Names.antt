@@ -1,7 +1,5 @@
 -- The order of names, and finite maps from names.
 use Rattle.std.proofs.Common.{◌≡◌, ◌≢◌, ◌⊎◌, ℕ, List, ◌∷◌, cond, true, false, ◌&&◌, nat_eq, refl, ◌∙◌, arith, ap, sym, inl, inr, Some, true≢false}
-use Rattle.yak_model.specs.declared.datum.Datum.{Datum}
-use Rattle.yak_model.specs.Graph.{Content, Fields, fields_or_none}
 use Rattle.std.proofs.lemmas.Bool.Decides.{nat_tests}
 use Rattle.std.specs.declared.cmp.Ordering.{Ordering}
 use Rattle.std.specs.declared.cmp.Ordering.TheVariants.{Less, Equal, Greater}
@@ -44,12 +42,6 @@ same_name q k h =
 pub name_cmp-IsAntisymmetric : IsAntisymmetric name_cmp
 name_cmp-IsAntisymmetric x y h = same_name x y (sym (same_name_test x y) ∙ ap is_eq h)
 
-pub find-first : {X : Type 0} (q : Name) (e : Name × X) (es : List (Name × X)) → (nat_eq (e.0).thread q.thread && nat_eq (e.0).serial q.serial) ≡ true → find name_cmp q (e ∷ es) ≡ Some e.1
-find-first q e es h = ap (λ b. cond b (Some e.1) (find name_cmp q es)) (same_name_test q e.0 ∙ h)
-
-pub find-later : {X : Type 0} (q : Name) (e : Name × X) (es : List (Name × X)) → (nat_eq (e.0).thread q.thread && nat_eq (e.0).serial q.serial) ≡ false → find name_cmp q (e ∷ es) ≡ find name_cmp q es
-find-later q e es h = ap (λ b. cond b (Some e.1) (find name_cmp q es)) (same_name_test q e.0 ∙ h)
-
 -- two names are equal or they are not
 pub same_or_other : (a b : Name) → (a ≡ b) ⊎ (a ≢ b)
 same_or_other a b =
@@ -70,13 +62,6 @@ get-other m k v q n =
       | true ↦ λ h. absurd (n (same_name q k (sym (same_name_test q k) ∙ h)))
       | false ↦ λ h. refl
     ] refl
-
--- the fields of an object that a scan finds first, or later
-pub hit : (q : Name) (k : Name) (fields : List Datum) (es rest : List (Name × Content)) → rest ≡ (k, Fields fields) ∷ es → (nat_eq k.thread q.thread && nat_eq k.serial q.serial) ≡ true → fields_or_none (find name_cmp q rest) ≡ fields
-hit q k fields es rest e h = ap (λ r. fields_or_none (find name_cmp q r)) e ∙ ap fields_or_none (find-first q (k, Fields fields) es h)
-
-pub missed : (q : Name) (k : Name) (fields : List Datum) (es rest : List (Name × Content)) → rest ≡ (k, Fields fields) ∷ es → (nat_eq k.thread q.thread && nat_eq k.serial q.serial) ≡ false → fields_or_none (find name_cmp q rest) ≡ fields_or_none (find name_cmp q es)
-missed q k fields es rest e h = ap (λ r. fields_or_none (find name_cmp q r)) e ∙ ap fields_or_none (find-later q (k, Fields fields) es h)
 
 -- what a scan finds
 pub find_same : {X : Type 0} (q k : Name) (v : X) (es : List (Name × X)) → q ≡ k → find name_cmp q ((k, v) ∷ es) ≡ Some v

@@ -1,12 +1,12 @@
 //! The heap as a graph of objects, without spaces.
 ghost use Rattle.std.specs.Prelude.{◌≡◌, ◌≢◌, ℕ, ◌+◌, ◌-◌, ◌*◌, ◌^◌, ◌<◌, ◌≤◌, ◌++◌, ◌∷◌, [], IfOk, OnErr, OnOk, IsTrue, ◌↔◌, take, length, replicate, slice_set, slice_index_or, true, false};
 ghost use Rattle.std.specs.List.{Contains, sum_by};
-ghost use Rattle.yak_model.specs.Graph.{Thread, Graph, Fields, Does, IsEnded, IsThread, answers, fields_at, opening, make, push, drop_top, with_depth, with_object, put_field, refusal_of, shown, slot_of, stack_of, standard_limits, thread_of};
+ghost use Rattle.yak_model.specs.Graph.{Thread, Graph, Fields, Does, IsEnded, IsThread, answers, fields_at, fields_of, fields_or_none, opening, make, push, drop_top, with_depth, with_object, with_thread, put_field, refusal_of, shown, slot_of, stack_of, standard_limits, thread_of};
 ghost use Rattle.yak_model.specs.declared.datum.Datum.TheVariants as datum;
 ghost use Rattle.object_layout.specs.declared.calls.Call.TheVariants as asked;
 ghost use Rattle.object_layout.specs.declared.replies.Reply.TheVariants as said;
 ghost use Rattle.yak_model.specs.Names.{root_name};
-ghost use Rattle.std.specs.FinMap.{from_entries};
+ghost use Rattle.std.specs.FinMap.{empty, get, insert};
 ghost use Rattle.object_layout.specs.Calls.{IsCall};
 
 use crate::datum::Datum;
@@ -16,7 +16,7 @@ use object_layout::{
     Reply,
 };
 use std::alloc::{AllocError, Global};
-use std::collections::VecDeque;
+use std::collections::BTreeMap;
 use std::marker::Model;
 
 /// What a thread has.
@@ -54,6 +54,14 @@ impl ThreadState {
         self.stack.push(value)?;
         self.made += 1;
         Ok(())
+    }
+
+    /// Drops the reference to the newest object again.
+    fn drop_made(&mut self)
+        ensures { self.new ≡ record self.old { stack = take (length self.old.stack - 1) self.old.stack; made = self.old.made - 1 } }
+    {
+        let _top = self.stack.pop();
+        self.made = self.made.saturating_sub(1);
     }
 
     /// Changes the depth.
@@ -123,38 +131,92 @@ fn deeper(depth: u8, greatest: u8) -> u8
     depth + 1
 }
 
-/// An object as some write left it.
+/// What an object holds.
 #[derive(Drop)]
-pub(crate) struct Written {
-    name: Name,
+pub(crate) struct Held {
     fields: Vec<Datum>,
 }
 
-impl Model for Written {
-    ghost use Rattle.std.specs.Prelude.{ℕ};
-    ghost use Rattle.object_layout.specs.declared.names.Name.{Name};
+impl Model for Held {
     ghost use Rattle.yak_model.specs.Graph.{Content, Fields};
 
-    ghost Value = { Name × Content };
+    ghost Value = { Content };
 
-    ghost view = { λ a. (a.name, Fields a.fields.items) };
+    ghost view = { λ a. Fields a.fields.items };
 }
 
-impl Written {
-    /// An object with these fields.
-    pub(crate) fn new(name: Name, fields: Vec<Datum>) -> Written
-        ensures { result ≡ (name, Fields fields.items) }
+impl Held {
+    /// What an object of these fields holds.
+    fn new(fields: Vec<Datum>) -> Held
+        ensures { result ≡ Fields fields.items }
     {
-        Written { name, fields }
+        Held { fields }
+    }
+
+    /// The fields.
+    fn fields(&self) -> &[Datum]
+        ensures { result.now ≡ fields_of self.now }
+    {
+        &self.fields
     }
 }
 
-/// The heap as a graph of objects: each write of an object, the newest first, and the threads.
+/// A finite map from names to objects.
+#[derive(Drop)]
+pub struct ObjectMap {
+    held: BTreeMap<(u8, u64), Held>,
+}
+
+impl Model for ObjectMap {
+    ghost use Rattle.std.specs.Prelude.{map};
+    ghost use Rattle.std.specs.FinMap.{code, from_entries};
+    ghost use Rattle.std.specs.Coded.{codes};
+    ghost use Rattle.yak_model.specs.Private.{KnownObjects};
+
+    ghost Value = { KnownObjects };
+
+    ghost coded = { Prim.hlevel (codes, code) };
+
+    ghost view = { λ a. from_entries (map (λ e. (record { thread = (e.0).0; serial = (e.0).1 }, e.1)) a.held.entries) };
+}
+
+impl ObjectMap {
+    /// No objects.
+    pub(crate) fn new(alloc: Global) -> ObjectMap
+        ensures { result ≡ empty }
+    {
+        ObjectMap {
+            held: BTreeMap::new(alloc),
+        }
+    }
+
+    /// Gives an object these fields.
+    pub(crate) fn put(&mut self, name: Name, fields: Vec<Datum>) -> Result<(), AllocError>
+        ensures ok { OnOk result (self.new ≡ insert self.old name (Fields fields.items)) }
+        ensures err { OnErr result (self.new ≡ self.old) }
+    {
+        let key = (name.thread, name.serial);
+        self.held.insert(key, Held::new(fields))?;
+        Ok(())
+    }
+
+    /// The fields of an object, none where there is no such object.
+    fn fields_of(&self, name: Name) -> &[Datum]
+        ensures { result.now ≡ fields_or_none (get self.now name) }
+    {
+        match self.held.get(&(name.thread, name.serial)) {
+            Some(held) => held.fields(),
+            None => &[],
+        }
+    }
+}
+
+/// The heap as a graph of objects: what each object holds, and the threads.
 #[derive(Drop)]
 pub struct GraphState {
     page: u16,
     depth: u8,
-    writes: VecDeque<Written>,
+    objects: ObjectMap,
     threads: Vec<ThreadState>,
     alloc: Global,
 }
@@ -168,25 +230,7 @@ impl Model for GraphState {
 
     ghost coded = { Prim.hlevel (codes, code) };
 
-    ghost view = { λ a. record { limits = record { page = a.page; depth = a.depth }; objects = from_entries a.writes.items; threads = a.threads.items } };
-}
-
-/// A finite map from names to objects, for what steps on a shared heap tell. No value of it is made.
-#[derive(Drop)]
-pub struct ObjectMap {
-    writes: VecDeque<Written>,
-}
-
-impl Model for ObjectMap {
-    ghost use Rattle.std.specs.FinMap.{code, from_entries};
-    ghost use Rattle.std.specs.Coded.{codes};
-    ghost use Rattle.yak_model.specs.Private.{KnownObjects};
-
-    ghost Value = { KnownObjects };
-
-    ghost coded = { Prim.hlevel (codes, code) };
-
-    ghost view = { λ a. from_entries a.writes.items };
+    ghost view = { λ a. record { limits = record { page = a.page; depth = a.depth }; objects = a.objects; threads = a.threads.items } };
 }
 
 /// What a thread has as the heap opens: a reference to the root.
@@ -231,19 +275,17 @@ impl GraphState {
         ensures { IfOk result (λ state. state ≡ opening standard_limits threads) }
     {
         let fields = vec![in alloc; Datum::Null; ROOT_FIELDS]?;
-        let mut writes = VecDeque::new(alloc);
-        writes.push_front(Written {
-            name: Name {
-                thread: 0,
-                serial: 0,
-            },
-            fields,
-        })?;
+        let root = Name {
+            thread: 0,
+            serial: 0,
+        };
+        let mut objects = ObjectMap::new(alloc);
+        objects.put(root, fields)?;
         let states = first_states(alloc, threads)?;
         Ok(GraphState {
             page: PAGE_WORDS,
             depth: MAX_DEPTH,
-            writes,
+            objects,
             threads: states,
             alloc,
         })
@@ -269,14 +311,10 @@ impl GraphState {
     pub(crate) fn fields_at(&self, value: Datum) -> &[Datum]
         ensures { result.now ≡ fields_at self.now value }
     {
-        if let Datum::Object(name) = value {
-            for written in &self.writes {
-                if written.name == name {
-                    return &written.fields;
-                }
-            }
+        match value {
+            Datum::Object(name) => self.objects.fields_of(name),
+            _ => &[],
         }
-        &[]
     }
 
     /// Why a call is refused, other than for want of room in the heap.
@@ -461,13 +499,30 @@ impl GraphState {
         self.threads[thread as usize - 1].drop_top();
     }
 
+    /// Pushes a reference to a new object on the stack of a thread.
+    fn push_made(&mut self, thread: u8, value: Datum) -> Result<(), AllocError>
+        requires thread { IsThread self.old thread }
+        requires room { (thread_of self.old thread).made < MAX_SERIAL }
+        ensures ok { OnOk result (self.new ≡ let state = thread_of self.old thread in with_thread self.old thread (record state { stack = state.stack ++ value ∷ []; made = state.made + 1 })) }
+        ensures err { OnErr result (self.new ≡ self.old) }
+    {
+        self.threads[thread as usize - 1].push_made(value)
+    }
+
+    /// Drops the reference to the newest object of a thread again.
+    fn drop_made(&mut self, thread: u8)
+        requires { IsThread self.old thread }
+        ensures { self.new ≡ let state = thread_of self.old thread in with_thread self.old thread (record state { stack = take (length state.stack - 1) state.stack; made = state.made - 1 }) }
+    {
+        self.threads[thread as usize - 1].drop_made();
+    }
+
     /// Gives an object these fields.
     fn write(&mut self, name: Name, fields: Vec<Datum>) -> Result<(), AllocError>
         ensures ok { OnOk result (self.new ≡ with_object self.old name (Fields fields.items)) }
         ensures err { OnErr result (self.new ≡ self.old) }
     {
-        self.writes.push_front(Written { name, fields })?;
-        Ok(())
+        self.objects.put(name, fields)
     }
 
     /// Makes an object of null fields, and pushes a reference to it.
@@ -480,13 +535,14 @@ impl GraphState {
         let fields = vec![in self.alloc; Datum::Null; k as usize]?;
         let serial = self.threads[thread as usize - 1].made() + 1;
         let name = Name { thread, serial };
-        self.writes.push_front(Written { name, fields })?;
-        let state = &mut self.threads[thread as usize - 1];
-        if state.push_made(Datum::Object(name)).is_err() {
-            let _undone = self.writes.pop_front();
-            return Err(AllocError);
+        self.push_made(thread, Datum::Object(name))?;
+        match self.write(name, fields) {
+            Ok(()) => Ok(()),
+            Err(failed) => {
+                self.drop_made(thread);
+                Err(failed)
+            }
         }
-        Ok(())
     }
 
     /// The fields of an object with a new value in one of them.
@@ -727,10 +783,10 @@ impl GraphState {
     }
 
     /// Puts these objects in the place of all others.
-    pub(crate) fn set_objects(&mut self, writes: VecDeque<Written>)
-        ensures { self.new ≡ record self.old { objects = from_entries writes.items } }
+    pub(crate) fn set_objects(&mut self, objects: ObjectMap)
+        ensures { self.new ≡ record self.old { objects = objects } }
     {
-        self.writes = writes;
+        self.objects = objects;
     }
 
     /// Makes a call where the reply is allowed, and tells whether it is. Otherwise nothing changes.

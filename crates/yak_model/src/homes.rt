@@ -1,17 +1,17 @@
 //! The spaces of objects, in a list beside a graph.
 ghost use Rattle.std.specs.Prelude.{◌≡◌, ◌≤◌, ◌<◌, IfOk};
+ghost use Rattle.std.specs.FinMap.{from_entries};
 ghost use Rattle.yak_model.specs.declared.datum.Datum.TheVariants as datum;
 ghost use Rattle.yak_model.specs.Graph.{Fields, IsThread, fields_at, next_name, thread_of};
 ghost use Rattle.yak_model.specs.Spaces.{innermost};
 ghost use Rattle.yak_model.specs.Machine.{contents_of, homes_of, kept_of};
 
 use crate::datum::Datum;
-use crate::graph::{GraphState, Written};
+use crate::graph::{GraphState, ObjectMap};
 use crate::spaces::KeptObject;
 use epoch_lattice::{MAX_DEPTH, MAX_THREADS, Space, inner};
 use object_layout::{MAX_SERIAL, Name};
 use std::alloc::{AllocError, Global};
-use std::collections::VecDeque;
 
 /// An object and the space in which it is.
 #[derive(Clone, Copy, Debug, Drop)]
@@ -66,26 +66,18 @@ pub(crate) fn homes_of(alloc: Global, objects: &[KeptObject]) -> Result<Vec<Home
     Ok(homes)
 }
 
-/// An object as the graph keeps it.
-fn written(alloc: Global, kept: &KeptObject) -> Result<Written, AllocError>
-    ensures { IfOk result (λ writes. writes ≡ (kept.now.name, kept.now.content)) }
-{
-    let fields = copied(alloc, kept.fields())?;
-    Ok(Written::new(kept.name(), fields))
-}
-
 /// The objects as the graph keeps them.
-pub(crate) fn writes_of(
-    alloc: Global,
-    objects: &[KeptObject],
-) -> Result<VecDeque<Written>, AllocError>
-    ensures { IfOk result (λ writes. writes.items ≡ contents_of objects.now) }
+pub(crate) fn object_map(alloc: Global, objects: &[KeptObject]) -> Result<ObjectMap, AllocError>
+    ensures { IfOk result (λ held. held ≡ from_entries (contents_of objects.now)) }
 {
-    let mut writes = VecDeque::new(alloc);
-    for kept in objects {
-        writes.push_back(written(alloc, kept)?)?;
+    let mut held = ObjectMap::new(alloc);
+    let mut i = objects.len();
+    while i > 0 {
+        i -= 1;
+        let kept = &objects[i];
+        held.put(kept.name(), copied(alloc, kept.fields())?)?;
     }
-    Ok(writes)
+    Ok(held)
 }
 
 /// The home of the next object of a thread.

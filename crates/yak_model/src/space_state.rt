@@ -15,7 +15,7 @@ ghost use Rattle.yak_model.specs.Spaces.{Collects, EndsEpoch, Escapes, Turns, in
 use crate::MOST_WORDS;
 use crate::datum::Datum;
 use crate::graph::GraphState;
-use crate::homes::{Home, homes_of, kept_objects, next_home, writes_of};
+use crate::homes::{Home, homes_of, kept_objects, next_home, object_map};
 use crate::spaces::{KeptObject, collect, end_epoch, escape_words};
 use epoch_lattice::{MAX_DEPTH, Space, inner};
 use object_layout::{Call, MAX_THREADS, Name, NoMemory, OBJECT_WORDS, PAGE_WORDS, Reply};
@@ -123,9 +123,9 @@ fn put_objects(
     ensures err_graph { OnErr result (graph.new ≡ graph.old) }
     ensures err_homes { OnErr result (homes.new.items ≡ homes.old.items) }
 {
-    let writes = writes_of(alloc, objects)?;
+    let held = object_map(alloc, objects)?;
     let new_homes = homes_of(alloc, objects)?;
-    graph.set_objects(writes);
+    graph.set_objects(held);
     *homes = new_homes;
     Ok(())
 }

@@ -1,4 +1,4 @@
-use Rattle.std.proofs.Common.{rules, ◌≡◌, ◌<◌, ◌++◌, ◌∷◌, [], length, arith}
+use Rattle.std.proofs.Common.{rules, ◌≡◌, ◌++◌, ◌∷◌, [], length, arith}
 use Rattle.script_runner.proofs.Hired.{dismissed_count, dismissed_first, dismissed_last, taken}
 use Rattle.script_runner.proofs.workers.dismiss.Goals as goal
 

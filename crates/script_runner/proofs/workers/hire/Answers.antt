@@ -1,4 +1,4 @@
-use Rattle.std.proofs.Common.{rules, ◌≡◌, ◌++◌, ◌∷◌, [], refl}
+use Rattle.std.proofs.Common.{rules, refl}
 use Rattle.mutator.specs.Resting.{seats_of}
 use Rattle.script_runner.proofs.Hired.{hired_count, hired_ready, hired_rest, taken}
 use Rattle.script_runner.proofs.workers.hire.Goals as goal

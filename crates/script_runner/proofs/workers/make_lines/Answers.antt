@@ -1,4 +1,4 @@
-use Rattle.std.proofs.Common.{◌≡◌, ◌+◌, ◌++◌, ◌∷◌, [], ℕ, List, length, slice_index_or, take, sym, ap, ◌∙◌, subst, length-set}
+use Rattle.std.proofs.Common.{◌+◌, ◌++◌, ◌∷◌, [], List, length, slice_index_or, take, sym, ap, ◌∙◌, subst, length-set}
 use Rattle.object_layout.specs.declared.replies.Reply.{Reply}
 use Rattle.yak_model.specs.declared.history.Entry.{Entry}
 use Rattle.yak_model.specs.History.{part}

@@ -1,4 +1,4 @@
-use Rattle.std.proofs.Common.{◌≡◌, ◌≤◌, ◌++◌, ◌∷◌, [], map, length, refl, ◌∙◌, ap, sym, arith}
+use Rattle.std.proofs.Common.{◌++◌, map, ◌∙◌, ap, sym}
 use Rattle.std.proofs.lemmas.List.{append-nil}
 use Rattle.sums_by_key.specs.Sums.{line_text}
 use Rattle.sums_by_key.proofs.Texts.{nothing_read, text_next}

@@ -1,4 +1,4 @@
-use Rattle.std.proofs.Common.{◌≡◌, ℕ, ◌+◌, ◌-◌, ◌*◌, ◌^◌, ◌<◌, List, map}
+use Rattle.std.proofs.Common.{◌≡◌, ◌+◌, ◌-◌, ◌*◌, ◌^◌, ◌<◌, List, map}
 use Rattle.yak_model.specs.Private.{KnownObjects}
 use Rattle.yak_model.specs.declared.TheConstants.{BUCKETS}
 use Rattle.heap_tables.specs.Merges.{done_at}

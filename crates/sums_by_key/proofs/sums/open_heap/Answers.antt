@@ -1,4 +1,4 @@
-use Rattle.std.proofs.Common.{◌≡◌, ap, ◌∙◌}
+use Rattle.std.proofs.Common.{ap, ◌∙◌}
 use Rattle.std.specs.FinMap.{empty}
 use Rattle.heap_words.specs.Contents.{contents}
 use Rattle.yak_model.specs.Graph.{standard_limits}

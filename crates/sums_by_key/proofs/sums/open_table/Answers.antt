@@ -1,4 +1,4 @@
-use Rattle.std.proofs.Common.{◌≡◌, ◌+◌, [], ◌∷◌, ◌++◌, length, get_or, refl, ◌∙◌, ap, sym, subst}
+use Rattle.std.proofs.Common.{◌+◌, [], ◌∷◌, ◌++◌, length, get_or, ◌∙◌, ap}
 use Rattle.std.specs.FinMap.{empty, get-empty}
 use Rattle.yak_model.specs.Graph.{Thread}
 use Rattle.yak_model.specs.Texts.{word_cmp}
@@ -6,7 +6,6 @@ use Rattle.yak_model.specs.declared.TheConstants.{BUCKETS}
 use Rattle.yak_model.specs.declared.datum.Datum.TheVariants as datum
 use Rattle.heap_tables.specs.Runs.{next_of, with_new}
 use Rattle.heap_tables.proofs.OnResult.{ok_both, ok_map}
-use Rattle.sums_by_key.specs.Held.{Opened, opening_own}
 use Rattle.sums_by_key.specs.declared.TheConstants.{TABLE_SLOT}
 use Rattle.sums_by_key.proofs.sums.open_table.Goals as goal
 

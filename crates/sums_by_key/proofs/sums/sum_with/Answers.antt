@@ -1,5 +1,4 @@
-use Rattle.std.proofs.Common.{◌≡◌, ◌+◌, ◌≤◌, length, arith}
-use Rattle.yak_model.specs.Private.{KnownObjects}
+use Rattle.std.proofs.Common.{arith}
 use Rattle.sums_by_key.specs.Held.{HoldsFew}
 use Rattle.sums_by_key.proofs.sums.sum_with.Goals as goal
 

@@ -1,4 +1,4 @@
-use Rattle.std.proofs.Common.{rules, ◌≡◌, ◌+◌, ◌-◌, ◌*◌, ◌≤◌, ◌<◌, ◌++◌, length, take, subst, arith}
+use Rattle.std.proofs.Common.{rules, ◌≤◌, length, take, subst}
 use Rattle.sums_by_key.specs.Held.{HoldsSums}
 use Rattle.sums_by_key.proofs.Parts.{cut_next, cut_summable, whole}
 use Rattle.sums_by_key.proofs.tables.add_all.Goals as goal

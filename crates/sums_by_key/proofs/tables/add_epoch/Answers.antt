@@ -1,4 +1,4 @@
-use Rattle.std.proofs.Common.{◌≡◌, ◌+◌, ◌-◌, ◌++◌, ap}
+use Rattle.std.proofs.Common.{◌++◌, ap}
 use Rattle.yak_model.specs.Graph.{Thread}
 use Rattle.sums_by_key.proofs.Parts.{held_on}
 use Rattle.sums_by_key.proofs.tables.add_epoch.Goals as goal

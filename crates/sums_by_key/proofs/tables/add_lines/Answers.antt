@@ -1,5 +1,5 @@
-use Rattle.std.proofs.Common.{◌≡◌, ℕ, ◌+◌, ◌*◌, ◌≤◌, List, [], ◌∷◌, ◌++◌, length, get_or, take, ap, sym, subst, ◌∙◌, arith}
-use Rattle.sums_by_key.specs.Held.{AreSummable, HoldsSums}
+use Rattle.std.proofs.Common.{[], ◌++◌, take, sym, subst, ◌∙◌, arith}
+use Rattle.sums_by_key.specs.Held.{HoldsSums}
 use Rattle.sums_by_key.specs.declared.lines.Line.{Line}
 use Rattle.sums_by_key.proofs.Parts.{next_front, next_short, next_summable, whole}
 use Rattle.sums_by_key.proofs.tables.add_lines.Goals as goal

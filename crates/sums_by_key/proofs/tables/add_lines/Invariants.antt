@@ -1,4 +1,4 @@
-use Rattle.std.proofs.Common.{◌≡◌, ℕ, ◌+◌, ◌*◌, ◌≤◌, List, ◌++◌, length, take}
+use Rattle.std.proofs.Common.{◌≡◌, ◌+◌, ◌*◌, ◌≤◌, List, ◌++◌, length, take}
 use Rattle.heap_tables.specs.Runs.{stack_in}
 use Rattle.sums_by_key.specs.Held.{AreSummable, HoldsSums}
 use Rattle.sums_by_key.specs.declared.lines.Line.{Line}

@@ -1,4 +1,4 @@
-use Rattle.std.proofs.Common.{◌≡◌, ◌≤◌, ◌+◌, ℕ, List, [], ◌∷◌, ◌++◌, Bool, true, Some, None, Ok, length, get_or, take, drop, refl, sym, ap, subst, ◌∙◌, inl, inr, arith, length-take, add-one}
+use Rattle.std.proofs.Common.{◌≡◌, ◌+◌, ℕ, List, [], ◌∷◌, ◌++◌, Bool, Some, Ok, length, get_or, take, drop, refl, sym, ap, subst, ◌∙◌, inl, inr, arith, length-take, add-one}
 use Rattle.std.specs.Prelude.{MatchBool}
 use Rattle.std.proofs.lemmas.List.{take-append-drop, take_all, take_more}
 use Rattle.std.proofs.Math.Seq.{drop-cons}

@@ -1,4 +1,4 @@
-use Rattle.std.proofs.Common.{List, Option, ℕ, IfOk, subst}
+use Rattle.std.proofs.Common.{List, IfOk, subst}
 use Rattle.std.specs.Prelude.{IfNone, IfSome}
 use Rattle.trace_check.specs.declared.traces.Entry.{Entry}
 use Rattle.trace_check.specs.Breaks.{IsLawfulTrace, TraceBreaksAt}

@@ -1,5 +1,4 @@
-use Rattle.std.proofs.Common.{◌≡◌, ◌++◌, List}
-use Rattle.trace_check.specs.declared.traces.Entry.{Entry}
+use Rattle.std.proofs.Common.{◌≡◌, ◌++◌}
 use Rattle.trace_check.specs.Making.{TracesLine, held_of, step_entries}
 use Rattle.trace_check.proofs.Traced.{on_ok, packed_after}
 use Rattle.trace_check.proofs.making.trace_line.Goals as goal

@@ -1,4 +1,3 @@
-use Rattle.std.proofs.Common.{◌≡◌, false, true≢false, sym, ◌∙◌}
 use Rattle.trace_check.proofs.Turns.{end_denied}
 use Rattle.trace_check.proofs.turning.turn_end.Goals as goal
 

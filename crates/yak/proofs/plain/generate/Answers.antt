@@ -1,7 +1,6 @@
-use Rattle.std.proofs.Common.{◌≡◌, List, length, ap, ◌∙◌, arith}
+use Rattle.std.proofs.Common.{List, length, ap, arith}
 use Rattle.object_layout.specs.declared.replies.Reply.{Reply}
 use Rattle.script_text.specs.Contents.{Contents}
-use Rattle.yak.specs.Generator.{generated}
 use Rattle.yak.proofs.Rounds.{few_lines, some_lines}
 use Rattle.yak.proofs.plain.generate.Goals as goal
 

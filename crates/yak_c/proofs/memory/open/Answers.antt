@@ -1,4 +1,4 @@
-use Rattle.std.proofs.Common.{◌≡◌, ◌+◌, ◌-◌, ◌≤◌, ◌∷◌, ℕ, length, slice_index, refl, ap, sym, subst, ◌∙◌, arith}
+use Rattle.std.proofs.Common.{◌≡◌, ◌≤◌, ◌∷◌, length, refl, ap, sym, subst, ◌∙◌, arith}
 use Rattle.heap_words.specs.declared.map.Areas.{Areas}
 use Rattle.heap_words.specs.Map.{IsAreas, total_of}
 use Rattle.yak_model.specs.Graph.{standard_limits}

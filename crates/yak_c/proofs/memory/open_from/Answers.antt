@@ -1,4 +1,4 @@
-use Rattle.std.proofs.Common.{◌≡◌, ap, sym, subst, ◌∙◌}
+use Rattle.std.proofs.Common.{ap, sym, subst, ◌∙◌}
 use Rattle.heap_words.specs.Contents.{contents}
 use Rattle.yak_model.specs.Recorded.{StandsRecorded}
 use Rattle.yak_model.specs.Graph.{standard_limits}

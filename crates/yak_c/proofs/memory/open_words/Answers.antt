@@ -1,4 +1,4 @@
-use Rattle.std.proofs.Common.{rules, ◌≡◌, subst}
+use Rattle.std.proofs.Common.{rules, subst}
 use Rattle.yak_c.specs.Memory.{HoldsOpening}
 use Rattle.yak_c.proofs.memory.open_words.Goals as goal
 

@@ -1,7 +1,7 @@
-use Rattle.std.proofs.Common.{◌≡◌, ◌+◌, ◌-◌, ◌≤◌, ◌∷◌, ℕ, List, length, slice_index, take, drop, refl, ap, sym, subst, ◌∙◌, arith}
+use Rattle.std.proofs.Common.{◌≡◌, ◌-◌, ◌≤◌, ◌∷◌, length, slice_index, take, drop, refl, ap, sym, subst, ◌∙◌, arith}
 use Rattle.heap_words.specs.declared.map.Areas.{Areas}
 use Rattle.heap_words.specs.Contents.{contents}
-use Rattle.heap_words.specs.Map.{HasThread, total_of}
+use Rattle.heap_words.specs.Map.{total_of}
 use Rattle.heap_core.specs.Done.{Done}
 use Rattle.yak_c.specs.Answers.{Makes}
 use Rattle.yak_c.specs.Memory.{HasShape, Holds, IsHeap, contents_in, map_in, words_in}

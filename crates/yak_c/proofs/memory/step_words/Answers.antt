@@ -1,4 +1,4 @@
-use Rattle.std.proofs.Common.{rules, ◌≡◌, subst}
+use Rattle.std.proofs.Common.{rules, subst}
 use Rattle.yak_c.specs.Memory.{Holds}
 use Rattle.yak_c.proofs.memory.step_words.Goals as goal
 
