@@ -6,9 +6,11 @@ from model import CONTROL, FIELDS, PAGE_WORDS, Spaces, explained
 
 LIMIT, LONGEST, PAGES, THREADS, ROUNDS = 16_777_216, 1024, 4096, 8, 100_000
 OPTIONS = {b'--workers': THREADS, b'--task': LIMIT, b'--pages': PAGES}
-NUMBERS = {'int': 1, 'null': 0, 'dup': 1, 'pop': 0, 'new': 1, 'load': 2, 'store': 3, 'get': 1, 'same': 2, 'begin': 0, 'end': 0, 'collect': 0, 'census': 0}
+NUMBERS = {'int': 1, 'null': 0, 'dup': 1, 'pop': 0, 'new': 1, 'load': 2, 'store': 3,
+           'get': 1, 'same': 2, 'begin': 0, 'end': 0, 'collect': 0, 'census': 0}
 REFUSALS = ['bad slot', 'not a reference', 'bad field', 'stack full', 'stack empty', 'too deep', 'no epoch', 'too long', 'names spent']
-REPLY = re.compile('ok|null|yes|no|out of heap|' + '|'.join(REFUSALS) + '|int ([0-9]+)|ref ([0-9]+)|ok moved ([0-9]+)(?: tight)?|pages free ([0-9]+) region ([0-9]+) control ([0-9]+)')
+REPLY = re.compile('ok|null|yes|no|out of heap|' + '|'.join(REFUSALS) +
+                   '|int ([0-9]+)|ref ([0-9]+)|ok moved ([0-9]+)(?: tight)?|pages free ([0-9]+) region ([0-9]+) control ([0-9]+)')
 REPLY_BITS = [64, 16, 64, 32, 32, 32]
 
 
@@ -187,7 +189,8 @@ def generated(rounds):
         u = t % 4 + 1
         text += [[f'{t} begin', f'{t} new 3', f'{t} new {k}', f'{t} store 1 0 2', f'{t} store 0 {f} 1', f'{t} end', f'{t} pop', f'{t} pop'],
                  [f'{t} begin', f'{t} new {k}', f'{t} pop', f'{t} end'],
-                 [f'{t} begin', f'{t} new {k}', f'{t} store 0 {f} 1', f'{u} load 0 {f}', f'{t} null', f'{t} store 0 {f} 2', f'{t} pop', f'{t} pop', f'{t} end', f'{u} get 1', f'{u} pop']][x % 3]
+                 [f'{t} begin', f'{t} new {k}', f'{t} store 0 {f} 1', f'{u} load 0 {f}', f'{t} null',
+                  f'{t} store 0 {f} 2', f'{t} pop', f'{t} pop', f'{t} end', f'{u} get 1', f'{u} pop']][x % 3]
     return '\n'.join(text + ['1 collect', '1 census', '']).encode()
 
 
