@@ -23,7 +23,7 @@ mod tests {
     use super::*;
     use heap_core::{Core, Stepped};
     use heap_words::MakeError;
-    use object_layout::{Call, Census, Reply};
+    use object_layout::{Call, Census, LogFull, NoPage, Reply};
     use safepoint_gate::Gate;
     use std::test::Fail;
 
@@ -35,12 +35,10 @@ mod tests {
         };
         let mut mutator = resting.remove(0).enter(&rt, &heap);
         assert_eq!(rt; mutator.thread(), 1);
-        assert_eq!(rt;
-            mutator.call_closed(&rt, &heap, Call::New(234)).reply,
-            Reply::Ok
-        );
+        assert_eq!(rt; mutator.new_object(&heap, 234), Ok(Reply::Ok));
         mutator.poll(&rt, &heap);
         mutator.flush(&rt, &heap);
+        assert_eq!(rt; mutator.new_object(&heap, 0), Err(NoPage));
         let full = Census {
             free: 0,
             region: 0,
@@ -58,6 +56,25 @@ mod tests {
         let map = finished.map();
         let mut core = Core::over(finished, map);
         assert_eq!(rt; core.step(1, Call::Get(1)).reply, Reply::Object(234));
+        Ok(())
+    }
+
+    #[test]
+    fn a_full_store_buffer_says_so(rt: HostRuntime) -> Result<(), Fail> {
+        let (heap, mut resting) = match Heap::new(rt.alloc(), 2, 1) {
+            Ok(made) => made,
+            Err(error) => panic!(rt; "no heap: {error}"),
+        };
+        let mut mutator = resting.remove(0).enter(&rt, &heap);
+        assert_eq!(rt; mutator.new_object(&heap, 100), Ok(Reply::Ok));
+        assert_eq!(rt; mutator.begin(&heap), Reply::Ok);
+        assert_eq!(rt; mutator.new_object(&heap, 0), Ok(Reply::Ok));
+        for f in 0..64 {
+            assert_eq!(rt; mutator.store(&heap, 1, f, 2), Ok(Reply::Ok));
+        }
+        assert_eq!(rt; mutator.store(&heap, 1, 64, 2), Err(LogFull));
+        mutator.flush(&rt, &heap);
+        assert_eq!(rt; mutator.store(&heap, 1, 64, 2), Ok(Reply::Ok));
         Ok(())
     }
 

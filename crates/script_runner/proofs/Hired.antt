@@ -15,7 +15,7 @@ use Rattle.safepoint_gate.specs.declared.seats.Away.{Away}
 use Rattle.safepoint_gate.specs.Made.{AllFresh}
 use Rattle.safepoint_gate.specs.Seats.{IsOf}
 use Rattle.safepoint_gate.specs.Steps.{first_calls, first_thread}
-use Rattle.safepoint_gate.proofs.Events.{only}
+use Rattle.mutator.proofs.Telling.{only}
 use Rattle.mutator.specs.declared.resting.Resting.{Resting}
 use Rattle.mutator.specs.Resting.{seats_of}
 use Rattle.mutator.specs.Finishing.{AllOf, Finishes}

@@ -37,7 +37,7 @@ struct Worker {
     replies: Vec<Reply>,
 }
 
-// Makes the call of a line.
+// Makes the call of a line, closing no gate where a call needs none.
 fn make_line<R: Wait + Sync>(rt: &R, heap: &Heap, resting: Resting, line: Line) -> (Resting, Reply)
     requires heap { IsOf heap.now.gate resting.away.seat.table_id resting.away.seat.me.0 }
     requires thread { line.thread ≡ resting.away.thread }
@@ -47,7 +47,7 @@ fn make_line<R: Wait + Sync>(rt: &R, heap: &Heap, resting: Resting, line: Line) 
     ensures told { calls_of (first_calls result.0.away.seat.me.0.own) ≡ calls_of (first_calls resting.away.seat.me.0.own) ++ said line result.1 ∷ [] }
 {
     let mut mutator = resting.enter(rt, heap);
-    let stepped = mutator.call_closed(rt, heap, line.call);
+    let (stepped, _depth) = mutator.call_told(rt, heap, line.call);
     (mutator.rest(heap), stepped.reply)
 }
 
