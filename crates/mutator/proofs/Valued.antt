@@ -84,9 +84,9 @@ module _ (v : View) (so : IsSo v) (k word : ℕ) (shows : ShowsSlot v k word) wh
       let many : count ≡ is.fields = counts is.fields (space_index is.space) is.header.0 is.header.1 is.is_word in
       get_answered v.map (actor v) k (reply.Object count) shows.0
       (λ g agrees.
-        object_shown v.map (slot_told (actor v) k) word at count word_for e g
-        (ap (λ (d : Datum). length (fields_at g d)) (sym (slot_is v.map (actor v) g k agrees)) ∙ agrees.fields k at head there (is.header, subst (HasMet (actor v) (heap_at v.map + at)) is.is_word has) ∙ sym many)
-        ∙ ap (shown g) (sym (slot_is v.map (actor v) g k agrees)))
+      object_shown v.map (slot_told (actor v) k) word at count word_for e g
+      (ap (λ (d : Datum). length (fields_at g d)) (sym (slot_is v.map (actor v) g k agrees)) ∙ agrees.fields k at head there (is.header, subst (HasMet (actor v) (heap_at v.map + at)) is.is_word has) ∙ sym many)
+      ∙ ap (shown g) (sym (slot_is v.map (actor v) g k agrees)))
 
 -- a header was loaded
 pub looks_header : (v w : View) (at header : ℕ) → length v.own ≡ 1 → Loaded v (heap_at v.map + at) None header w → Searches v w
