@@ -1,5 +1,5 @@
 -- Which loads and stores of fields are refused, by what a thread knows.
-use Rattle.std.proofs.Common.{◌≡◌, ◌⊎◌, ℕ, ◌+◌, ◌*◌, ◌≤◌, ◌<◌, Bool, true, false, length, refl, sym, ap, subst, ◌∙◌, arith, inl, inr, Some, None, Option, MatchOption}
+use Rattle.std.proofs.Common.{◌≡◌, ℕ, ◌+◌, ◌*◌, ◌≤◌, ◌<◌, Bool, true, false, length, refl, sym, ap, subst, ◌∙◌, arith, inl, inr, Some, None, Option, MatchOption}
 use Rattle.std.specs.Prelude.{slice_index_or}
 use Rattle.std.proofs.lemmas.Bool.{le-leb, lt-leb}
 use Rattle.object_layout.specs.Calls.{IsCall}
@@ -17,7 +17,7 @@ use Rattle.yak_model.specs.declared.datum.Datum.{Datum}
 use Rattle.yak_model.specs.declared.datum.Datum.TheVariants as datum
 use Rattle.yak_model.specs.Graph.{Does, Graph, Thread, answers, is_bad_field, is_bad_slot, is_reference, is_stack_full, fields_at, refusal_of, slot_of, stack_of}
 use Rattle.yak_model.specs.Spaces.{SpaceState}
-use Rattle.calls_in_flight.specs.Actors.{Actor, Agrees, HasHeader, IsAtRest, IsLet, IsQuick, MayTell, RefersTo, Shows}
+use Rattle.calls_in_flight.specs.Actors.{Actor, Agrees, HasHeader, IsAtRest, IsQuick, MayTell, RefersTo, Shows}
 use Rattle.calls_in_flight.specs.FieldSteps.{IsWordFor}
 use Rattle.calls_in_flight.specs.Seeing.{Sees, slot_told}
 use Rattle.calls_in_flight.specs.Steps.{slot_at}

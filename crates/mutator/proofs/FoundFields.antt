@@ -1,5 +1,5 @@
 -- The field of a slot's object, as a call finds it.
-use Rattle.std.proofs.Common.{◌≡◌, ◌⊎◌, ℕ, ◌+◌, ◌*◌, ◌≤◌, ◌<◌, List, [], ◌∷◌, ◌++◌, length, refl, sym, ap, subst, ◌∙◌, arith, None, true, append_assoc}
+use Rattle.std.proofs.Common.{◌≡◌, ℕ, ◌+◌, ◌*◌, ◌≤◌, ◌<◌, List, [], ◌∷◌, ◌++◌, length, refl, sym, ap, subst, ◌∙◌, arith, None, true, append_assoc}
 use Rattle.std.proofs.lemmas.List.Elements.{Contains-append_right}
 use Rattle.object_layout.specs.declared.TheConstants.{HEADER_BASE, MAX_ADDRESS, MAX_FIELDS, MAX_SPACE, OBJECT_WORDS, SPACE_UNIT}
 use Rattle.object_layout.specs.declared.calls.Call.{Call}
@@ -15,7 +15,7 @@ use Rattle.heap_words.specs.Map.{heap_at, heap_length}
 use Rattle.epoch_lattice.specs.declared.Space.{Space}
 use Rattle.epoch_lattice.specs.Lattice.{space_index}
 use Rattle.calls_in_flight.specs.declared.notes.Known.{Known}
-use Rattle.calls_in_flight.specs.Actors.{Actor, HasHeader, HasMet, MayTell, RefersTo, Shows, learn}
+use Rattle.calls_in_flight.specs.Actors.{HasHeader, HasMet, MayTell, RefersTo, Shows, learn}
 use Rattle.calls_in_flight.specs.Seeing.{IsHeaderIn, slot_told}
 use Rattle.calls_in_flight.specs.FieldSteps.{LoadsFrom, StoresInto}
 use Rattle.calls_in_flight.specs.Steps.{logged_at, slot_at}
@@ -24,7 +24,7 @@ use Rattle.yak_model.specs.Spaces.{SpaceState}
 use Rattle.calls_in_flight.specs.Flight.{at_rest}
 use Rattle.calls_in_flight.specs.OwnStores.{done_by}
 use Rattle.safepoint_gate.specs.declared.rule.View.{View}
-use Rattle.safepoint_gate.specs.Singles.{IsQuiet, IsSo, Loaded, acting, actor, loads_of, moved, put_of}
+use Rattle.safepoint_gate.specs.Singles.{IsQuiet, Loaded, acting, actor, loads_of, put_of}
 use Rattle.safepoint_gate.specs.Steps.{first_thread}
 use Rattle.barriers.specs.Barred.{IsLogFull, LoadsCross, OnlyLoads, StoreBarred}
 use Rattle.barriers.specs.Shown.{LoadedSpace, MustRecord, PutsEntry, WasLoaded}
@@ -202,8 +202,8 @@ module _ (v u : View) (asked : Call) (more lasting : List Known) (one : length v
   pub stored-since : (w : View) → StoreBarred u asked w → AnswersStore v asked Ok w
   stored-since w b =
       let told = says-from v u (done_by asked) (actor v).flight lasting (loads_of v ++ more) (put_of v) is (at_rest (first_thread v.own)) (at_rest (first_thread u.own)) (loads_of v ++ (more ++ b.more)) (loads_of u ++ b.more) b.put b.put w.own w.own
-          (ap at_rest (loads-first v u more lasting is))
-          (ap (λ l. l ++ b.more) (loads-loads v u more lasting is one) ∙ append_assoc (loads_of v) more b.more) refl refl b.says in
+      (ap at_rest (loads-first v u more lasting is))
+      (ap (λ l. l ++ b.more) (loads-loads v u more lasting is one) ∙ append_assoc (loads_of v) more b.more) refl refl b.says in
       record {
         more = more ++ b.more;
         answers = record {

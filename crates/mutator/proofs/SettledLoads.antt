@@ -1,11 +1,10 @@
 -- A load of a field, whose slot and length were stored after it.
-use Rattle.std.proofs.Common.{◌≡◌, ◌≢◌, ℕ, ◌+◌, ◌≤◌, ◌<◌, List, [], ◌∷◌, ◌++◌, length, refl, sym, ap, subst, ◌∙◌, arith, None, inr}
+use Rattle.std.proofs.Common.{◌≡◌, ◌≢◌, ℕ, ◌+◌, ◌<◌, List, [], ◌∷◌, ◌++◌, length, refl, sym, ap, subst, ◌∙◌, arith, None, inr}
 use Rattle.object_layout.specs.declared.calls.Call.TheVariants.{Load}
 use Rattle.object_layout.specs.declared.replies.Reply.TheVariants.{Ok}
 use Rattle.heap_words.specs.declared.map.Areas.{Areas}
 use Rattle.heap_words.specs.declared.TheConstants.{STACK_SLOTS}
 use Rattle.heap_words.specs.Map.{HasThread, total_of}
-use Rattle.yak_model.specs.Graph.{Thread}
 use Rattle.calls_in_flight.specs.declared.notes.Cover.{Cover}
 use Rattle.calls_in_flight.specs.declared.notes.Flight.{Flight}
 use Rattle.calls_in_flight.specs.declared.notes.Known.{Known}
@@ -19,7 +18,7 @@ use Rattle.safepoint_gate.specs.declared.rule.View.{View}
 use Rattle.safepoint_gate.specs.Singles.{IsSo, Stored, acting, actor, actor_in, loads_in, loads_of, moved, put_in, put_of, with_call}
 use Rattle.safepoint_gate.specs.Steps.{first_thread}
 use Rattle.barriers.specs.Barred.{FieldBarred}
-use Rattle.barriers.proofs.MovedViews.{first-actor, length-with, moved-actor, moved-loads, moved-moved, moved-put, says-after, told-actor, told-length, told-loads, told-put}
+use Rattle.barriers.proofs.MovedViews.{first-actor, moved-actor, moved-loads, moved-moved, moved-put, says-after, told-actor, told-length, told-loads, told-put}
 use Rattle.mutator.specs.Quick.{Answered}
 
 -- the last cover was settled
@@ -132,9 +131,12 @@ module _ (v w : View) (s f word : ℕ) (one : length v.own ≡ 1) (so : IsSo v) 
       lasting-z = ap (λ (x : View). x.lasting) of-w
 
       pub answers-load : Answered v (Load s f) Ok z
-      answers-load = (b.more, record {
-        put = put_of v;
-        says = (says-after v (done_by (Load s f)) flight (at_rest (first_thread v.own)) (loads_of v ++ b.more) (loads_of v ++ b.more) (put_of v) (put_of v) w.own z.own own-z b.says).0;
-        puts = inr ((λ must ok. must), refl);
-        view = of-w ∙ ap (λ (x : View). acting x (with_call w.own (at_rest (first_thread v.own)) (loads_of v ++ b.more) (put_of v)) known) b.view ∙ (λ i. acting v (sym own-z i) (sym lasting-z i));
-      })
+      answers-load = (
+        b.more,
+        record {
+          put = put_of v;
+          says = (says-after v (done_by (Load s f)) flight (at_rest (first_thread v.own)) (loads_of v ++ b.more) (loads_of v ++ b.more) (put_of v) (put_of v) w.own z.own own-z b.says).0;
+          puts = inr ((λ must ok. must), refl);
+          view = of-w ∙ ap (λ (x : View). acting x (with_call w.own (at_rest (first_thread v.own)) (loads_of v ++ b.more) (put_of v)) known) b.view ∙ (λ i. acting v (sym own-z i) (sym lasting-z i));
+        },
+      )

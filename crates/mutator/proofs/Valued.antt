@@ -10,8 +10,8 @@ use Rattle.heap_words.specs.declared.map.Areas.{Areas}
 use Rattle.heap_words.specs.Map.{IsAreas, heap_at, heap_length}
 use Rattle.yak_model.specs.declared.datum.Datum.{Datum}
 use Rattle.yak_model.specs.declared.datum.Datum.TheVariants as datum
-use Rattle.yak_model.specs.Graph.{Graph, fields_at, shown, slot_of}
-use Rattle.calls_in_flight.specs.Actors.{Actor, Agrees, HasMet, IsAnswered, RefersTo, Shows}
+use Rattle.yak_model.specs.Graph.{Graph, fields_at, shown}
+use Rattle.calls_in_flight.specs.Actors.{HasMet, IsAnswered, RefersTo, Shows}
 use Rattle.calls_in_flight.specs.FieldSteps.{IsWordFor}
 use Rattle.calls_in_flight.specs.Steps.{slot_at}
 use Rattle.calls_in_flight.specs.Seeing.{IsHeaderIn, slot_told}
@@ -19,7 +19,6 @@ use Rattle.safepoint_gate.specs.declared.rule.View.{View}
 use Rattle.safepoint_gate.specs.Singles.{IsSo, Loaded, actor}
 use Rattle.mutator.specs.Making.{Searches}
 use Rattle.mutator.specs.Quick.{ShowsSlot}
-use Rattle.mutator.proofs.Asking.{slot_still}
 use Rattle.mutator.proofs.Looking.{loaded_met}
 use Rattle.mutator.proofs.Refusing.{get_answered, slot_is}
 use Rattle.mutator.proofs.Rooms.{searches_one}
@@ -84,9 +83,9 @@ module _ (v : View) (so : IsSo v) (k word : ℕ) (shows : ShowsSlot v k word) wh
       let many : count ≡ is.fields = counts is.fields (space_index is.space) is.header.0 is.header.1 is.is_word in
       get_answered v.map (actor v) k (reply.Object count) shows.0
       (λ g agrees.
-        object_shown v.map (slot_told (actor v) k) word at count word_for e g
-        (ap (λ (d : Datum). length (fields_at g d)) (sym (slot_is v.map (actor v) g k agrees)) ∙ agrees.fields k at head there (is.header, subst (HasMet (actor v) (heap_at v.map + at)) is.is_word has) ∙ sym many)
-        ∙ ap (shown g) (sym (slot_is v.map (actor v) g k agrees)))
+      object_shown v.map (slot_told (actor v) k) word at count word_for e g
+      (ap (λ (d : Datum). length (fields_at g d)) (sym (slot_is v.map (actor v) g k agrees)) ∙ agrees.fields k at head there (is.header, subst (HasMet (actor v) (heap_at v.map + at)) is.is_word has) ∙ sym many)
+      ∙ ap (shown g) (sym (slot_is v.map (actor v) g k agrees)))
 
 -- a header was loaded
 pub looks_header : (v w : View) (at header : ℕ) → length v.own ≡ 1 → Loaded v (heap_at v.map + at) None header w → Searches v w

@@ -1,4 +1,4 @@
-use Rattle.std.proofs.Common.{◌≡◌, ◌<◌, ◌≤◌, ℕ, ◌+◌, ◌∙◌, refl, sym, ap, subst, arith, inr, Some, None, Option, List, [], ◌∷◌}
+use Rattle.std.proofs.Common.{◌≡◌, ◌<◌, ◌≤◌, ◌+◌, refl, sym, subst, arith, inr, Some, None, [], ◌∷◌}
 use Rattle.object_layout.specs.declared.TheConstants.{MAX_ADDRESS}
 use Rattle.object_layout.specs.declared.calls.Event.{Event}
 use Rattle.object_layout.specs.declared.replies.Refusal.TheVariants.{BadField, NotAReference}
@@ -9,7 +9,7 @@ use Rattle.calls_in_flight.specs.Actors.{IsRefusal, MayTell}
 use Rattle.calls_in_flight.specs.Steps.{slot_at}
 use Rattle.safepoint_gate.specs.Singles.{Loaded, actor}
 use Rattle.barriers.proofs.MovedViews.{in-block}
-use Rattle.mutator.specs.Quick.{Answered, Answers, told_by}
+use Rattle.mutator.specs.Quick.{told_by}
 use Rattle.mutator.proofs.Answering.{answers_by_load}
 use Rattle.mutator.proofs.FoundFields.{answered-since, counts, finds, loads-both, refers-u, refers-w, tells-no_field, tells-no_reference, told-answered}
 use Rattle.mutator.proofs.field_calls.field_of.Goals as goal
@@ -30,10 +30,11 @@ pub returns-in_default-clause-refused : goal.returns-in_default-clause-refused
 returns-in_default-clause-refused c =
     let v = c.args.inside.now.seat.me.0 in
     let u = c.load_own-word.new.self.seat.me.0 in
-    let w = c.tell.new.inside.seat.me.0 in
-    (answered-since v u w c.args.call c.tell.result _ _ c.args.inside.now.single c.load_own-word.ensures.loaded.0
-    (told-answered u w c.args.call (Refused NotAReference) c.tell.result c.slot_place-at.result c.tell.ensures.reply c.tell.ensures.answered),
-    (NotAReference, c.tell.ensures.reply))
+    let w = c.tell.new.inside.seat.me.0 in (
+      answered-since v u w c.args.call c.tell.result _ _ c.args.inside.now.single c.load_own-word.ensures.loaded.0
+          (told-answered u w c.args.call (Refused NotAReference) c.tell.result c.slot_place-at.result c.tell.ensures.reply c.tell.ensures.answered),
+      (NotAReference, c.tell.ensures.reply),
+    )
 
 pub overflow_cast-object : goal.overflow_cast-object
 overflow_cast-object c =
@@ -90,12 +91,14 @@ returns-then-f-field_count-clause-refused c =
     let slot = subst (λ p. Loaded v p None c.load_own-word.result u) at c.load_own-word.ensures.loaded in
     let both = loads-both v u c.args.s c.args.f c.load_own-word.result c.args.call c.requires.quiet c.requires.slot c.requires.call slot c.in-Some.object c.in-Some.ensures w c.load_header.result c.load_header.ensures.loaded in
     let place = heap_at w.map + c.in-Some.object in
-    let n = c.load_header-then-f-field_count.result in
-    (answered-since v w z c.args.call (Refused BadField) _ _ c.args.inside.now.single both
-    (record { place = place; word = n } ∷ [],
-    answers_by_load w z place n c.args.call (Refused BadField) (inr (BadField, refl))
-    (subst (λ (x : Event). Loaded w place (Some x) n z) c.told.ensures c.load_header-then-f-field_count.ensures.loaded)),
-    (BadField, refl))
+    let n = c.load_header-then-f-field_count.result in (
+      answered-since v w z c.args.call (Refused BadField) _ _ c.args.inside.now.single both (
+        record { place = place; word = n } ∷ [],
+        answers_by_load w z place n c.args.call (Refused BadField) (inr (BadField, refl))
+            (subst (λ (x : Event). Loaded w place (Some x) n z) c.told.ensures c.load_header-then-f-field_count.ensures.loaded),
+      ),
+      (BadField, refl),
+    )
 
 pub returns-clause-found : goal.returns-clause-found
 returns-clause-found c =

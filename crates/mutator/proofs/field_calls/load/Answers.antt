@@ -1,4 +1,4 @@
-use Rattle.std.proofs.Common.{◌≡◌, ◌<◌, ◌≤◌, ℕ, ◌+◌, ◌∙◌, refl, sym, ap, subst, length, None}
+use Rattle.std.proofs.Common.{◌≡◌, ◌<◌, ◌≤◌, ℕ, ◌+◌, ◌∙◌, sym, ap, subst, length, None}
 use Rattle.object_layout.specs.declared.calls.Call.TheVariants.{Load}
 use Rattle.object_layout.specs.declared.replies.Refusal.TheVariants.{BadSlot, StackFull}
 use Rattle.object_layout.specs.declared.replies.Reply.TheVariants.{Ok, Refused}
@@ -10,8 +10,8 @@ use Rattle.calls_in_flight.specs.Steps.{length_at, slot_at}
 use Rattle.safepoint_gate.specs.declared.gate.Gate.{Gate}
 use Rattle.safepoint_gate.specs.declared.seats.Inside.{Inside}
 use Rattle.safepoint_gate.specs.Seats.{IsOf}
-use Rattle.safepoint_gate.specs.Singles.{Loaded, Stored, actor}
-use Rattle.barriers.proofs.MovedViews.{first-actor, in-block, loaded-keeps, loads-quiet}
+use Rattle.safepoint_gate.specs.Singles.{Stored, actor}
+use Rattle.barriers.proofs.MovedViews.{in-block, loaded-keeps, loads-quiet}
 use Rattle.mutator.proofs.FoundFields.{answered-since, found-keeps, found-loads, tells-full, told-answered}
 use Rattle.mutator.proofs.SettledLoads.{answers-load, may-length, may-slot}
 use Rattle.mutator.proofs.field_calls.load.Goals as goal
@@ -82,7 +82,7 @@ store_own-requires-clause-own c =
     let told = (found-keeps w u c.args.s c.args.f c.in-Ok.object.0 quiet found).told ∙ (loaded-keeps v w _ _ loaded).told in
     let n = c.stack_length-length.ensures.length ∙ ap (λ (t : Thread). length t.stack) (sym told) in
     let place = at-time (λ m t. slot_at m t c.stack_length-length.result) c.load_barrier-word.new.inside before c.args.gate.now c.map.result c.thread.result c.slot_place.result c.slot_place.ensures c.map.ensures c.thread.ensures c.load_barrier-word.ensures.thread c.field_of.ensures.gate
-        ∙ ap (slot_at u.map (actor u).thread) n in
+    ∙ ap (slot_at u.map (actor u).thread) n in
     subst (λ p. MayStore b.map (actor b) p c.load_barrier-word.result None) (sym place)
     (may-slot u b c.args.s c.args.f c.load_barrier-word.result before.single found.so (subst (λ k. k < STACK_SLOTS) n c.if-length-ge-STACK_SLOTS.false) c.load_barrier-word.ensures.loaded)
 
@@ -100,7 +100,7 @@ store_own-requires-2-clause-own c =
     let told = (found-keeps w u c.args.s c.args.f c.in-Ok.object.0 quiet found).told ∙ (loaded-keeps v w _ _ loaded).told in
     let n = c.stack_length-length.ensures.length ∙ ap (λ (t : Thread). length t.stack) (sym told) in
     let place = at-time (λ m t. slot_at m t c.stack_length-length.result) c.load_barrier-word.new.inside before c.args.gate.now c.map.result c.thread.result c.slot_place.result c.slot_place.ensures c.map.ensures c.thread.ensures c.load_barrier-word.ensures.thread c.field_of.ensures.gate
-        ∙ ap (slot_at u.map (actor u).thread) n in
+    ∙ ap (slot_at u.map (actor u).thread) n in
     let later = at-time length_at c.store_own.new.self before c.args.gate.now c.map-2.result c.thread-2.result c.length_place.result c.length_place.ensures c.map-2.ensures c.thread-2.ensures (c.store_own.ensures.thread ∙ c.load_barrier-word.ensures.thread) c.field_of.ensures.gate in
     subst (λ (x : ℕ × ℕ). MayStore y.map (actor y) x.0 x.1 None) (λ i. (sym later i, sym n i + 1))
     (may-length u b c.args.s c.args.f c.load_barrier-word.result before.single found.so (subst (λ k. k < STACK_SLOTS) n c.if-length-ge-STACK_SLOTS.false) c.load_barrier-word.ensures.loaded y
@@ -121,7 +121,7 @@ returns-clause-answered c =
     let told = (found-keeps w u c.args.s c.args.f c.in-Ok.object.0 quiet found).told ∙ (loaded-keeps v w _ _ loaded).told in
     let n = c.stack_length-length.ensures.length ∙ ap (λ (t : Thread). length t.stack) (sym told) in
     let place = at-time (λ m t. slot_at m t c.stack_length-length.result) c.load_barrier-word.new.inside before c.args.gate.now c.map.result c.thread.result c.slot_place.result c.slot_place.ensures c.map.ensures c.thread.ensures c.load_barrier-word.ensures.thread c.field_of.ensures.gate
-        ∙ ap (slot_at u.map (actor u).thread) n in
+    ∙ ap (slot_at u.map (actor u).thread) n in
     let later = at-time length_at c.store_own.new.self before c.args.gate.now c.map-2.result c.thread-2.result c.length_place.result c.length_place.ensures c.map-2.ensures c.thread-2.ensures (c.store_own.ensures.thread ∙ c.load_barrier-word.ensures.thread) c.field_of.ensures.gate in
     answered-since v w z (Load c.args.s c.args.f) Ok _ _ c.args.inside.now.single loaded.0
     (answered-since w u z (Load c.args.s c.args.f) Ok _ _ c.stack_length-length.new.inside.single found.view

@@ -1,12 +1,10 @@
-use Rattle.std.proofs.Common.{◌≡◌, ◌<◌, ◌≤◌, ℕ, ◌+◌, ◌∙◌, refl, sym, ap, subst, length, None, IfErr, Result, Ok, Err, List, [], ◌∷◌, ◌++◌}
+use Rattle.std.proofs.Common.{◌<◌, ◌∙◌, sym, ap, subst, length, None, IfErr, Result, Ok, Err}
 use Rattle.object_layout.specs.declared.calls.Call.TheVariants.{Store}
 use Rattle.object_layout.specs.declared.replies.Refusal.TheVariants.{BadSlot}
 use Rattle.object_layout.specs.declared.replies.Reply.TheVariants.{Refused}
-use Rattle.heap_words.specs.declared.map.Areas.{Areas}
 use Rattle.yak_model.specs.Graph.{Thread}
 use Rattle.calls_in_flight.specs.Steps.{slot_at}
-use Rattle.safepoint_gate.specs.declared.rule.View.{View}
-use Rattle.safepoint_gate.specs.Singles.{Loaded, actor}
+use Rattle.safepoint_gate.specs.Singles.{Loaded}
 use Rattle.barriers.specs.Barred.{IsLogFull}
 use Rattle.barriers.proofs.MovedViews.{in-block, loaded-keeps, loads-quiet, loads-then}
 use Rattle.mutator.proofs.FoundFields.{answered-since, found-keeps, found-stores, full-since, refused-store, stored-since, told-answered}
