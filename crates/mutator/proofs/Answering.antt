@@ -1,16 +1,12 @@
 -- A call under way: what its thread has loaded since it began, and the entry that ends it.
-use Rattle.std.proofs.Common.{◌≡◌, ◌≢◌, ℕ, zero, suc, ◌+◌, ◌*◌, ◌≤◌, ◌<◌, List, [], ◌∷◌, ◌++◌, length, cond, refl, sym, ap, ◌∙◌, subst, arith, append_assoc, append-nil, inl, inr}
-use Rattle.std.specs.Prelude.{◌⊎◌, ◌==◌, Option, Some, None}
-use Rattle.std.specs.List.{All, Contains}
-use mathlib.Core.Option.{some, some-injective}
-use lib.ListN.{get_elem?}
+use Rattle.std.proofs.Common.{◌≡◌, ℕ, zero, suc, List, [], ◌∷◌, ◌++◌, length, refl, sym, ap, ◌∙◌, subst, arith, append_assoc, append-nil, inl, inr}
+use Rattle.std.specs.Prelude.{Some}
+use mathlib.Core.Option.{some-injective}
 use Rattle.heap_words.specs.declared.map.Areas.{Areas}
 use Rattle.object_layout.specs.declared.calls.Call.{Call}
 use Rattle.object_layout.specs.declared.calls.Call.TheVariants as call
-use Rattle.object_layout.specs.declared.calls.Event.{Event}
 use Rattle.object_layout.specs.declared.replies.Reply.{Reply}
 use Rattle.object_layout.specs.declared.replies.Reply.TheVariants as reply
-use Rattle.object_layout.specs.declared.replies.Refusal.{Refusal}
 use Rattle.yak_model.specs.declared.history.Entry.{Entry}
 use Rattle.yak_model.specs.Spaces.{SpaceState}
 use Rattle.standing_calls.specs.Turned.{IsIdle}
@@ -22,10 +18,10 @@ use Rattle.calls_in_flight.specs.Seeing.{Sees}
 use Rattle.safepoint_gate.specs.declared.rule.Own.{Own}
 use Rattle.safepoint_gate.specs.declared.rule.View.{View}
 use Rattle.safepoint_gate.specs.Rule.{AllMine, Mine}
-use Rattle.safepoint_gate.specs.Singles.{IsSo, Loaded, Says, Stored, Tells, acting, actor, actor_in, loads_in, loads_of, moved, put_in, put_of, with_call}
+use Rattle.safepoint_gate.specs.Singles.{IsSo, Loaded, Stored, acting, actor, actor_in, loads_in, loads_of, moved, put_in, put_of, with_call}
 use Rattle.safepoint_gate.specs.Steps.{first_thread, told}
 use Rattle.yak_model.specs.Continued.{entries_told}
-use Rattle.barriers.specs.Shown.{MustRecord, PutsEntry}
+use Rattle.barriers.specs.Shown.{MustRecord}
 use Rattle.mutator.specs.Quick.{Answers, told_by}
 
 -- ---- what is under way in the one thread of a seat

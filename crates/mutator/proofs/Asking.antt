@@ -1,7 +1,6 @@
 -- What the parts of a short call do, by what the thread knows before and after.
-use Rattle.std.proofs.Common.{◌≡◌, ◌≢◌, ℕ, zero, suc, ◌+◌, ◌*◌, ◌≤◌, ◌<◌, List, [], ◌∷◌, ◌++◌, length, refl, sym, ap, ◌∙◌, subst, arith, inl, inr, append-nil}
-use Rattle.std.specs.Prelude.{◌⊎◌, ◌↔◌, Option, Some, None}
-use Rattle.std.specs.List.{All}
+use Rattle.std.proofs.Common.{◌≡◌, ℕ, ◌+◌, ◌≤◌, ◌<◌, List, [], ◌∷◌, ◌++◌, length, refl, sym, ap, ◌∙◌, subst, arith, inr, append-nil}
+use Rattle.std.specs.Prelude.{◌↔◌, Some, None}
 use Rattle.std.proofs.lemmas.List.Elements.{All-append}
 use Rattle.object_layout.specs.declared.TheConstants.{MAX_DEPTH}
 use Rattle.object_layout.specs.declared.calls.Call.{Call}
@@ -19,17 +18,17 @@ use Rattle.calls_in_flight.specs.Flight.{at_rest}
 use Rattle.calls_in_flight.specs.Actors.{Actor, HasOnly, IsAtRest, MayLoad, Shows, in_block}
 use Rattle.calls_in_flight.specs.OwnStores.{IsPushOf, MayStore, above_stack, begins, done_by, pops, pushes}
 use Rattle.calls_in_flight.specs.Seeing.{slot_told}
-use Rattle.calls_in_flight.specs.Steps.{depth_at, length_at, logged_at, slot_at, with_covers}
+use Rattle.calls_in_flight.specs.Steps.{depth_at, length_at, slot_at, with_covers}
 use Rattle.safepoint_gate.specs.declared.rule.Own.{Own}
 use Rattle.safepoint_gate.specs.declared.rule.View.{View}
-use Rattle.safepoint_gate.specs.Singles.{IsQuiet, IsSo, Loaded, Says, Stored, acting, actor, actor_in, loads_in, loads_of, moved, put_in, put_of, with_call}
+use Rattle.safepoint_gate.specs.Singles.{IsQuiet, IsSo, Loaded, Stored, acting, actor, actor_in, loads_in, loads_of, moved, put_in, put_of, with_call}
 use Rattle.safepoint_gate.specs.Steps.{first_thread, told}
 use Rattle.barriers.specs.Shown.{MustRecord}
-use Rattle.mutator.specs.Making.{AreOwn, Searches}
+use Rattle.mutator.specs.Making.{Searches}
 use Rattle.mutator.specs.Quick.{Answered, Answers, ShowsSlot, told_by}
-use Rattle.mutator.proofs.Answering.{answers_since, flying, thread_in}
+use Rattle.mutator.proofs.Answering.{answers_since, thread_in}
 use Rattle.mutator.proofs.Looking.{Laid, laid, laid_shows, quiet_bare, shows_loaded, stores_lay}
-use Rattle.mutator.proofs.Rooms.{loads_more, map_of, searches_more, searches_one, told_of}
+use Rattle.mutator.proofs.Rooms.{loads_more, map_of, searches_one, told_of}
 
 -- ---- what holds after loads
 

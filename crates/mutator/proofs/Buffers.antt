@@ -1,12 +1,12 @@
 -- What a step behind the closed gate leaves of the store buffers.
-use Rattle.std.proofs.Common.{◌≡◌, ℕ, zero, suc, ◌-◌, ◌≤◌, List, [], ◌∷◌, Bool, true, false, length, get_or, refl, ap, ◌∙◌, arith}
+use Rattle.std.proofs.Common.{◌≡◌, ℕ, zero, suc, ◌-◌, List, [], ◌∷◌, Bool, true, false, length, get_or, refl, ap, arith}
 use Rattle.object_layout.specs.declared.names.Name.{Name}
 use Rattle.object_layout.specs.declared.calls.Call.{Call}
 use Rattle.object_layout.specs.declared.calls.Call.TheVariants as call
 use Rattle.object_layout.specs.declared.replies.Reply.{Reply}
 use Rattle.object_layout.specs.declared.replies.Reply.TheVariants as reply
 use Rattle.heap_words.specs.declared.map.Areas.{Areas}
-use Rattle.heap_words.specs.Contents.{Contents, buffer_of}
+use Rattle.heap_words.specs.Contents.{Contents}
 use Rattle.yak_model.specs.Spaces.{SpaceState}
 use Rattle.yak_model.specs.Continued.{Explains}
 use Rattle.yak_model.specs.declared.history.Entry.{Entry}

@@ -1,22 +1,20 @@
 -- A page that is claimed for a new object.
-use Rattle.std.proofs.Common.{lit<, ◌≡◌, ◌≢◌, ℕ, zero, suc, ◌+◌, ◌-◌, ◌*◌, ◌≤◌, ◌<◌, ◌^◌, Bool, true, false, List, [], ◌∷◌, ◌++◌, length, refl, sym, ap, ◌∙◌, subst, arith, inl, inr}
-use Rattle.std.specs.Prelude.{◌⊎◌, Option, Some, None}
-use Rattle.std.specs.List.{All, Contains}
+use Rattle.std.proofs.Common.{◌≡◌, ◌≢◌, ℕ, ◌+◌, ◌≤◌, ◌<◌, true, List, [], ◌∷◌, ◌++◌, length, refl, sym, ap, ◌∙◌, subst, arith, inl, inr}
+use Rattle.std.specs.Prelude.{◌⊎◌}
+use Rattle.std.specs.List.{Contains}
 use Rattle.heap_words.specs.declared.map.Areas.{Areas}
 use Rattle.heap_words.specs.Map.{pool_at}
 use Rattle.region_pages.specs.declared.TheConstants.{CLAIM_COUNTER, POOL_LENGTH}
 use Rattle.calls_in_flight.specs.declared.notes.Flight.{Flight}
 use Rattle.calls_in_flight.specs.declared.notes.Known.{Known}
 use Rattle.calls_in_flight.specs.Flight.{IsBare, at_rest}
-use Rattle.calls_in_flight.specs.Actors.{Actor, HasMet, Shows, learn, met, under}
+use Rattle.calls_in_flight.specs.Actors.{Actor, HasMet, learn, met}
 use Rattle.calls_in_flight.specs.FieldSteps.{MayLoadPool, entry}
 use Rattle.safepoint_gate.specs.declared.rule.View.{View}
-use Rattle.safepoint_gate.specs.Singles.{Claimed, IsQuiet, IsSo, LoadedPool, actor, loads_of, moved, put_of}
-use Rattle.barriers.specs.Shown.{WasLoaded}
-use Rattle.mutator.specs.declared.new_objects.Room.{Room}
+use Rattle.safepoint_gate.specs.Singles.{Claimed, IsQuiet, LoadedPool, actor, loads_of, put_of}
 use Rattle.mutator.specs.Quick.{ShowsNoPage}
 use Rattle.mutator.specs.Making.{ClaimsNone, ClaimsRoom, Loads}
-use Rattle.mutator.proofs.Answering.{actor_moved, flying, loads_moved, moved_again, put_moved, so_again, thread_in}
+use Rattle.mutator.proofs.Answering.{actor_moved, flying, so_again, thread_in}
 use Rattle.mutator.proofs.Looking.{bare_met, behind, front, learned, met_again, none_in, quiet_bare, split, still_met}
 use Rattle.mutator.proofs.Rooms.{loads_first, loads_more, map_of}
 

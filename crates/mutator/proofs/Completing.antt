@@ -1,10 +1,9 @@
 -- The last words of a new object, and its entry.
-use Rattle.std.proofs.Common.{lit<, ◌≡◌, ◌≢◌, ℕ, zero, suc, ◌+◌, ◌-◌, ◌*◌, ◌≤◌, ◌<◌, Bool, true, false, List, [], ◌∷◌, ◌++◌, length, refl, sym, ap, ◌∙◌, subst, arith, inl, inr, true≢false}
-use Rattle.std.specs.Prelude.{◌⊎◌, Option, Some, None}
-use Rattle.std.specs.List.{All, Contains}
+use Rattle.std.proofs.Common.{lit<, ◌≡◌, ◌≢◌, ℕ, ◌+◌, ◌*◌, ◌≤◌, ◌<◌, Bool, true, false, List, [], ◌∷◌, length, refl, sym, ap, ◌∙◌, subst, arith, inl, inr}
+use Rattle.std.specs.Prelude.{◌⊎◌, Some, None}
+use Rattle.std.specs.List.{All}
 use Rattle.object_layout.specs.declared.TheConstants.{MAX_SERIAL, OBJECT_WORDS}
 use Rattle.object_layout.specs.declared.calls.Call.TheVariants.{New}
-use Rattle.object_layout.specs.declared.calls.Event.{Event}
 use Rattle.object_layout.specs.declared.headers.Header.{Header}
 use Rattle.object_layout.specs.declared.names.Name.{Name}
 use Rattle.object_layout.specs.declared.replies.Reply.TheVariants.{Ok}
@@ -12,25 +11,23 @@ use Rattle.object_layout.specs.Layout.{header_word, name_word}
 use Rattle.yak_model.specs.Graph.{Thread}
 use Rattle.heap_words.specs.declared.TheConstants.{STACK_SLOTS}
 use Rattle.heap_words.specs.declared.map.Areas.{Areas}
-use Rattle.heap_words.specs.Map.{HasThread, block_at, heap_at, max_depth, page_at, page_words, pool_at, stack_start, table_at}
-use Rattle.region_pages.specs.declared.TheConstants.{SPACE_WORD, USED_MARK}
+use Rattle.heap_words.specs.Map.{HasThread, block_at, heap_at, page_words, stack_start, table_at}
 use Rattle.epoch_lattice.specs.Lattice.{inner_of, space_index}
 use Rattle.calls_in_flight.specs.declared.notes.Cover.{Cover}
 use Rattle.calls_in_flight.specs.declared.notes.Flight.{Flight}
-use Rattle.calls_in_flight.specs.Flight.{IsBare, at_rest}
+use Rattle.calls_in_flight.specs.Flight.{IsBare}
 use Rattle.calls_in_flight.specs.Actors.{Actor, HasMet, Shows}
-use Rattle.calls_in_flight.specs.Making.{LiesAt}
-use Rattle.calls_in_flight.specs.OwnStores.{IsLaid, IsMade, MayStore, Placing, above_stack, counts, done_by, front_of, in_current, makes, on_claimed, placed_words}
+use Rattle.calls_in_flight.specs.OwnStores.{IsLaid, IsMade, MayStore, Placing, above_stack, counts, done_by, in_current, makes, on_claimed}
 use Rattle.calls_in_flight.specs.Steps.{current_at, length_at, logged_at, made_at, slot_at, with_covers}
 use Rattle.safepoint_gate.specs.declared.rule.View.{View}
-use Rattle.safepoint_gate.specs.Singles.{Stored, actor, loads_of, moved, put_of}
+use Rattle.safepoint_gate.specs.Singles.{Stored, actor}
 use Rattle.mutator.specs.declared.new_objects.Room.{Room}
 use Rattle.mutator.specs.Quick.{Answers, told_by}
-use Rattle.mutator.specs.Making.{EntersPage, Flies, HasRoom, KeepsShown, WritesObject, entry_over, mark_over, page_over}
+use Rattle.mutator.specs.Making.{EntersPage, Flies, HasRoom, WritesObject, entry_over, mark_over, page_over}
 use Rattle.mutator.proofs.Answering.{answers_by_store, flying}
-use Rattle.mutator.proofs.Looking.{Laid, bare_met, front, laid, stores_lay}
+use Rattle.mutator.proofs.Looking.{Laid, bare_met, stores_lay}
 use Rattle.mutator.proofs.Placed.{block_below, flies_is, flies_map, flies_more, placing_of, pool_below, room_kept, table_below}
-use Rattle.mutator.proofs.Entering.{bare_low, bare_more, cover_at, current_low, laid_flight, laid_keeps, laid_map, laid_met, logged_low, page_low}
+use Rattle.mutator.proofs.Entering.{bare_low, bare_more, cover_at, laid_flight, laid_keeps, laid_met}
 
 either : (b : Bool) → (b ≡ false) ⊎ (b ≡ true)
 either false = inl refl

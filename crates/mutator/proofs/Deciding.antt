@@ -1,31 +1,31 @@
 -- A new object: what its thread looks at first, and how the call ends.
-use Rattle.std.proofs.Common.{lit<, ◌≡◌, ◌≢◌, ℕ, ◌+◌, ◌-◌, ◌*◌, ◌≤◌, ◌<◌, List, [], ◌∷◌, ◌++◌, length, refl, sym, ap, ◌∙◌, subst, arith, inl, inr, append-nil}
-use Rattle.std.specs.Prelude.{◌⊎◌, Option, Some, None}
+use Rattle.std.proofs.Common.{lit<, ◌≡◌, ℕ, ◌+◌, ◌≤◌, ◌<◌, List, [], ◌++◌, length, sym, ap, ◌∙◌, subst, arith, inl, inr, append-nil}
+use Rattle.std.specs.Prelude.{None}
 use Rattle.std.proofs.lemmas.List.Elements.{Contains-append_right}
 use Rattle.object_layout.specs.declared.TheConstants.{MAX_FIELDS, MAX_SERIAL, OBJECT_WORDS}
 use Rattle.object_layout.specs.declared.calls.Call.TheVariants.{New}
 use Rattle.object_layout.specs.declared.replies.Refusal.TheVariants as refusal
 use Rattle.object_layout.specs.declared.replies.Reply.TheVariants as reply
 use Rattle.yak_model.specs.Graph.{Thread, refusal_of}
-use Rattle.heap_words.specs.declared.TheConstants.{HEAD_WORDS, STACK_SLOTS}
+use Rattle.heap_words.specs.declared.TheConstants.{STACK_SLOTS}
 use Rattle.heap_words.specs.declared.map.Areas.{Areas}
-use Rattle.heap_words.specs.Map.{HasThread, max_depth, page_at, pool_at, table_at}
+use Rattle.heap_words.specs.Map.{HasThread, max_depth, page_at, pool_at}
 use Rattle.region_pages.specs.declared.TheConstants.{USED_MARK}
 use Rattle.calls_in_flight.specs.declared.notes.Known.{Known}
 use Rattle.calls_in_flight.specs.Actors.{Actor, MayTell, Shows}
-use Rattle.calls_in_flight.specs.Steps.{current_at, depth_at, length_at, made_at}
+use Rattle.calls_in_flight.specs.Steps.{current_at, depth_at, made_at}
 use Rattle.safepoint_gate.specs.declared.rule.View.{View}
-use Rattle.safepoint_gate.specs.Singles.{IsQuiet, IsSo, Loaded, actor, loads_of, moved, put_of}
+use Rattle.safepoint_gate.specs.Singles.{IsQuiet, Loaded, actor, loads_of, moved, put_of}
 use Rattle.safepoint_gate.specs.Steps.{first_thread}
 use Rattle.barriers.specs.Shown.{WasLoaded}
 use Rattle.mutator.specs.declared.new_objects.Room.{Room}
 use Rattle.mutator.specs.Quick.{Answers, AnswersNew, FindsNoPage, ShowsFull, ShowsNoPage, told_by}
-use Rattle.mutator.specs.Making.{GetsNone, GetsRoom, Loads, Searches}
+use Rattle.mutator.specs.Making.{GetsNone, GetsRoom, Searches}
 use Rattle.mutator.proofs.Answering.{answers_since, flying, thread_in}
 use Rattle.mutator.proofs.Looking.{shows_loaded}
 use Rattle.mutator.proofs.Rooms.{loads_more, map_of, searches_more, told_of}
 use Rattle.mutator.proofs.Placed.{block_below, table_below}
-use Rattle.mutator.proofs.Trying.{found_later, let_new, none_later, own_finds, tells_spent}
+use Rattle.mutator.proofs.Trying.{found_later, let_new, none_later, tells_spent}
 use Rattle.mutator.proofs.Asking.{map_still, quiet_still, rests_still, thread_still, told_still}
 
 -- ---- the number made and the depth

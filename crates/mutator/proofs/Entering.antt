@@ -1,25 +1,23 @@
 -- What a thread stores of the page of a new object.
-use Rattle.std.proofs.Common.{lit<, ◌≡◌, ◌≢◌, ℕ, zero, suc, ◌+◌, ◌-◌, ◌*◌, ◌≤◌, ◌<◌, Bool, true, false, List, [], ◌∷◌, ◌++◌, length, refl, sym, ap, ◌∙◌, subst, arith, inl, inr, true≢false}
-use Rattle.std.specs.Prelude.{◌⊎◌, Option, Some, None}
+use Rattle.std.proofs.Common.{lit<, ◌≡◌, ◌≢◌, ℕ, zero, suc, ◌+◌, ◌≤◌, ◌<◌, true, false, List, [], ◌∷◌, length, sym, ap, ◌∙◌, subst, arith, true≢false}
+use Rattle.std.specs.Prelude.{None}
 use Rattle.std.specs.List.{All, Contains}
 use Rattle.object_layout.specs.declared.TheConstants.{OBJECT_WORDS}
-use Rattle.yak_model.specs.Graph.{Thread}
 use Rattle.heap_words.specs.declared.map.Areas.{Areas}
-use Rattle.heap_words.specs.Map.{HasThread, heap_at, max_depth, page_at, page_words, pool_at, table_at}
+use Rattle.heap_words.specs.Map.{HasThread, heap_at, max_depth, page_at, table_at}
 use Rattle.region_pages.specs.declared.TheConstants.{SPACE_WORD, USED_MARK}
 use Rattle.epoch_lattice.specs.Lattice.{inner_of, space_index}
 use Rattle.calls_in_flight.specs.declared.notes.Cover.{Cover}
 use Rattle.calls_in_flight.specs.declared.notes.Flight.{Flight}
-use Rattle.calls_in_flight.specs.Flight.{IsBare, at_rest}
+use Rattle.calls_in_flight.specs.Flight.{IsBare}
 use Rattle.calls_in_flight.specs.Actors.{Actor, HasMet, Shows}
-use Rattle.calls_in_flight.specs.OwnStores.{IsInCurrent, MayStore, Placing, enters, marks, placed_words, turns}
+use Rattle.calls_in_flight.specs.OwnStores.{MayStore, enters, marks, turns}
 use Rattle.calls_in_flight.specs.Steps.{current_at, logged_at, with_covers}
 use Rattle.safepoint_gate.specs.declared.rule.View.{View}
-use Rattle.safepoint_gate.specs.Singles.{Stored, actor, loads_of, moved, put_of}
+use Rattle.safepoint_gate.specs.Singles.{Stored, actor}
 use Rattle.mutator.specs.declared.new_objects.Room.{Room}
-use Rattle.mutator.specs.Making.{EntersPage, Flies, HasRoom, KeepsShown, entry_over, mark_over, page_over}
-use Rattle.mutator.proofs.Answering.{flying}
-use Rattle.mutator.proofs.Looking.{Laid, bare_met, front, laid, laid_shows, learned, still_met, stores_lay}
+use Rattle.mutator.specs.Making.{EntersPage, HasRoom, KeepsShown}
+use Rattle.mutator.proofs.Looking.{Laid, bare_met, front, laid_shows, still_met, stores_lay}
 use Rattle.mutator.proofs.Placed.{block_below, flies_more, placing_of, pool_below, room_kept, table_below}
 
 abbrev pub cover_at : ℕ → ℕ → ℕ → Cover

@@ -1,21 +1,18 @@
 -- What a thread knows of the words that it has met, as it meets and stores more of them.
-use Rattle.std.proofs.Common.{◌≡◌, ◌≢◌, ℕ, zero, suc, ◌+◌, ◌*◌, ◌≤◌, ◌<◌, Bool, true, false, List, [], ◌∷◌, ◌++◌, length, cond, refl, sym, ap, ◌∙◌, subst, arith, inl, inr, append-nil}
-use Rattle.std.specs.Prelude.{◌⊎◌, ◌==◌, Option, Some, None}
-use Rattle.std.specs.List.{All, Contains}
+use Rattle.std.proofs.Common.{◌≡◌, ◌≢◌, ℕ, zero, suc, Bool, List, [], ◌∷◌, ◌++◌, length, cond, refl, sym, ap, ◌∙◌, subst, arith, inl, inr}
+use Rattle.std.specs.Prelude.{◌⊎◌, None}
+use Rattle.std.specs.List.{Contains}
 use Rattle.std.proofs.lemmas.Bool.{cases_eq, eq-eqb, ne_eqb}
 use Rattle.std.proofs.lemmas.List.Elements.{All-contains}
-use Rattle.heap_words.specs.declared.map.Areas.{Areas}
 use Rattle.calls_in_flight.specs.declared.notes.Cover.{Cover}
 use Rattle.calls_in_flight.specs.declared.notes.Flight.{Flight}
 use Rattle.calls_in_flight.specs.declared.notes.Known.{Known}
-use Rattle.calls_in_flight.specs.Flight.{IsBare, at_rest}
+use Rattle.calls_in_flight.specs.Flight.{IsBare}
 use Rattle.calls_in_flight.specs.Actors.{Actor, HasMet, Shows, forget, learn, met, under}
-use Rattle.calls_in_flight.specs.OwnStores.{HasNoRoomFor, IsInCurrent, Placing}
 use Rattle.calls_in_flight.specs.Steps.{length_at, logged_at, with_covers}
 use Rattle.safepoint_gate.specs.declared.rule.View.{View}
 use Rattle.safepoint_gate.specs.declared.rule.Own.{Own}
 use Rattle.safepoint_gate.specs.Singles.{IsQuiet, Loaded, Stored, actor, actor_in, loads_of, moved, put_of}
-use Rattle.safepoint_gate.specs.Steps.{first_thread}
 use Rattle.mutator.proofs.Answering.{actor_moved, flying, thread_in}
 
 -- ---- lists

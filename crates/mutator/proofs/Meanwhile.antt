@@ -37,9 +37,9 @@ use Rattle.mutator.specs.Running.{view_in}
 use Rattle.safepoint_gate.specs.declared.rule.Place.TheVariants.{Inside}
 use Rattle.safepoint_gate.specs.declared.rule.View.{View}
 use Rattle.safepoint_gate.specs.Rule.{AllMine}
-use Rattle.safepoint_gate.specs.Singles.{IsQuiet, Loaded, Says, actor, actor_in, loads_in, loads_of, moved, put_in, put_of, with_call}
+use Rattle.safepoint_gate.specs.Singles.{IsQuiet, Loaded, Says, actor, actor_in, loads_in, loads_of, put_in, put_of, with_call}
 use Rattle.safepoint_gate.specs.Steps.{first_known, first_thread, flushed, told}
-use Rattle.barriers.specs.Barred.{IsLogFull, OnlyLoads}
+use Rattle.barriers.specs.Barred.{OnlyLoads}
 use Rattle.mutator.specs.Calls.{FlushesBuffers, Makes, MakesCall}
 use Rattle.mutator.specs.Quick.{Answered, Answers, AnswersOrCollects, AnswersStore, at_once, closed, told_by}
 use Rattle.mutator.specs.Callers.{first_told}

@@ -1,23 +1,23 @@
 -- What a thread knows of the room for a new object, as it stores words of its own.
-use Rattle.std.proofs.Common.{lit<, ◌≡◌, ◌≢◌, ℕ, zero, suc, ◌+◌, ◌-◌, ◌*◌, ◌≤◌, ◌<◌, ◌^◌, Bool, true, false, List, [], ◌∷◌, ◌++◌, length, refl, sym, ap, ◌∙◌, subst, arith, inl, inr, append-nil}
-use Rattle.std.specs.Prelude.{◌⊎◌, Option, Some, None}
-use Rattle.std.specs.List.{All, Contains}
+use Rattle.std.proofs.Common.{lit<, ◌≡◌, ◌≢◌, ℕ, zero, suc, ◌+◌, ◌≤◌, ◌<◌, Bool, true, false, List, [], ◌∷◌, length, refl, sym, ap, ◌∙◌, subst, arith, inl, inr}
+use Rattle.std.specs.Prelude.{◌⊎◌, None}
+use Rattle.std.specs.List.{All}
 use Rattle.std.proofs.lemmas.Bool.{cases_eq}
-use Rattle.object_layout.specs.declared.TheConstants.{MAX_FIELDS, OBJECT_WORDS}
+use Rattle.object_layout.specs.declared.TheConstants.{OBJECT_WORDS}
 use Rattle.object_layout.specs.declared.headers.Header.{Header}
 use Rattle.object_layout.specs.declared.names.Name.{Name}
 use Rattle.object_layout.specs.Layout.{header_word, name_word}
 use Rattle.yak_model.specs.Graph.{Thread}
 use Rattle.heap_words.specs.declared.map.Areas.{Areas}
-use Rattle.heap_words.specs.Map.{HasThread, heap_at, heap_length, max_depth, page_at, page_words, pool_at, table_at, block_at, block_words}
-use Rattle.region_pages.specs.declared.TheConstants.{SPACE_WORD, USED_MARK}
+use Rattle.heap_words.specs.Map.{HasThread, heap_at, max_depth, page_at, pool_at, table_at, block_at, block_words}
+use Rattle.region_pages.specs.declared.TheConstants.{USED_MARK}
 use Rattle.calls_in_flight.specs.declared.notes.Cover.{Cover}
 use Rattle.calls_in_flight.specs.declared.notes.Flight.{Flight}
 use Rattle.calls_in_flight.specs.declared.notes.Known.{Known}
 use Rattle.calls_in_flight.specs.Flight.{IsBare, at_rest}
-use Rattle.calls_in_flight.specs.Actors.{Actor, HasMet, Shows, learn, met, under}
+use Rattle.calls_in_flight.specs.Actors.{Actor, HasMet, Shows}
 use Rattle.calls_in_flight.specs.Making.{LiesAt}
-use Rattle.calls_in_flight.specs.OwnStores.{HasNoRoomFor, IsInCurrent, MayStore, Placing, front_of, in_object, placed_words}
+use Rattle.calls_in_flight.specs.OwnStores.{HasNoRoomFor, IsInCurrent, MayStore, Placing, front_of, in_object}
 use Rattle.calls_in_flight.specs.Steps.{current_at, logged_at, with_covers}
 use Rattle.safepoint_gate.specs.declared.rule.Own.{Own}
 use Rattle.safepoint_gate.specs.declared.rule.View.{View}
@@ -26,7 +26,7 @@ use Rattle.safepoint_gate.specs.Singles.{Stored, acting, actor, actor_in, loads_
 use Rattle.mutator.specs.declared.new_objects.Room.{Room}
 use Rattle.mutator.specs.Making.{Flies, HasRoom, KeepsShown, WritesObject}
 use Rattle.mutator.proofs.Answering.{actor_moved, flying, loads_moved, moved_again, put_moved, thread_in}
-use Rattle.mutator.proofs.Looking.{Laid, behind, front, laid, laid_shows, learned, moved_own, still_met, stores_lay}
+use Rattle.mutator.proofs.Looking.{Laid, front, laid_shows, learned, still_met, stores_lay}
 
 -- ---- views
 

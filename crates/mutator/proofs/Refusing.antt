@@ -1,10 +1,8 @@
 -- What a thread may tell by what it knows: that a call is refused, or what it shows.
-use Rattle.std.proofs.Common.{◌≡◌, ◌≢◌, ℕ, ◌+◌, ◌*◌, ◌≤◌, ◌<◌, Bool, true, false, List, [], ◌∷◌, length, cond, leb, refl, sym, ap, ◌∙◌, subst, arith, inl, inr, Some, None, MatchOption}
-use Rattle.std.specs.Prelude.{◌⊎◌}
+use Rattle.std.proofs.Common.{◌≡◌, ◌≢◌, ℕ, ◌≤◌, ◌<◌, Bool, true, false, List, [], ◌∷◌, length, cond, refl, sym, ap, ◌∙◌, subst, arith, inl, inr, Some, MatchOption}
 use Rattle.std.proofs.lemmas.Bool.{le-leb, lt-leb}
 use Rattle.heap_words.specs.declared.map.Areas.{Areas}
 use Rattle.heap_words.specs.declared.TheConstants.{STACK_SLOTS}
-use Rattle.heap_words.specs.Map.{heap_at}
 use Rattle.object_layout.specs.declared.TheConstants.{MAX_DEPTH}
 use Rattle.object_layout.specs.declared.calls.Call.{Call}
 use Rattle.object_layout.specs.declared.calls.Call.TheVariants as call
@@ -13,10 +11,7 @@ use Rattle.object_layout.specs.declared.replies.Refusal.TheVariants as refusal
 use Rattle.object_layout.specs.declared.replies.Reply.{Reply}
 use Rattle.object_layout.specs.declared.replies.Reply.TheVariants as reply
 use Rattle.object_layout.specs.Calls.{IsCall}
-use Rattle.yak_model.specs.declared.datum.Datum.{Datum}
-use Rattle.yak_model.specs.declared.datum.Datum.TheVariants as datum
-use Rattle.yak_model.specs.Graph.{Does, Graph, Limits, Thread, answers, first_refusal, is_bad_slot, is_stack_full, refusal_of, shown, slot_of, stack_of, thread_of}
-use Rattle.standing_calls.specs.Turned.{IsIdle}
+use Rattle.yak_model.specs.Graph.{Does, Graph, Limits, Thread, first_refusal, is_bad_slot, is_stack_full, refusal_of, shown, slot_of, stack_of, thread_of}
 use Rattle.calls_in_flight.specs.Actors.{Actor, Agrees, IsAnswered, IsAtRest, IsLet, IsQuick, MayTell}
 use Rattle.calls_in_flight.specs.Kinds.{IsPlainReply}
 use Rattle.calls_in_flight.specs.OwnStores.{IsPushOf}

@@ -1,28 +1,24 @@
 -- The search for room of a thread that makes an object.
-use Rattle.std.proofs.Common.{lit<, ◌≡◌, ◌≢◌, ℕ, zero, suc, ◌+◌, ◌-◌, ◌*◌, ◌≤◌, ◌<◌, ◌^◌, Bool, true, false, List, [], ◌∷◌, ◌++◌, length, refl, sym, ap, ◌∙◌, subst, arith, inl, inr, append-nil, append_assoc}
-use Rattle.std.specs.Prelude.{◌⊎◌, Option, Some, None}
-use Rattle.std.specs.List.{All, Contains}
-use Rattle.std.proofs.lemmas.List.Elements.{All-append, All-contains, Contains-append_cases, Contains-append_left, Contains-append_right}
+use Rattle.std.proofs.Common.{lit<, ◌≡◌, ◌≢◌, ℕ, zero, suc, ◌+◌, ◌-◌, ◌≤◌, ◌<◌, false, List, [], ◌∷◌, ◌++◌, length, refl, sym, ap, ◌∙◌, subst, arith, inl, inr, append_assoc}
+use Rattle.std.specs.Prelude.{None}
+use Rattle.std.proofs.lemmas.List.Elements.{All-append, Contains-append_left, Contains-append_right}
 use Rattle.heap_words.specs.declared.TheConstants.{HEAD_WORDS}
 use Rattle.heap_words.specs.declared.map.Areas.{Areas}
-use Rattle.heap_words.specs.Map.{HasThread, IsAreas, heap_at, max_depth, page_at, page_words, pool_at}
-use Rattle.region_pages.specs.declared.TheConstants.{CLAIM_COUNTER, POOL_LENGTH, USED_MARK}
+use Rattle.heap_words.specs.Map.{max_depth, page_at, page_words}
+use Rattle.region_pages.specs.declared.TheConstants.{USED_MARK}
 use Rattle.calls_in_flight.specs.declared.notes.Flight.{Flight}
 use Rattle.calls_in_flight.specs.declared.notes.Known.{Known}
-use Rattle.calls_in_flight.specs.Flight.{IsBare, at_rest}
-use Rattle.calls_in_flight.specs.Actors.{Actor, HasMet, HoldsPage, MayLoad, Shows, in_entry, learn, met, under}
-use Rattle.calls_in_flight.specs.FieldSteps.{MayLoadPool, counter, entry, size}
-use Rattle.calls_in_flight.specs.OwnStores.{HasNoRoomFor, IsInCurrent}
+use Rattle.calls_in_flight.specs.Flight.{at_rest}
+use Rattle.calls_in_flight.specs.Actors.{Actor, HoldsPage, MayLoad, Shows, in_entry}
+use Rattle.calls_in_flight.specs.OwnStores.{IsInCurrent}
 use Rattle.calls_in_flight.specs.Steps.{current_at}
 use Rattle.safepoint_gate.specs.declared.rule.View.{View}
-use Rattle.safepoint_gate.specs.Singles.{Claimed, IsQuiet, IsSo, Loaded, LoadedPool, actor, loads_of, moved, put_of}
+use Rattle.safepoint_gate.specs.Singles.{IsQuiet, Loaded, actor, loads_of, moved, put_of}
 use Rattle.safepoint_gate.specs.Steps.{first_thread}
 use Rattle.barriers.specs.Shown.{WasLoaded}
-use Rattle.mutator.specs.declared.new_objects.Room.{Room}
-use Rattle.mutator.specs.Quick.{ShowsFull, ShowsNoPage}
-use Rattle.mutator.specs.Making.{AreOwn, ClaimsNone, ClaimsRoom, FindsNone, FindsRoom, Flies, KeepsShown, Loads, Searches}
-use Rattle.mutator.proofs.Answering.{actor_moved, flying, loads_moved, moved_again, put_moved, so_again, thread_in, thread_moved}
-use Rattle.mutator.proofs.Looking.{bare_met, behind, front, learned, loaded_is, loaded_met, loaded_same, loaded_shows, met_again, moved_own, none_in, quiet_bare, shows_loaded, split, still_met}
+use Rattle.mutator.specs.Making.{AreOwn, FindsNone, FindsRoom, Loads, Searches}
+use Rattle.mutator.proofs.Answering.{actor_moved, flying, loads_moved, moved_again, put_moved, thread_in}
+use Rattle.mutator.proofs.Looking.{front, loaded_is, loaded_same, loaded_shows, moved_own, shows_loaded}
 
 -- ---- loads, one after another
 

@@ -1,8 +1,7 @@
 -- A new object, as its thread looks whether it can be made.
-use Rattle.std.proofs.Common.{lit<, ◌≡◌, ◌≢◌, ℕ, zero, suc, ◌+◌, ◌-◌, ◌*◌, ◌≤◌, ◌<◌, Bool, true, false, List, [], ◌∷◌, ◌++◌, length, cond, ltb, leb, refl, sym, ap, ◌∙◌, subst, arith, inl, inr, true≢false, append-nil}
-use Rattle.std.specs.Prelude.{◌⊎◌, Option, Some, None, Result, Ok, Err, IfErr}
-use Rattle.std.specs.List.{All, Contains}
-use Rattle.std.proofs.lemmas.Bool.{le-leb, lt-leb, lt-ltb, le-ltb}
+use Rattle.std.proofs.Common.{lit<, ◌≡◌, ℕ, ◌+◌, ◌-◌, ◌≤◌, ◌<◌, Bool, true, false, List, [], ◌∷◌, ◌++◌, length, cond, ltb, leb, sym, ap, ◌∙◌, subst, arith, inl, inr, true≢false}
+use Rattle.std.specs.Prelude.{Some, None, Result, Ok, Err, IfErr}
+use Rattle.std.proofs.lemmas.Bool.{le-leb, lt-leb, le-ltb}
 use Rattle.std.proofs.lemmas.List.Elements.{All-append, All-contains, Contains-append_cases, Contains-append_left, Contains-append_right}
 use Rattle.object_layout.specs.declared.TheConstants.{MAX_FIELDS, MAX_SERIAL, OBJECT_WORDS}
 use Rattle.object_layout.specs.declared.calls.Call.TheVariants.{New}
@@ -10,32 +9,28 @@ use Rattle.object_layout.specs.declared.replies.Refusal.{Refusal}
 use Rattle.object_layout.specs.declared.replies.Refusal.TheVariants as refusal
 use Rattle.object_layout.specs.declared.replies.Reply.{Reply}
 use Rattle.object_layout.specs.declared.replies.Reply.TheVariants as reply
-use Rattle.yak_model.specs.Graph.{Graph, Limits, Thread, first_refusal, is_stack_full, refusal_of, thread_of}
+use Rattle.yak_model.specs.Graph.{Graph, Limits, Thread, first_refusal, refusal_of, thread_of}
 use Rattle.heap_words.specs.declared.TheConstants.{HEAD_WORDS, STACK_SLOTS}
 use Rattle.heap_words.specs.declared.map.Areas.{Areas}
-use Rattle.heap_words.specs.Map.{HasThread, block_at, max_depth, page_at, page_words, pool_at, table_at}
+use Rattle.heap_words.specs.Map.{HasThread, page_at, pool_at}
 use Rattle.region_pages.specs.declared.TheConstants.{CLAIM_COUNTER, POOL_LENGTH, USED_MARK}
-use Rattle.calls_in_flight.specs.declared.notes.Flight.{Flight}
 use Rattle.calls_in_flight.specs.declared.notes.Known.{Known}
 use Rattle.calls_in_flight.specs.Flight.{at_rest}
 use Rattle.calls_in_flight.specs.Actors.{Actor, Agrees, IsAtRest, MayTell, Shows}
-use Rattle.calls_in_flight.specs.OwnStores.{HasNoRoomFor, IsInCurrent}
-use Rattle.calls_in_flight.specs.Steps.{current_at, made_at}
+use Rattle.calls_in_flight.specs.OwnStores.{HasNoRoomFor}
+use Rattle.calls_in_flight.specs.Steps.{current_at}
 use Rattle.safepoint_gate.specs.declared.rule.View.{View}
-use Rattle.safepoint_gate.specs.Singles.{IsQuiet, IsSo, Loaded, actor, loads_of, moved, put_of}
-use Rattle.safepoint_gate.specs.Steps.{first_thread}
-use Rattle.barriers.specs.Barred.{OnlyLoads}
+use Rattle.safepoint_gate.specs.Singles.{IsQuiet, actor}
 use Rattle.barriers.specs.Shown.{WasLoaded}
 use Rattle.mutator.specs.declared.new_objects.Room.{Room}
-use Rattle.mutator.specs.Quick.{Answers, AnswersNew, FindsNoPage, ShowsFull, ShowsNoPage, told_by}
-use Rattle.mutator.specs.Making.{AreOwn, ClaimsNone, ClaimsRoom, FindsNone, FindsRoom, GetsNone, GetsRoom, HasRoom, Loads, Searches}
+use Rattle.mutator.specs.Quick.{Answers, AnswersNew, ShowsFull, ShowsNoPage, told_by}
+use Rattle.mutator.specs.Making.{AreOwn, ClaimsNone, ClaimsRoom, FindsNone, FindsRoom, GetsNone, GetsRoom, Searches}
 use Rattle.mutator.proofs.Answering.{answers_since, flying, thread_in}
-use Rattle.mutator.proofs.Looking.{quiet_bare, shows_loaded}
-use Rattle.mutator.proofs.Rooms.{loads_more, map_of, one_own, searches_more, searches_one, told_of}
-use Rattle.mutator.proofs.Placed.{block_below, table_below}
+use Rattle.mutator.proofs.Rooms.{loads_more, map_of, one_own, told_of}
+use Rattle.mutator.proofs.Placed.{table_below}
 use Rattle.mutator.proofs.Entering.{current_low}
 use Rattle.mutator.proofs.Refusing.{not_full, tells_refusal}
-use Rattle.mutator.proofs.Asking.{map_still, rests, thread_still, told_still}
+use Rattle.mutator.proofs.Asking.{map_still, rests, thread_still}
 
 -- ---- loads and no loads of the pool
 

@@ -10,8 +10,8 @@ use Rattle.heap_words.specs.declared.map.Areas.{Areas}
 use Rattle.heap_words.specs.Map.{IsAreas, heap_at, heap_length}
 use Rattle.yak_model.specs.declared.datum.Datum.{Datum}
 use Rattle.yak_model.specs.declared.datum.Datum.TheVariants as datum
-use Rattle.yak_model.specs.Graph.{Graph, fields_at, shown, slot_of}
-use Rattle.calls_in_flight.specs.Actors.{Actor, Agrees, HasMet, IsAnswered, RefersTo, Shows}
+use Rattle.yak_model.specs.Graph.{Graph, fields_at, shown}
+use Rattle.calls_in_flight.specs.Actors.{HasMet, IsAnswered, RefersTo, Shows}
 use Rattle.calls_in_flight.specs.FieldSteps.{IsWordFor}
 use Rattle.calls_in_flight.specs.Steps.{slot_at}
 use Rattle.calls_in_flight.specs.Seeing.{IsHeaderIn, slot_told}
@@ -19,7 +19,6 @@ use Rattle.safepoint_gate.specs.declared.rule.View.{View}
 use Rattle.safepoint_gate.specs.Singles.{IsSo, Loaded, actor}
 use Rattle.mutator.specs.Making.{Searches}
 use Rattle.mutator.specs.Quick.{ShowsSlot}
-use Rattle.mutator.proofs.Asking.{slot_still}
 use Rattle.mutator.proofs.Looking.{loaded_met}
 use Rattle.mutator.proofs.Refusing.{get_answered, slot_is}
 use Rattle.mutator.proofs.Rooms.{searches_one}

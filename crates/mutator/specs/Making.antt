@@ -1,5 +1,5 @@
 -- What the parts of a new object's making do before its entry is told.
-use Rattle.std.specs.Prelude.{◌≡◌, ℕ, ◌+◌, ◌≤◌, ◌<◌, List, [], ◌∷◌, ◌++◌, Bool, true, false}
+use Rattle.std.specs.Prelude.{◌≡◌, ℕ, ◌+◌, ◌≤◌, ◌<◌, List, [], ◌∷◌, ◌++◌, true, false}
 use Rattle.std.specs.List.{All}
 use Rattle.object_layout.specs.declared.TheConstants.{MAX_FIELDS, OBJECT_WORDS}
 use Rattle.object_layout.specs.declared.headers.Header.{Header}
@@ -11,7 +11,6 @@ use Rattle.heap_words.specs.Map.{heap_at, max_depth, page_at, page_words, pool_a
 use Rattle.epoch_lattice.specs.Lattice.{inner_of, space_index}
 use Rattle.region_pages.specs.declared.TheConstants.{SPACE_WORD, USED_MARK}
 use Rattle.calls_in_flight.specs.declared.notes.Cover.{Cover}
-use Rattle.calls_in_flight.specs.declared.notes.Flight.{Flight}
 use Rattle.calls_in_flight.specs.declared.notes.Known.{Known}
 use Rattle.calls_in_flight.specs.Actors.{Actor, HasMet, Shows}
 use Rattle.calls_in_flight.specs.Flight.{at_rest}

@@ -1,8 +1,8 @@
 -- What the calls do that wait for nobody.
-use Rattle.std.specs.Prelude.{◌≡◌, ◌≢◌, ◌⊎◌, ℕ, ◌+◌, ◌≤◌, ◌<◌, List, [], ◌∷◌, ◌++◌, length, None, false}
+use Rattle.std.specs.Prelude.{◌≡◌, ◌≢◌, ◌⊎◌, ℕ, ◌+◌, ◌≤◌, ◌<◌, List, ◌++◌, length, None, false}
 use Rattle.object_layout.specs.declared.TheConstants.{OBJECT_WORDS}
 use Rattle.object_layout.specs.declared.calls.Call.{Call}
-use Rattle.object_layout.specs.declared.calls.Call.TheVariants.{New, Store}
+use Rattle.object_layout.specs.declared.calls.Call.TheVariants.{New}
 use Rattle.object_layout.specs.declared.calls.Event.{Event}
 use Rattle.object_layout.specs.declared.replies.Reply.{Reply}
 use Rattle.object_layout.specs.declared.replies.Reply.TheVariants.{Ok, OutOfHeap}
@@ -19,7 +19,7 @@ use Rattle.heap_core.specs.Steps.{plain}
 use Rattle.safepoint_gate.specs.declared.rule.View.{View}
 use Rattle.safepoint_gate.specs.Singles.{IsSo, Says, acting, actor, loads_of, put_of}
 use Rattle.safepoint_gate.specs.Steps.{first_thread}
-use Rattle.barriers.specs.Barred.{IsLogFull, OnlyLoads}
+use Rattle.barriers.specs.Barred.{OnlyLoads}
 use Rattle.barriers.specs.Shown.{MustRecord, PutsEntry, WasLoaded}
 use Rattle.mutator.specs.Calls.{MakesCall}
 

@@ -1,10 +1,9 @@
-use Rattle.std.proofs.Common.{◌≡◌, ◌∙◌, ◌+◌, ◌<◌, ℕ, sym, ap, subst, refl, arith}
+use Rattle.std.proofs.Common.{◌≡◌, ◌∙◌, ◌+◌, ℕ, sym, ap, subst}
 use Rattle.std.specs.Prelude.{None}
 use Rattle.object_layout.specs.declared.TheConstants.{OBJECT_WORDS}
 use Rattle.heap_words.specs.declared.map.Areas.{Areas}
 use Rattle.heap_words.specs.Map.{page_at}
 use Rattle.region_pages.specs.declared.TheConstants.{SPACE_WORD, USED_MARK}
-use Rattle.epoch_lattice.specs.declared.Space.{Space}
 use Rattle.epoch_lattice.specs.Lattice.{inner_of, space_index}
 use Rattle.calls_in_flight.specs.OwnStores.{MayStore}
 use Rattle.calls_in_flight.specs.Steps.{current_at}

@@ -1,7 +1,5 @@
-use Rattle.std.proofs.Common.{◌≡◌, ◌∙◌, ◌+◌, ℕ, sym, ap, subst, refl}
+use Rattle.std.proofs.Common.{◌≡◌, ◌+◌, ℕ, subst}
 use Rattle.object_layout.specs.declared.TheConstants.{OBJECT_WORDS}
-use Rattle.object_layout.specs.declared.errors.NoPage.{NoPage}
-use Rattle.std.specs.Result.{IfErr}
 use Rattle.std.proofs.lemmas.Result.{IfOk-weaker}
 use Rattle.mutator.specs.declared.new_objects.Room.{Room}
 use Rattle.mutator.specs.Making.{ClaimsNone, ClaimsRoom, FindsNone, FindsRoom, GetsNone, GetsRoom}

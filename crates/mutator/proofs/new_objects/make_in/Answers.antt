@@ -1,13 +1,10 @@
-use Rattle.std.proofs.Common.{◌≡◌, ◌∙◌, ◌+◌, ◌*◌, ◌<◌, ℕ, [], length, sym, ap, subst, refl, arith}
+use Rattle.std.proofs.Common.{◌≡◌, ◌∙◌, ◌+◌, ◌*◌, ◌<◌, ℕ, [], length, sym, ap, subst, refl}
 use Rattle.std.specs.Prelude.{None, Some}
 use Rattle.object_layout.specs.declared.TheConstants.{MAX_SERIAL, OBJECT_WORDS}
-use Rattle.object_layout.specs.declared.calls.Call.TheVariants.{New}
 use Rattle.object_layout.specs.declared.calls.Event.{Event}
 use Rattle.object_layout.specs.declared.headers.Header.{Header}
 use Rattle.object_layout.specs.declared.names.Name.{Name}
-use Rattle.object_layout.specs.declared.replies.Reply.TheVariants.{Ok}
 use Rattle.heap_words.specs.declared.TheConstants.{STACK_SLOTS}
-use Rattle.heap_words.specs.declared.map.Areas.{Areas}
 use Rattle.heap_words.specs.Map.{page_words}
 use Rattle.epoch_lattice.specs.Lattice.{inner_of, space_index}
 use Rattle.calls_in_flight.specs.Actors.{Shows}
@@ -15,7 +12,6 @@ use Rattle.calls_in_flight.specs.OwnStores.{MayStore}
 use Rattle.calls_in_flight.specs.Steps.{length_at, made_at, slot_at}
 use Rattle.safepoint_gate.specs.Singles.{Stored, actor}
 use Rattle.mutator.specs.Making.{EntersPage, WritesObject}
-use Rattle.mutator.specs.Quick.{told_by}
 use Rattle.mutator.proofs.Answering.{thread_in}
 use Rattle.mutator.proofs.Completing.{answers_made, may_count, may_make, may_push, room_then}
 use Rattle.mutator.proofs.Placed.{placing_of, thread_of_seat}

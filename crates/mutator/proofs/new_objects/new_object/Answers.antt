@@ -1,16 +1,14 @@
-use Rattle.std.proofs.Common.{◌≡◌, ◌∙◌, ◌+◌, ◌≤◌, ◌<◌, ℕ, length, sym, ap, subst, refl, arith}
+use Rattle.std.proofs.Common.{◌≡◌, ◌∙◌, ◌≤◌, ◌<◌, ℕ, length, sym, subst, arith}
 use Rattle.std.specs.Prelude.{None}
 use Rattle.object_layout.specs.declared.TheConstants.{MAX_FIELDS, MAX_SERIAL}
 use Rattle.object_layout.specs.declared.replies.Refusal.TheVariants as refusal
 use Rattle.heap_words.specs.declared.TheConstants.{STACK_SLOTS}
-use Rattle.heap_words.specs.declared.map.Areas.{Areas}
-use Rattle.calls_in_flight.specs.Actors.{Shows}
 use Rattle.calls_in_flight.specs.Steps.{depth_at, length_at, made_at}
 use Rattle.safepoint_gate.specs.Singles.{Loaded, actor}
 use Rattle.safepoint_gate.specs.Steps.{first_thread}
 use Rattle.mutator.specs.Quick.{FindsNoPage}
 use Rattle.mutator.proofs.Answering.{thread_in}
-use Rattle.mutator.proofs.Asking.{looks_length, map_still, thread_still}
+use Rattle.mutator.proofs.Asking.{looks_length}
 use Rattle.mutator.proofs.Looking.{loaded_shows}
 use Rattle.mutator.proofs.Placed.{thread_of_seat}
 use Rattle.mutator.proofs.Deciding.{counted_then, depth_known, depth_low, depth_then, found_none, looks_depth, looks_made, made_known, made_new, made_shown, made_then, spent_told}

@@ -1,11 +1,10 @@
-use Rattle.std.proofs.Common.{◌≡◌, ◌≢◌, ◌∙◌, ◌+◌, ◌-◌, ◌≤◌, ◌<◌, ℕ, sym, ap, subst, arith}
+use Rattle.std.proofs.Common.{◌≡◌, ◌∙◌, ◌+◌, ◌-◌, ◌≤◌, ℕ, sym, ap, subst, arith}
 use Rattle.std.specs.Prelude.{None}
 use Rattle.heap_words.specs.declared.map.Areas.{Areas}
 use Rattle.heap_words.specs.Map.{page_at, page_words}
 use Rattle.region_pages.specs.declared.TheConstants.{USED_MARK}
 use Rattle.calls_in_flight.specs.Actors.{MayLoad}
 use Rattle.calls_in_flight.specs.Steps.{current_at}
-use Rattle.safepoint_gate.specs.declared.rule.View.{View}
 use Rattle.safepoint_gate.specs.Singles.{Loaded, actor}
 use Rattle.mutator.proofs.Answering.{thread_in}
 use Rattle.mutator.proofs.Rooms.{current_page, finds_no_current, finds_none, finds_room, may_look, used_most}

@@ -1,11 +1,6 @@
-use Rattle.std.proofs.Common.{◌≡◌, ◌∙◌, ◌+◌, ◌<◌, ℕ, [], sym, ap, subst, refl, arith}
+use Rattle.std.proofs.Common.{◌≡◌, ◌∙◌, ◌+◌, ◌<◌, sym, ap, arith}
 use Rattle.object_layout.specs.declared.TheConstants.{OBJECT_WORDS}
-use Rattle.heap_words.specs.declared.map.Areas.{Areas}
-use Rattle.heap_words.specs.Map.{HasThread, heap_at}
-use Rattle.safepoint_gate.specs.declared.rule.View.{View}
-use Rattle.safepoint_gate.specs.declared.seats.Inside.{Inside}
-use Rattle.safepoint_gate.specs.Singles.{actor}
-use Rattle.mutator.proofs.Answering.{thread_in}
+use Rattle.heap_words.specs.Map.{heap_at}
 use Rattle.mutator.proofs.Placed.{may_write, names_object, thread_of_seat, writes_more, wrote_more, wrote_none, wrote_of}
 use Rattle.mutator.proofs.new_objects.write_object.Goals as goal
 

@@ -1,4 +1,4 @@
-use Rattle.std.proofs.Common.{◌≡◌, ◌≤◌}
+use Rattle.std.proofs.Common.{◌≡◌}
 use Rattle.safepoint_gate.specs.Seats.{IsOf}
 use Rattle.mutator.specs.Making.{WritesObject}
 use Rattle.mutator.proofs.new_objects.write_object.Given as goal

@@ -1,5 +1,5 @@
-use Rattle.std.proofs.Common.{◌≡◌, ◌∙◌, ◌+◌, ℕ, sym, ap, subst}
-use Rattle.std.specs.Prelude.{Option, None, Some}
+use Rattle.std.proofs.Common.{◌≡◌, ◌∙◌, ◌+◌, ℕ, sym, subst}
+use Rattle.std.specs.Prelude.{None, Some}
 use Rattle.object_layout.specs.declared.calls.Event.{Event}
 use Rattle.calls_in_flight.specs.OwnStores.{MayStore}
 use Rattle.calls_in_flight.specs.Steps.{length_at, slot_at}

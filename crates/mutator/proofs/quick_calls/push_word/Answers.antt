@@ -1,17 +1,11 @@
-use Rattle.std.proofs.Common.{◌≡◌, ◌∙◌, ◌+◌, ◌-◌, ◌≤◌, ◌<◌, ℕ, sym, ap, subst, arith, [], inl, inr, length}
-use Rattle.std.specs.Prelude.{Option, None, Some}
-use Rattle.object_layout.specs.declared.calls.Call.TheVariants as call
-use Rattle.object_layout.specs.declared.calls.Event.{Event}
+use Rattle.std.proofs.Common.{sym, subst, arith, []}
 use Rattle.object_layout.specs.declared.replies.Reply.{Reply}
 use Rattle.object_layout.specs.declared.replies.Reply.TheVariants as reply
 use Rattle.object_layout.specs.declared.replies.Refusal.TheVariants as refusal
-use Rattle.calls_in_flight.specs.OwnStores.{MayStore}
-use Rattle.calls_in_flight.specs.Steps.{depth_at, length_at, slot_at}
-use Rattle.safepoint_gate.specs.Singles.{Loaded, Stored, actor}
+use Rattle.safepoint_gate.specs.Singles.{actor}
 use Rattle.mutator.specs.Quick.{Answered}
-use Rattle.mutator.proofs.Answering.{thread_in}
-use Rattle.mutator.proofs.Asking.{answers_by_store, answers_from, length_still, looks_depth, looks_length, looks_slot, may_begin, may_pop, quiet_still, rests_still, shows_slot, slot_still, then}
-use Rattle.mutator.proofs.Refusing.{tells_full, tells_get, tells_yes, tells_no, tells_deep}
+use Rattle.mutator.proofs.Asking.{answers_from, length_still, looks_length, rests_still}
+use Rattle.mutator.proofs.Refusing.{tells_full}
 use Rattle.mutator.proofs.quick_calls.push_word.Goals as goal
 
 pub refuse-requires-clause-event : goal.refuse-requires-clause-event

@@ -1,4 +1,4 @@
-use Rattle.std.proofs.Common.{◌≡◌, ◌∙◌, sym, ap, subst}
+use Rattle.std.proofs.Common.{◌∙◌, sym, ap, subst}
 use Rattle.heap_words.specs.Map.{IsAreas}
 use Rattle.object_layout.specs.Layout.{value_word}
 use Rattle.mutator.proofs.Asking.{slot_still}

@@ -1,10 +1,7 @@
-use Rattle.std.proofs.Common.{◌≡◌, ◌∙◌, ℕ, sym, ap, subst, length}
+use Rattle.std.proofs.Common.{◌≡◌, ◌∙◌, sym, subst}
 use Rattle.std.specs.Prelude.{None}
-use Rattle.calls_in_flight.specs.Actors.{Actor, Shows}
 use Rattle.calls_in_flight.specs.Steps.{length_at}
-use Rattle.heap_words.specs.declared.map.Areas.{Areas}
 use Rattle.safepoint_gate.specs.Singles.{Loaded, actor}
-use Rattle.safepoint_gate.specs.Steps.{first_thread}
 use Rattle.mutator.proofs.Answering.{thread_in}
 use Rattle.mutator.proofs.Looking.{length_known}
 use Rattle.mutator.proofs.quick_calls.stack_length.Goals as goal

@@ -1,4 +1,4 @@
-use Rattle.std.proofs.Common.{sym, subst}
+use Rattle.std.proofs.Common.{subst}
 use Rattle.std.specs.Prelude.{Some}
 use Rattle.object_layout.specs.declared.calls.Event.{Event}
 use Rattle.safepoint_gate.specs.Singles.{Loaded}

@@ -1,4 +1,4 @@
-use Rattle.std.proofs.Common.{◌≡◌, ◌∙◌, ℕ, sym, ap, subst, arith}
+use Rattle.std.proofs.Common.{◌≡◌, ◌∙◌, sym, ap, subst, arith}
 use Rattle.std.specs.Prelude.{None, Option}
 use Rattle.calls_in_flight.specs.Steps.{depth_at}
 use Rattle.safepoint_gate.specs.declared.seats.Inside.{Inside}
