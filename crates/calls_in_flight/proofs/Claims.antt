@@ -11,7 +11,7 @@ use Rattle.heap_words.proofs.Contents.{contents-get_head, contents-get_pool, con
 use Rattle.yak_model.specs.Spaces.{SpaceState}
 use Rattle.yak_model.specs.State.{State, view}
 use Rattle.yak_model.specs.Placed.{Places}
-use Rattle.yak_model.specs.Stands.{PoolStands, StandsAs, claim_counter, free_pages, pool_length, set_entries, unused_heads}
+use Rattle.yak_model.specs.Stands.{PoolStands, StandsAs, claim_counter, free_pages, pool_length, unused_heads}
 use Rattle.yak_model.specs.Recorded.{RecordedAs}
 use Rattle.region_pages.specs.declared.TheConstants.{CLAIM_COUNTER, POOL_LENGTH}
 use Rattle.region_pages.proofs.Claims.{Contains-behind, first_free, none_free}
@@ -34,11 +34,10 @@ use Rattle.calls_in_flight.proofs.Quiet.{KeepsClaimed, keeps_same, keeps_set, mi
 pub record Repooled (m : Areas) (c d : Contents) : Type 0 where
   pub rest : d ≡ record c { heads = d.heads; pool = d.pool }
   pub pool : PoolStands m d.heads d.pool c.table
-  pub entries : set_entries d.heads ≡ set_entries c.heads
   pub unused : unused_heads d.heads ≡ unused_heads c.heads
 
-pub stands-repooled : (m : Areas) (c : Contents) (s : State) (l : Places) (heads pool : List ℕ) → StandsAs m c s l → PoolStands m heads pool c.table → set_entries heads ≡ set_entries c.heads → unused_heads heads ≡ unused_heads c.heads → (let d : Contents = record c { heads = heads; pool = pool } in StandsAs m d s l)
-stands-repooled m c s l heads pool h stand entries unused = record {
+pub stands-repooled : (m : Areas) (c : Contents) (s : State) (l : Places) (heads pool : List ℕ) → StandsAs m c s l → PoolStands m heads pool c.table → unused_heads heads ≡ unused_heads c.heads → (let d : Contents = record c { heads = heads; pool = pool } in StandsAs m d s l)
+stands-repooled m c s l heads pool h stand unused = record {
   heap = h.heap;
   open_spaces = h.open_spaces;
   closed = h.closed;
@@ -52,18 +51,15 @@ stands-repooled m c s l heads pool h stand entries unused = record {
   zero = record { heads = subst (All (λ w. w ≡ 0)) (sym unused) h.zero.heads; blocks = h.zero.blocks };
   pool = stand;
   currents = h.currents;
-  sets = record {
-    within = rw entries h.sets.within;
-    listed = λ k lt. h.sets.listed k (subst (λ n. k < n) entries lt);
-    placed = λ a lt ne. rw entries (h.sets.placed a lt ne);
-  };
+  sets = h.sets;
+  heads_closed = h.heads_closed;
   dense = h.dense;
 }
 
-pub recorded-repooled : (m : Areas) (c : Contents) (s : State) (l : Places) (heads pool : List ℕ) → set_entries heads ≡ set_entries c.heads → RecordedAs m c s l.at → (let d : Contents = record c { heads = heads; pool = pool } in RecordedAs m d s l.at)
-recorded-repooled m c s l heads pool entries r =
+pub recorded-repooled : (m : Areas) (c : Contents) (s : State) (l : Places) (heads pool : List ℕ) → RecordedAs m c s l.at → (let d : Contents = record c { heads = heads; pool = pool } in RecordedAs m d s l.at)
+recorded-repooled m c s l heads pool r =
     let d : Contents = record c { heads = heads; pool = pool } in
-    recorded-same m c d s l.at (record { filed = record { entries = entries; sets = refl }; buffers = refl; readers = refl }) r
+    recorded-same m c d s l.at (record { filed = record { firsts = refl; sets = refl }; buffers = refl; readers = refl }) r
 
 -- the words stand as before where they differ by the pool alone
 pub step-repooled : (m : Areas) (ws now : List ℕ) (fs gs : List Flight) (i : ℕ) (s : SpaceState) (h : StandInFlight m ws fs s) → Puts fs gs i → KeepsClaimed fs gs i → FlightsFit m now gs → Repooled m (whole m ws fs) (whole m now gs) → Stepped m ws now fs gs i s h [] 0
@@ -71,8 +67,8 @@ step-repooled m ws now fs gs i s h puts more fit re =
     let c : Contents = whole m ws fs in
     let d : Contents = whole m now gs in
     let l : Places = h.stands.places in
-    let stands = stands-repooled m c (view s) l d.heads d.pool h.stands.stands re.pool re.entries re.unused in
-    let recorded = recorded-repooled m c (view s) l d.heads d.pool re.entries h.recorded in
+    let stands = stands-repooled m c (view s) l d.heads d.pool h.stands.stands re.pool re.unused in
+    let recorded = recorded-repooled m c (view s) l d.heads d.pool h.recorded in
     let e = re.rest in
     record {
       after = s;
@@ -95,17 +91,11 @@ step-repooled m ws now fs gs i s h puts more fit re =
       table = λ z. ap (λ (x : Contents). x.table) e;
     }
 
-pub heads_with-entries : (ps heads pool : List ℕ) → set_entries (heads_with ps heads pool) ≡ set_entries heads
-heads_with-entries [] heads pool = refl
-heads_with-entries (p ∷ ps) heads pool =
-    let n : ℕ = length (free_with (p ∷ ps) heads pool) in
-    get_or-set_other (set heads CLAIM_COUNTER 0) POOL_LENGTH 3 n 0 (omega arith) ∙ get_or-set_other heads CLAIM_COUNTER 3 0 0 (omega arith)
-
 pub heads_with-unused : (ps heads pool : List ℕ) → unused_heads (heads_with ps heads pool) ≡ unused_heads heads
 heads_with-unused [] heads pool = refl
 heads_with-unused (p ∷ ps) heads pool =
     let n : ℕ = length (free_with (p ∷ ps) heads pool) in
-    drop-set-lt 4 (set heads CLAIM_COUNTER 0) POOL_LENGTH n (omega arith) ∙ drop-set-lt 4 heads CLAIM_COUNTER 0 (omega arith)
+    drop-set-lt 3 (set heads CLAIM_COUNTER 0) POOL_LENGTH n (omega arith) ∙ drop-set-lt 3 heads CLAIM_COUNTER 0 (omega arith)
 
 -- ---- calls in flight that cover the same
 
@@ -184,8 +174,7 @@ raised-keep m ws fs s i n f h lt more covers et er may spent counter new fit =
     let re : Repooled m c d = record {
       rest = ap (λ (rs : List (List ℕ)). record u { heads = d.heads; pool = d.pool; readers = rs }) readers;
       pool = pool;
-      entries = heads_with-entries (claimed_in gs) heads u.pool ∙ get_or-set_other u.heads 1 3 (n + 1) 0 (omega arith) ∙ sym (heads_with-entries (claimed_in fs) u.heads u.pool);
-      unused = heads_with-unused (claimed_in gs) heads u.pool ∙ drop-set-lt 4 u.heads 1 (n + 1) (omega arith) ∙ sym (heads_with-unused (claimed_in fs) u.heads u.pool);
+      unused = heads_with-unused (claimed_in gs) heads u.pool ∙ drop-set-lt 3 u.heads 1 (n + 1) (omega arith) ∙ sym (heads_with-unused (claimed_in fs) u.heads u.pool);
     } in
     let whole_fit : (g : Flight) → FlightFits m now d g → FlightFits m now (whole m now gs) g = λ g x. subst (λ (y : Contents). FlightFits m now y g) (sym is) x in
     let heads_is : (under m now gs).heads ≡ heads = ap (λ (x : Contents). x.heads) e in

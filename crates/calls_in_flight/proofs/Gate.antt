@@ -13,7 +13,7 @@ use Rattle.calls_in_flight.specs.Whole.{claimed_in, completed, free_with, heads_
 use Rattle.calls_in_flight.specs.Fits.{FlightFits, FlightsFit, StandInFlight}
 use Rattle.calls_in_flight.specs.Stepped.{Stepped}
 use Rattle.calls_in_flight.proofs.Apart.{own-kept}
-use Rattle.calls_in_flight.proofs.Claims.{Repooled, heads_with-entries, heads_with-unused, step-repooled}
+use Rattle.calls_in_flight.proofs.Claims.{Repooled, heads_with-unused, step-repooled}
 use Rattle.calls_in_flight.proofs.Flights.{laid_all-set}
 use Rattle.calls_in_flight.proofs.Grounds.{bare-outside, fit_at, fits-beside, fits-moved, free_under, sound_under, under}
 use Rattle.calls_in_flight.proofs.Pools.{AreFree, pool-stands}
@@ -40,8 +40,7 @@ gate-keep m ws fs i v s h =
     let re : Repooled m c d = record {
       rest = refl;
       pool = pool;
-      entries = heads_with-entries (claimed_in fs) heads u.pool ∙ get_or-set_other u.heads 0 3 v 0 (omega arith) ∙ sym (heads_with-entries (claimed_in fs) u.heads u.pool);
-      unused = heads_with-unused (claimed_in fs) heads u.pool ∙ drop-set-lt 4 u.heads 0 v (omega arith) ∙ sym (heads_with-unused (claimed_in fs) u.heads u.pool);
+      unused = heads_with-unused (claimed_in fs) heads u.pool ∙ drop-set-lt 3 u.heads 0 v (omega arith) ∙ sym (heads_with-unused (claimed_in fs) u.heads u.pool);
     } in
     let heads_is : (under m now fs).heads ≡ heads = ap (λ (x : Contents). x.heads) e in
     let D : Contents = whole m now fs in

@@ -21,7 +21,7 @@ use Rattle.yak_model.specs.declared.history.Entry.TheVariants.{Said}
 use Rattle.yak_model.specs.Placed.{Places, space_word, used_mark}
 use Rattle.yak_model.specs.Spaces.{SpaceState}
 use Rattle.yak_model.specs.State.{view}
-use Rattle.yak_model.specs.Stands.{CurrentsStand, PoolStands, Stands, StandsAs, claim_counter, current, free_pages, pool_length, set_entries, unused_heads}
+use Rattle.yak_model.specs.Stands.{CurrentsStand, PoolStands, Stands, StandsAs, claim_counter, current, free_pages, pool_length, unused_heads}
 use Rattle.yak_model.specs.Recorded.{RecordedAs}
 use Rattle.region_pages.specs.Pages.{with_claimed}
 use Rattle.region_pages.specs.Placement.{IsPlacedOnClaimed, depth_in, with_used, words_left_at}
@@ -46,7 +46,7 @@ use Rattle.calls_in_flight.specs.Steps.{current_at, depth_at, length_at}
 use Rattle.calls_in_flight.proofs.Apart.{named-page}
 use Rattle.calls_in_flight.proofs.Chains.{Rewritten, length-lifted, lifted-heap, sound-set}
 use Rattle.calls_in_flight.proofs.Claimed.{before, behind, claimed-at, claimed-put}
-use Rattle.calls_in_flight.proofs.Claims.{heads_with-entries, heads_with-unused, recorded-repooled, stands-repooled}
+use Rattle.calls_in_flight.proofs.Claims.{heads_with-unused, recorded-repooled, stands-repooled}
 use Rattle.calls_in_flight.proofs.Covers.{lifted}
 use Rattle.calls_in_flight.proofs.Events.{mine-block, no_entry}
 use Rattle.calls_in_flight.proofs.Grounds.{fit_at, free_under, holds_at, named, sound_under, threads-apart, under}
@@ -385,10 +385,9 @@ make_claimed-steps m ws fs s i k g f h c =
     let d : Contents = whole m (stored_at g) gs in
     let l : Places = h.stands.places in
     let fro = fronted m ws fs s i k g f h c in
-    let entries : set_entries x.heads ≡ set_entries z.heads = heads_with-entries (g.page ∷ claimed_in gs) u.heads u.pool ∙ sym (heads_with-entries (claimed_in fs) u.heads u.pool) in
     let unused : unused_heads x.heads ≡ unused_heads z.heads = heads_with-unused (g.page ∷ claimed_in gs) u.heads u.pool ∙ sym (heads_with-unused (claimed_in fs) u.heads u.pool) in
-    let stands : Stands m x s = record { whole = h.stands.whole; places = l; stands = stands-repooled m z (view s) l x.heads x.pool h.stands.stands fro.pool entries unused } in
-    let recorded : RecordedAs m x (view s) l.at = recorded-repooled m z (view s) l x.heads x.pool entries h.recorded in
+    let stands : Stands m x s = record { whole = h.stands.whole; places = l; stands = stands-repooled m z (view s) l x.heads x.pool h.stands.stands fro.pool unused } in
+    let recorded : RecordedAs m x (view s) l.at = recorded-repooled m z (view s) l x.heads x.pool h.recorded in
     let turned = turned_claimed m ws fs s i k g f h c in
     let turns = turned.turns s stands in
     let after : SpaceState = turns.0 in
@@ -396,12 +395,10 @@ make_claimed-steps m ws fs s i k g f h c =
     let kept : RecordedAs m y (view after) later.places.at = turns.3 recorded in
     let pool : PoolStands m d.heads d.pool y.table = subst (λ (w : Contents). PoolStands m w.heads w.pool y.table) (sym (ap (completed gs) (made_under m ws fs s i k g f h c))) (free_after m ws fs s i k g f h c later.stands.pool) in
     let heads_is : d.heads ≡ heads_with (claimed_in gs) u.heads u.pool = ap (λ (w : Contents). (completed gs w).heads) (made_under m ws fs s i k g f h c) in
-    let counted : set_entries y.heads ≡ set_entries x.heads = get_or-set_other x.heads 1 3 _ 0 (omega arith) in
-    let entries' : set_entries d.heads ≡ set_entries y.heads = ap set_entries heads_is ∙ heads_with-entries (claimed_in gs) u.heads u.pool ∙ sym (heads_with-entries (g.page ∷ claimed_in gs) u.heads u.pool) ∙ sym counted in
-    let unused' : unused_heads d.heads ≡ unused_heads y.heads = ap unused_heads heads_is ∙ heads_with-unused (claimed_in gs) u.heads u.pool ∙ sym (heads_with-unused (g.page ∷ claimed_in gs) u.heads u.pool) ∙ sym (drop-set-lt 4 x.heads 1 _ (omega arith)) in
+    let unused' : unused_heads d.heads ≡ unused_heads y.heads = ap unused_heads heads_is ∙ heads_with-unused (claimed_in gs) u.heads u.pool ∙ sym (heads_with-unused (g.page ∷ claimed_in gs) u.heads u.pool) ∙ sym (drop-set-lt 3 x.heads 1 _ (omega arith)) in
     let is = now_is m ws fs s i k g f h c in
-    let last = stands-repooled m y (view after) later.places d.heads d.pool later.stands pool entries' unused' in
-    let last_recorded = recorded-repooled m y (view after) later.places d.heads d.pool entries' kept in
+    let last = stands-repooled m y (view after) later.places d.heads d.pool later.stands pool unused' in
+    let last_recorded = recorded-repooled m y (view after) later.places d.heads d.pool kept in
     let buffers : d.buffers ≡ z.buffers = ap (λ (w : Contents). w.buffers) (made_under m ws fs s i k g f h c) in
     record {
       after = after;

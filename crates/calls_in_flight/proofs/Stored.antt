@@ -1,5 +1,5 @@
 -- The steps of a store: the slot recorded, and the field stored.
-use Rattle.std.proofs.Common.{◌≡◌, ◌≢◌, ℕ, ◌+◌, ◌-◌, ◌*◌, ◌≤◌, ◌<◌, Some, List, [], ◌∷◌, ◌++◌, take, length, get_or, set, zero, suc, refl, sym, ap, subst, ◌∙◌, arith, inl, inr, length-set, length-append, get_or-set_same, get_or-set_other}
+use Rattle.std.proofs.Common.{◌≡◌, ◌≢◌, ℕ, ◌+◌, ◌-◌, ◌*◌, ◌≤◌, ◌<◌, Some, List, [], ◌∷◌, ◌++◌, take, length, get_or, set, zero, suc, refl, sym, ap, subst, ◌∙◌, arith, inr, length-set, length-append, get_or-set_same, get_or-set_other}
 use Rattle.std.specs.List.{Contains, flat_map, sum_by}
 use Rattle.std.proofs.lemmas.List.Elements.{All-cons, All-from_get_or, All-nil, All-set, Contains-append_left, Contains-append_right}
 use Rattle.std.proofs.lemmas.List.Sums.{sum_by_more_le}
@@ -18,10 +18,10 @@ use Rattle.yak_model.specs.Graph.{Fields, put_field, slot_of, with_object}
 use Rattle.yak_model.specs.declared.history.Entry.TheVariants.{Said}
 use Rattle.yak_model.specs.Spaces.{SpaceState}
 use Rattle.yak_model.specs.State.{State, Thing, object_of, view}
-use Rattle.yak_model.specs.Placed.{IsAt, Places, datum_word, names_of, size_by, used_mark, with_field}
+use Rattle.yak_model.specs.Placed.{Places, datum_word, names_of, size_by, used_mark, with_field}
 use Rattle.yak_model.specs.Placed as placed
 use Rattle.yak_model.specs.Stands.{Stands, StandsAs}
-use Rattle.yak_model.specs.Recorded.{Enters, IsRecorded, RecordedAs}
+use Rattle.yak_model.specs.Recorded.{Enters, IsRecordedFor, RecordedAs}
 use Rattle.yak_model.proofs.Data.{object_fields}
 use Rattle.yak_model.proofs.Joined.{stands_stored, stored, view-stored}
 use Rattle.yak_model.proofs.Stacks.{slot-fits, slot-word}
@@ -29,7 +29,7 @@ use Rattle.yak_model.proofs.Stored.{stands-store}
 use Rattle.standing_calls.specs.Records.{Crosses, home_at}
 use Rattle.standing_calls.specs.Turned.{KeepsPlaces}
 use Rattle.standing_calls.proofs.Homes.{home-shown}
-use Rattle.standing_calls.proofs.Logged.{recorded-logged, recorded-same}
+use Rattle.standing_calls.proofs.Logged.{recorded-into, recorded-same}
 use Rattle.standing_calls.proofs.Reached.{field_within}
 use Rattle.standing_calls.proofs.Steps.{good_slot, thread_in}
 use Rattle.standing_calls.proofs.Stores.{keeps-stored, recorded-stored}
@@ -103,6 +103,7 @@ stands-buffered m c s l t es h few = record {
   pool = h.pool;
   currents = h.currents;
   sets = h.sets;
+  heads_closed = h.heads_closed;
   dense = h.dense;
 }
 
@@ -139,7 +140,7 @@ log-steps m ws fs s i n k j a f h g =
     let few : length es ≤ BUFFER_ENTRIES = omega (arith, length-append (buffer_of c t) (a ∷ []), e.0, g.room) in
     let room : length (buffer_of c t) < BUFFER_ENTRIES = omega (arith, e.0, g.room) in
     let stands : StandsAs m (with_buffer c t es) (view s) l = stands-buffered m c (view s) l t es h.stands.stands few in
-    let recorded : RecordedAs m (with_buffer c t es) (view s) l.at = recorded-logged m c (with_buffer c t es) (view s) l.at t a ht (length-buffers m (laid_all fs ws)) (inl (record { room = room; filed = record { entries = refl; sets = refl }; buffers = refl })) refl (p.name, p.thing, j, p.present, p.within, p.place) h.recorded in
+    let recorded : RecordedAs m (with_buffer c t es) (view s) l.at = recorded-into m c (with_buffer c t es) (view s) l.at t a ht (length-buffers m (laid_all fs ws)) (record { room = room; filed = record { firsts = refl; sets = refl }; buffers = refl }) refl (p.name, p.thing, j, p.present, p.within, p.place) h.recorded in
     let basis : SameGround (under m ws fs) (under m now gs) = record { heads = ap (λ (x : Contents). x.heads) e.1; table = ap (λ (x : Contents). x.table) e.1; currents = ap (λ (x : Contents). x.currents) e.1 } in
     let buffers : (whole m now gs).buffers ≡ set c.buffers (t - 1) es = ap (λ (x : Contents). x.buffers) is in
     record {
@@ -230,14 +231,14 @@ store-steps m ws fs s i k f x a w h g =
       stands = subst (λ (y : State). StandsAs m d y l) (sym shown) (subst (λ (y : Contents). StandsAs m y (let u = view s in record u { objects = placed.with_object u.objects p.name (with_field p.thing f v) }) l) (sym there) second);
     } in
     let put : next.graph ≡ put_field s.graph (slot_of s.graph t k) f v = ap (λ (vs : List Datum). with_object s.graph p.name (Fields (set vs f v))) (sym (object_fields s p.name p.thing p.present)) ∙ ap (λ (o : Datum). put_field s.graph o f v) (sym p.refers) in
-    let new : (y : Name) (o : Thing) → v ≡ datum.Object y → object_of s y ≡ Some o → Enters p.thing.home o.home → IsRecorded c.heads c.sets c.buffers (at p.name + OBJECT_WORDS + f) = λ y o e present enters.
+    let new : (y : Name) (o : Thing) → v ≡ datum.Object y → object_of s y ≡ Some o → Enters p.thing.home o.home → IsRecordedFor m c.firsts c.sets c.buffers o.home (at p.name + OBJECT_WORDS + f) = λ y o e present enters.
     let out : home_at s (slot_of s.graph t k) ≡ Some p.thing.home = ap (home_at s) p.refers ∙ home-shown s p.name p.thing p.present in
     let into : home_at s (slot_of s.graph t x) ≡ Some o.home = ap (home_at s) e ∙ home-shown s y o present in
     let crossed : Crosses (home_at s (slot_of s.graph t k)) (home_at s (slot_of s.graph t x)) = rw (out, into) enters in
     let among : Contains (flat_map (λ (b : List ℕ). b) c.buffers) a = entry_logged c.buffers (t - 1) a (omega (arith, ht.0, ht.1, length-buffers m (laid_all fs ws))) (g.logged s hs crossed) in
-    subst (IsRecorded c.heads c.sets c.buffers) p.place (inr among)
+    subst (IsRecordedFor m c.firsts c.sets c.buffers o.home) p.place (inr among)
     in
-    let recorded : RecordedAs m (with_heap c a w) (let u = view s in record u { objects = placed.with_object u.objects p.name (with_field p.thing f v) }) at = recorded-same m c (with_heap c a w) _ at (record { filed = record { entries = refl; sets = refl }; buffers = refl; readers = refl }) (recorded-stored m c (view s) at p.name p.thing f v p.present p.within new h.recorded) in
+    let recorded : RecordedAs m (with_heap c a w) (let u = view s in record u { objects = placed.with_object u.objects p.name (with_field p.thing f v) }) at = recorded-same m c (with_heap c a w) _ at (record { filed = record { firsts = refl; sets = refl }; buffers = refl; readers = refl }) (recorded-stored m c (view s) at p.name p.thing f v p.present p.within new h.recorded) in
     record {
       after = next;
       turns = (next, (thread_in m c s hs t ht, rw (good_slot m c s hs t x g.slot, p.reached) (refl, put), refl, tt), refl);

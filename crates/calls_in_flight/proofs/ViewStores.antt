@@ -22,7 +22,7 @@ use Rattle.calls_in_flight.specs.Flight.{Cover, Flight, IsBare, at_rest, flight_
 use Rattle.calls_in_flight.specs.Kinds as kinds
 use Rattle.calls_in_flight.specs.Kinds.{IsStep}
 use Rattle.calls_in_flight.specs.Owning.{IsOwn, in_entry, in_page}
-use Rattle.calls_in_flight.specs.OwnStores.{FliesOn, HasNoRoomFor, IsInCurrent, MayStore, Placing, front_of, placed_words}
+use Rattle.calls_in_flight.specs.OwnStores.{HasNoRoomFor, IsInCurrent, MayStore, Placing, front_of, placed_words}
 use Rattle.calls_in_flight.specs.OwnStores as own
 use Rattle.calls_in_flight.specs.Steps.{Lays, Settles, current_at, entry_at, logged_at, made_at, slot_at, with_covers}
 use Rattle.calls_in_flight.specs.Fields.{Logs}

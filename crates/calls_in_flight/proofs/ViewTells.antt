@@ -17,7 +17,7 @@ use Rattle.heap_words.specs.Contents.{Contents}
 use Rattle.yak_model.specs.declared.datum.Datum.{Datum}
 use Rattle.yak_model.specs.declared.datum.Datum.TheVariants as datum
 use Rattle.yak_model.specs.declared.history.Entry.TheVariants.{Said}
-use Rattle.yak_model.specs.Graph.{IsThread, Thread, answers, thread_of}
+use Rattle.yak_model.specs.Graph.{IsThread, answers, thread_of}
 use Rattle.yak_model.specs.Graph as graph
 use Rattle.yak_model.specs.Spaces.{SpaceState, Turns, homes_after}
 use Rattle.yak_model.specs.State.{IsDatum, Thing, object_of, view}

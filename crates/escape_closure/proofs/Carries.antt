@@ -1,5 +1,5 @@
 -- A plan of an end that is carried out.
-use Rattle.std.proofs.Common.{◌≡◌, ◌↔◌, ℕ, ◌+◌, ◌-◌, ◌≤◌, Bool, List, get_or, set, refl, sym, ap, subst, ◌∙◌, arith}
+use Rattle.std.proofs.Common.{◌≡◌, ℕ, ◌+◌, ◌-◌, ◌≤◌, Bool, List, get_or, refl, sym, ap, subst, ◌∙◌, arith}
 use Rattle.object_layout.specs.declared.names.Name.{Name}
 use Rattle.heap_words.specs.declared.map.Areas.{Areas}
 use Rattle.heap_words.specs.Map.{HasThread, IsAreas, max_depth}
@@ -12,10 +12,10 @@ use Rattle.yak_model.specs.Spaces.{SpaceState, innermost}
 use Rattle.yak_model.specs.State.{State, view}
 use Rattle.yak_model.specs.Placed.{Holds}
 use Rattle.yak_model.specs.Plans.{IsLawfulPlan, Move, after_moves, cleared, forwarded, without}
-use Rattle.yak_model.specs.Stands.{Stands, set_entries}
+use Rattle.yak_model.specs.Stands.{Stands}
 use Rattle.yak_model.proofs.Stacks.{all-at}
 use Rattle.relocation.specs.Moves.{IsReadyPlan, move_at}
-use Rattle.remember_sets.specs.Filed.{IsFiled, LiesIn, SetsHold, with_sets}
+use Rattle.remember_sets.specs.Filed.{ChainsBecome, SetsHold, chain, outside, with_sets}
 use Rattle.escape_closure.specs.Ends.{DropsRest, References}
 use Rattle.escape_closure.specs.Leaving.{Carried, ReadyToMove, left_behind}
 use Rattle.escape_closure.proofs.Fates.{OneEach, drops_rest, one_each}
@@ -51,8 +51,8 @@ module _ (m : Areas) (before c : Contents) (s : SpaceState) (st : Stands m befor
       } in
       subst (λ (x : List ℕ). IsReadyPlan m x count (move_at next.scratch)) (sym heap) (subst (λ (x : List ℕ). IsReadyPlan m mid.heap count (move_at x)) (sym scratch) ready)
 
-  pub carried : (mid next last : Contents) (depth : ℕ) → depth ≡ depth_of before t → References m c mid s st.places t count → ((a : ℕ) → IsFiled next a ↔ (IsFiled mid a × (LiesIn m mid (Region t depth) a → ⊥))) → SetsHold m next → next ≡ with_sets mid next → ((v : State) (at work : Name → ℕ) (dropped : Name → Bool) → IsLawfulPlan m count (move_at next.scratch) v at dropped → Holds m next.heap at (forwarded count (move_at next.scratch) at) work (without v dropped).objects → Holds m last.heap (forwarded count (move_at next.scratch) at) (forwarded count (move_at next.scratch) at) (cleared count (move_at next.scratch) at work) (after_moves count (move_at next.scratch) at (without v dropped)).objects) → last ≡ record next { heap = last.heap } → Carried m c last s st.places t count
-  carried mid next last depth is refs filed sets others objects only =
+  pub carried : (mid next last : Contents) (depth : ℕ) → depth ≡ depth_of before t → References m c mid s st.places t count → ChainsBecome m mid next (λ _ slots. outside m mid (Region t depth) slots) → SetsHold m next → next ≡ with_sets mid next → ((v : State) (at work : Name → ℕ) (dropped : Name → Bool) → IsLawfulPlan m count (move_at next.scratch) v at dropped → Holds m next.heap at (forwarded count (move_at next.scratch) at) work (without v dropped).objects → Holds m last.heap (forwarded count (move_at next.scratch) at) (forwarded count (move_at next.scratch) at) (cleared count (move_at next.scratch) at work) (after_moves count (move_at next.scratch) at (without v dropped)).objects) → last ≡ record next { heap = last.heap } → Carried m c last s st.places t count
+  carried mid next last depth is refs dropped sets others objects only =
       let region : innermost s.graph t ≡ Region t depth = region_is m before s st t depth has is (omega (arith, is, low)) in
       let scratch : next.scratch ≡ c.scratch = ap (λ (x : Contents). x.scratch) others ∙ ap (λ (x : Contents). x.scratch) refs.frame in
       let heap : next.heap ≡ mid.heap = ap (λ (x : Contents). x.heap) others in
@@ -61,13 +61,13 @@ module _ (m : Areas) (before c : Contents) (s : SpaceState) (st : Stands m befor
       let told = subst (λ (x : List ℕ). (v : State) (at work : Name → ℕ) (dropped : Name → Bool) → IsLawfulPlan m count (move_at x) v at dropped → Holds m next.heap at (forwarded count (move_at x) at) work (without v dropped).objects → Holds m last.heap (forwarded count (move_at x) at) (forwarded count (move_at x) at) (cleared count (move_at x) at work) (after_moves count (move_at x) at (without v dropped)).objects) scratch objects in
       let work : Name → ℕ = λ n. get_or c.heap (st.places.at n + 2) 0 in
       let same_sets : last.sets ≡ next.sets = ap (λ (x : Contents). x.sets) only in
-      let same_entries : set_entries last.heads ≡ set_entries next.heads = ap (λ (x : Contents). set_entries x.heads) only in
+      let same_firsts : last.firsts ≡ next.firsts = ap (λ (x : Contents). x.firsts) only in
       let same_stacks : last.stacks ≡ mid.stacks = ap (λ (x : Contents). x.stacks) only ∙ ap (λ (x : Contents). x.stacks) others in
-      let shape : ℕ → List (List ℕ) → List ℕ → Contents = λ n ss xs. record c { heads = set c.heads 3 n; stacks = ss; sets = xs; heap = last.heap } in
+      let shape : List (List ℕ) → List (List ℕ) → List ℕ → Contents = λ ss fs xs. record c { stacks = ss; firsts = fs; sets = xs; heap = last.heap } in
       record {
         holds = told (view s) st.places.at work (left_behind s st.places t count moves) plan (subst (λ (x : List ℕ). Holds m x st.places.at (forwarded count moves st.places.at) work (without (view s) (left_behind s st.places t count moves)).objects) (sym heap) held);
         stacks = same_stacks ∙ refs.stacks;
-        filed = λ a. subst (λ (x : Contents). IsFiled x a ↔ (IsFiled c a × (LiesIn m c (innermost s.graph t) a → ⊥))) (sym only) (subst (λ (y : Space). IsFiled next a ↔ (IsFiled c a × (LiesIn m c y a → ⊥))) (sym region) (subst (λ (x : Contents). IsFiled next a ↔ (IsFiled x a × (LiesIn m x (Region t depth) a → ⊥))) refs.frame (filed a)));
+        filed = λ x own. ap (λ (y : Contents). chain m y x) only ∙ dropped x own ∙ ap (λ (y : Contents). outside m y (Region t depth) (chain m y x)) refs.frame ∙ ap (λ (y : Space). outside m c y (chain m c x)) (sym region);
         sets = subst (SetsHold m) (sym only) sets;
-        frame = only ∙ ap (λ (x : Contents). record x { heap = last.heap }) others ∙ ap (λ (x : Contents). record (with_sets x next) { heap = last.heap }) refs.frame ∙ ap (λ n. shape n mid.stacks next.sets) (sym same_entries) ∙ ap (λ ss. shape (set_entries last.heads) ss next.sets) (sym same_stacks) ∙ ap (shape (set_entries last.heads) last.stacks) (sym same_sets);
+        frame = only ∙ ap (λ (x : Contents). record x { heap = last.heap }) others ∙ ap (λ (x : Contents). record (with_sets x next) { heap = last.heap }) refs.frame ∙ ap (λ ss. shape ss next.firsts next.sets) (sym same_stacks) ∙ ap (λ fs. shape last.stacks fs next.sets) (sym same_firsts) ∙ ap (shape last.stacks last.firsts) (sym same_sets);
       }

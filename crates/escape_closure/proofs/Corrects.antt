@@ -1,4 +1,4 @@
--- Stacks and recorded slots, corrected one after another.
+-- Stacks and the slots of a chain, corrected one after another.
 use Rattle.std.proofs.Common.{◌≡◌, ◌≢◌, ℕ, ◌+◌, ◌-◌, ◌/◌, ◌≤◌, ◌<◌, List, [], length, get_or, set, refl, sym, ap, subst, ◌∙◌, arith, inl, inr, length-set, get_or-set_same, get_or-set_other}
 use Rattle.std.proofs.lemmas.Bool.{cases_eq}
 use Rattle.std.proofs.lemmas.Nat.{and_mask, bit_set_by_shift}
@@ -9,12 +9,14 @@ use Rattle.heap_words.specs.declared.map.Areas.{Areas}
 use Rattle.heap_words.specs.Map.{heap_length}
 use Rattle.heap_words.specs.Cells.{row}
 use Rattle.heap_words.specs.Contents.{Contents, readers_of, stack_of, with_heap, with_stack}
+use Rattle.epoch_lattice.specs.declared.Space.{Space}
 use Rattle.epoch_lattice.specs.declared.Space.TheVariants.{Region}
 use Rattle.epoch_lattice.specs.Lattice.{space_index}
 use Rattle.yak_model.specs.Plans.{Move}
-use Rattle.yak_model.specs.Stands.{set_entries}
+use Rattle.yak_model.specs.Chains.{IsRegionOf}
+use Rattle.remember_sets.specs.Filed.{chain, page_word}
 use Rattle.relocation.specs.Moves.{Numbered, corrected_word}
-use Rattle.escape_closure.specs.Referring.{IsOutside, OutsideCorrected, ReadersCorrected, SlotsCorrected, SlotsReady, StackLeads, corrected_stack}
+use Rattle.escape_closure.specs.Referring.{IsOutside, OutsideCorrected, ReadersCorrected, SlotsCorrected, SlotsReady, StackLeads, corrected_stack, slot_at}
 
 -- a thread's bit, as the code tests it
 pub bit_is : (readers k : ℕ) → bit_and (readers / 2 ^ k) 1 ≢ 0 → IsBitSet readers k
@@ -64,7 +66,7 @@ leads_still m f c mid owner readers t a leads =
     let same : row mid.stacks t ≡ row c.stacks t = a.others t (λ _ below _ _. omega (arith, below)) in
     λ i b lt e. leads i b (omega (arith, lt, ap (λ (st : List ℕ). length st) same)) (ap (λ (st : List ℕ). get_or st i 0) (sym same) ∙ e)
 
-pub slots_none : (m : Areas) (f : ℕ → ℕ) (c : Contents) (region : ℕ) → SlotsCorrected m f c c region 0
+pub slots_none : (m : Areas) (f : ℕ → ℕ) (c : Contents) (region : Space) → SlotsCorrected m f c c region 0
 slots_none m f c region = record {
   frame = refl;
   size = refl;
@@ -73,73 +75,79 @@ slots_none m f c region = record {
 }
 
 -- one slot more
-module _ (m : Areas) (f : ℕ → ℕ) (c mid : Contents) (region i count : ℕ) (moves : ℕ → Move) (ready : SlotsReady m c count moves) (long : length c.heap ≡ heap_length m) (lt : i < set_entries c.heads) (a : SlotsCorrected m f c mid region i) where
-  pub sets_same : mid.sets ≡ c.sets
-  sets_same = ap (λ (x : Contents). x.sets) a.frame
+module _ (m : Areas) (f : ℕ → ℕ) (c mid : Contents) (region : Space) (i count : ℕ) (moves : ℕ → Move) (has : IsRegionOf m region) (ready : SlotsReady m c region count moves) (long : length c.heap ≡ heap_length m) (lt : i < length (chain m c region)) (a : SlotsCorrected m f c mid region i) where
+  -- slots of the chain are apart
+  other_slot : (j : ℕ) → j < i → slot_at m c region j ≢ slot_at m c region i
+  other_slot j lj = ready.sets.once region has j i 0 lj lt
 
-  pub heads_same : set_entries mid.heads ≡ set_entries c.heads
-  heads_same = ap (λ (x : Contents). set_entries x.heads) a.frame
+  pub word_same : get_or mid.heap (slot_at m c region i) 0 ≡ get_or c.heap (slot_at m c region i) 0
+  word_same = a.others (slot_at m c region i) (λ j lj out q. other_slot j lj (sym q))
 
-  pub slot_same : get_or mid.sets i 0 ≡ get_or c.sets i 0
-  slot_same = ap (λ (xs : List ℕ). get_or xs i 0) sets_same
+  pub outside_same : (b : ℕ) → IsOutside m mid region b → IsOutside m c region b
+  outside_same b out = subst (λ (x : Contents). IsOutside m x region b) a.frame out
 
-  pub word_same : get_or mid.heap (get_or c.sets i 0) 0 ≡ get_or c.heap (get_or c.sets i 0) 0
-  word_same = a.others (get_or c.sets i 0) (λ j lj out q. ready.once j i lj lt (sym q))
+  pub outside_now : (b : ℕ) → IsOutside m c region b → IsOutside m mid region b
+  outside_now b out = subst (λ (x : Contents). IsOutside m x region b) (sym a.frame) out
 
-  pub outside_same : IsOutside m mid region i → IsOutside m c region i
-  outside_same out = subst (λ (x : Contents). IsOutside m x region i) a.frame out
-
-  pub outside_now : IsOutside m c region i → IsOutside m mid region i
-  outside_now out = subst (λ (x : Contents). IsOutside m x region i) (sym a.frame) out
-
-  pub slots_skip : (IsOutside m c region i → ⊥) → SlotsCorrected m f c mid region (i + 1)
+  pub slots_skip : (IsOutside m c region (slot_at m c region i) → ⊥) → SlotsCorrected m f c mid region (i + 1)
   slots_skip inside = record {
     frame = a.frame;
     size = a.size;
     slots = λ j lj out. elim (cases_eq j i) [
-      | inl e ↦ absurd (inside (subst (IsOutside m c region) e out))
+      | inl e ↦ absurd (inside (subst (λ k. IsOutside m c region (slot_at m c region k)) e out))
       | inr o ↦ a.slots j (omega (arith, lj, o)) out
     ];
     others = λ b h. a.others b (λ j lj out. h j (omega (arith, lj)) out);
   }
 
-  pub slots_more : (d : Contents) → d ≡ with_heap mid (get_or mid.sets i 0) (corrected_word f (get_or mid.heap (get_or mid.sets i 0) 0)) → IsOutside m c region i → SlotsCorrected m f c d region (i + 1)
+  pub slots_more : (d : Contents) → d ≡ with_heap mid (slot_at m c region i) (corrected_word f (get_or mid.heap (slot_at m c region i) 0)) → IsOutside m c region (slot_at m c region i) → SlotsCorrected m f c d region (i + 1)
   slots_more d made out =
-      let x : ℕ = get_or c.sets i 0 in
+      let x : ℕ = slot_at m c region i in
       let v : ℕ = corrected_word f (get_or mid.heap x 0) in
-      let here : d ≡ with_heap mid x v = made ∙ ap (λ k. with_heap mid k (corrected_word f (get_or mid.heap k 0))) slot_same in
-      let heap : d.heap ≡ set mid.heap x v = ap (λ (y : Contents). y.heap) here in
-      let within : x < length mid.heap = omega (arith, ready.slots i lt, long, a.size) in
+      let heap : d.heap ≡ set mid.heap x v = ap (λ (y : Contents). y.heap) made in
+      let in_heap : x < heap_length m = ready.sets.within region has i 0 lt in
+      let within : x < length mid.heap = omega (arith, in_heap, long, a.size) in
       record {
-        frame = here ∙ ap (λ (hs : List ℕ). record mid { heap = hs }) (sym heap) ∙ ap (λ (y : Contents). record y { heap = d.heap }) a.frame;
+        frame = made ∙ ap (λ (hs : List ℕ). record mid { heap = hs }) (sym heap) ∙ ap (λ (y : Contents). record y { heap = d.heap }) a.frame;
         size = ap (λ (hs : List ℕ). length hs) heap ∙ length-set mid.heap x v ∙ a.size;
         slots = λ j lj outside. elim (cases_eq j i) [
           | inl e ↦
-              let same : get_or c.sets j 0 ≡ x = ap (λ k. get_or c.sets k 0) e in
+              let same : slot_at m c region j ≡ x = ap (slot_at m c region) e in
               ap (λ k. get_or d.heap k 0) same ∙ ap (λ (hs : List ℕ). get_or hs x 0) heap ∙ get_or-set_same mid.heap x v 0 within ∙ ap (corrected_word f) word_same ∙ ap (λ k. corrected_word f (get_or c.heap k 0)) (sym same)
           | inr o ↦
               let less : j < i = omega (arith, lj, o) in
-              ap (λ (hs : List ℕ). get_or hs (get_or c.sets j 0) 0) heap ∙ get_or-set_other mid.heap x (get_or c.sets j 0) v 0 (ready.once j i less lt) ∙ a.slots j less outside
+              ap (λ (hs : List ℕ). get_or hs (slot_at m c region j) 0) heap ∙ get_or-set_other mid.heap x (slot_at m c region j) v 0 (other_slot j less) ∙ a.slots j less outside
         ];
         others = λ b h. ap (λ (hs : List ℕ). get_or hs b 0) heap ∙ get_or-set_other mid.heap x b v 0 (h i (omega arith) out) ∙ a.others b (λ j lj o. h j (omega (arith, lj)) o);
       }
 
+  -- as the code corrects it
+  pub slot_done : (d : Contents) (h : ℕ → ℕ) (b : ℕ) → h ≡ f → b ≡ slot_at m c region i → (IsOutside m mid region b → d ≡ with_heap mid b (corrected_word h (get_or mid.heap b 0))) → ((IsOutside m mid region b → ⊥) → d ≡ mid) → SlotsCorrected m f c d region (i + 1)
+  slot_done d h b same at out ins = elim (cases_eq (page_word m mid b) (space_index region + 1)) [
+    | inl own ↦
+        let kept : d ≡ mid = ins (λ o. o own) in
+        subst (λ (x : Contents). SlotsCorrected m f c x region (i + 1)) (sym kept) (slots_skip (λ o. outside_now b (subst (IsOutside m c region) (sym at) o) own))
+    | inr ne ↦
+        let made : d ≡ with_heap mid (slot_at m c region i) (corrected_word f (get_or mid.heap (slot_at m c region i) 0)) = out ne ∙ ap (λ (k : ℕ → ℕ). with_heap mid b (corrected_word k (get_or mid.heap b 0))) same ∙ ap (λ k. with_heap mid k (corrected_word f (get_or mid.heap k 0))) at in
+        slots_more d made (subst (IsOutside m c region) at (outside_same b ne))
+  ]
+
 -- the plan stands while slots are corrected
-pub numbered_outside : (m : Areas) (f : ℕ → ℕ) (c d : Contents) (region entries count : ℕ) (moves : ℕ → Move) → SlotsReady m c count moves → entries ≤ set_entries c.heads → SlotsCorrected m f c d region entries → Numbered m c.heap count moves → Numbered m d.heap count moves
-numbered_outside m f c d region entries count moves ready le a h = record {
+pub numbered_outside : (m : Areas) (f : ℕ → ℕ) (c d : Contents) (region : Space) (walked count : ℕ) (moves : ℕ → Move) → SlotsReady m c region count moves → walked ≤ length (chain m c region) → SlotsCorrected m f c d region walked → Numbered m c.heap count moves → Numbered m d.heap count moves
+numbered_outside m f c d region walked count moves ready le a h = record {
   room = h.room;
   ascending = h.ascending;
   within = h.within;
   marks = λ k lt. a.others ((moves k).old + 2) (λ i li out. ready.beside i k (omega (arith, li, le)) lt) ∙ h.marks k lt;
 }
 
--- the own stack, the readers' stacks and the recorded slots
-pub outside_done : (m : Areas) (f : ℕ → ℕ) (c own mid d : Contents) (thread depth readers region : ℕ) → 1 ≤ thread → thread - 1 < length c.stacks → own ≡ with_stack c thread (corrected_stack f (stack_of c thread)) → readers ≡ readers_of c thread depth → ReadersCorrected f own mid thread readers 0 m.threads → region ≡ space_index (Region thread depth) → SlotsCorrected m f mid d region (set_entries mid.heads) → OutsideCorrected m f c d thread depth
-outside_done m f c own mid d thread depth readers region some within made word r index slots =
+-- the own stack, the readers' stacks and the slots of the region's chain
+pub outside_done : (m : Areas) (f : ℕ → ℕ) (c own mid d : Contents) (thread depth readers : ℕ) → 1 ≤ thread → thread - 1 < length c.stacks → own ≡ with_stack c thread (corrected_stack f (stack_of c thread)) → readers ≡ readers_of c thread depth → ReadersCorrected f own mid thread readers 0 m.threads → SlotsCorrected m f mid d (Region thread depth) (length (chain m mid (Region thread depth))) → OutsideCorrected m f c d thread depth
+outside_done m f c own mid d thread depth readers some within made word r slots =
     let st : List ℕ = corrected_stack f (stack_of c thread) in
     let rows : own.stacks ≡ set c.stacks (thread - 1) st = ap (λ (x : Contents). x.stacks) made in
     let only : mid ≡ record c { stacks = mid.stacks } = r.frame ∙ ap (λ (x : Contents). record x { stacks = mid.stacks }) made in
-    let k : SlotsCorrected m f (record c { stacks = mid.stacks }) d region (set_entries c.heads) = subst (λ (x : Contents). SlotsCorrected m f x d region (set_entries x.heads)) only slots in
+    let k : SlotsCorrected m f (record c { stacks = mid.stacks }) d (Region thread depth) (length (chain m c (Region thread depth))) = subst (λ (x : Contents). SlotsCorrected m f x d (Region thread depth) (length (chain m x (Region thread depth)))) only slots in
     let stacks : d.stacks ≡ mid.stacks = ap (λ (x : Contents). x.stacks) slots.frame in
     let first : (j : ℕ) → j + 1 ≢ thread → row own.stacks j ≡ row c.stacks j = λ j ne. ap (λ (ss : List (List ℕ)). row ss j) rows ∙ get_or-set_other c.stacks (thread - 1) j st [] (λ q. ne (omega (arith, q, some))) in
     let last : (j : ℕ) → row d.stacks j ≡ row mid.stacks j = λ j. ap (λ (ss : List (List ℕ)). row ss j) stacks in
@@ -150,10 +158,10 @@ outside_done m f c own mid d thread depth readers region some within made word r
       read = λ j lt ne is. last j ∙ r.read j (omega arith) lt ne (subst (λ w. IsBitSet w j) (sym word) is) ∙ ap (corrected_stack f) (first j ne);
       others = λ j ne h. last j ∙ r.others j (λ _ lt _ is. h lt (subst (λ w. IsBitSet w j) word is)) ∙ first j ne;
       size = k.size;
-      slots = λ i lt out. k.slots i lt (subst (λ w. IsOutside m c w i) (sym index) out);
-      fields = λ a h. k.others a (λ i lt out. h i lt (subst (λ w. IsOutside m c w i) index out));
+      slots = λ i lt out. k.slots i lt out;
+      fields = λ a h. k.others a (λ i lt out. h i lt out);
     }
 
--- the recorded slots stay while stacks are corrected
-pub ready_stacked : (m : Areas) (c d : Contents) (count : ℕ) (moves : ℕ → Move) → d ≡ record c { stacks = d.stacks } → SlotsReady m c count moves → SlotsReady m d count moves
-ready_stacked m c d count moves frame ready = subst (λ (x : Contents). SlotsReady m x count moves) (sym frame) (record { within = ready.within; slots = ready.slots; once = ready.once; lead = ready.lead; beside = ready.beside })
+-- the chain stays while stacks are corrected
+pub ready_stacked : (m : Areas) (c d : Contents) (region : Space) (count : ℕ) (moves : ℕ → Move) → d ≡ record c { stacks = d.stacks } → SlotsReady m c region count moves → SlotsReady m d region count moves
+ready_stacked m c d region count moves frame ready = subst (λ (x : Contents). SlotsReady m x region count moves) (sym frame) (record { sets = ready.sets; lead = ready.lead; beside = ready.beside })

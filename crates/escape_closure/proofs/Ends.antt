@@ -16,10 +16,11 @@ use Rattle.heap_words.specs.declared.map.Areas.{Areas}
 use Rattle.heap_words.specs.Cells.{row}
 use Rattle.heap_words.specs.Contents.{Contents}
 use Rattle.yak_model.specs.State.{Thing}
-use Rattle.yak_model.specs.Stands.{set_entries, words_in, words_of}
+use Rattle.yak_model.specs.Stands.{words_in, words_of}
+use Rattle.remember_sets.specs.Filed.{chain}
 use Rattle.heap_walks.specs.Laid.{work_of}
 use Rattle.escape_closure.specs.Words.{scans_left}
-use Rattle.escape_closure.specs.Raising.{Ended, Rises, RaisesOn, IsClosedOff, Scans, IsStackDue, IsStackPaid, AreEntriesPaid, AreSourcesPaid, EndsAt, TargetsStand, potential}
+use Rattle.escape_closure.specs.Raising.{Ended, Rises, RaisesOn, IsClosedOff, Scans, IsStackDue, IsStackPaid, AreSlotsPaid, AreSourcesPaid, EndsAt, TargetsStand, potential}
 use Rattle.escape_closure.proofs.Fields.{then_on}
 use Rattle.escape_closure.proofs.Outside.{due_source, slot_still, stack_still, sources_paid}
 use Rattle.heap_walks.specs.Reach.{IsHeldAt}
@@ -54,7 +55,7 @@ start_potential : (e : Ended) (c : Contents) → ((n : Name) (o : Thing) → e.l
 start_potential e c zero_words = times_sum _ _ 27 e.laid.places.pages (λ ns. times_sum _ _ 27 ns (start_term e c zero_words))
 
 pub targets_stand : (m : Areas) (e : Ended) (c s1 s2 s3 d : Contents) (i j k : Tally) (thread depth readers r0 r1 r2 r3 r4 found : ℕ) (x : Space) → 1 ≤ thread → EndsAt m e c thread depth
-    → RaisesOn m e c s1 i → AreEntriesPaid e s1 (set_entries e.laid.before.heads) → r1 ≤ r0 + (1 + 5 * set_entries e.laid.before.heads)
+    → RaisesOn m e c s1 i → AreSlotsPaid m e s1 (length (chain m e.laid.before e.region)) → r1 ≤ r0 + (1 + 5 * length (chain m e.laid.before e.region))
     → RaisesOn m e s1 s2 j → IsStackPaid e s2 (thread - 1) x → x ≡ parent_of e.region → r2 ≤ r1 + (1 + 3 * length (get_or e.laid.state.stacks (thread - 1) []))
     → readers ≡ get_or (row s2.readers (thread - 1)) (depth - 1) 0
     → RaisesOn m e s2 s3 k → ((t : ℕ) → t < m.threads → t + 1 ≢ thread → IsBitSet readers t → IsStackPaid e s3 t Control) → r3 ≤ r2 + (1 + (1 + 3 * STACK_SLOTS) * m.threads)

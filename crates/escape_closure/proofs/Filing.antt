@@ -1,27 +1,32 @@
 -- The start of an end: what is recorded is filed.
 use Rattle.std.proofs.Math.Logic.{⊎_elim}
-use Rattle.std.proofs.Common.{◌≡◌, ◌⊎◌, ◌↔◌, ℕ, ◌+◌, ◌-◌, ◌*◌, ◌≤◌, ◌<◌, List, [], ◌++◌, length, get_or, take, set, refl, sym, ap, subst, ◌∙◌, arith, inl, inr, length-append, length-take}
+use Rattle.std.proofs.Common.{◌≡◌, ℕ, ◌+◌, ◌-◌, ◌≤◌, true, List, [], ◌∷◌, length, get_or, refl, sym, ap, subst, ◌∙◌, arith, inl, inr}
 use Rattle.std.specs.List.{Contains}
-use Rattle.std.proofs.lemmas.Bool.{cases_lt}
-use Rattle.heap_walks.proofs.Lists.{distinct_fit}
-use Rattle.relocation.specs.Slidden.{table_of}
-use Rattle.relocation.proofs.SlidLaid.{get-table_of, length-table_of}
-use Rattle.remember_sets.proofs.Sets.{contains_at}
-use Rattle.std.proofs.lemmas.List.Elements.{Contains-append_left, Contains-append_right}
-use Rattle.std.proofs.lemmas.List.{get_or_default, get_or-replicate, length-replicate}
+use Rattle.std.proofs.lemmas.Bool.{cases_Bool, cond-false, cond-true}
+use Rattle.std.proofs.lemmas.List.{get_or-replicate, length-replicate}
+use Rattle.std.proofs.lemmas.List.Sums.{count_by-le-length, length-filter}
 use Rattle.heap_words.specs.declared.map.Areas.{Areas}
-use Rattle.heap_words.specs.Map.{heap_length}
-use Rattle.heap_words.specs.Contents.{Contents, InLimits}
-use Rattle.yak_model.specs.Spaces.{SpaceState}
-use Rattle.yak_model.specs.State.{view}
-use Rattle.yak_model.specs.Stands.{SetsStand, Stands, StandsAs, set_entries}
-use Rattle.yak_model.specs.Recorded.{IsReader, IsRecorded, Recorded}
-use Rattle.remember_sets.specs.declared.TheConstants.{SET_ENTRIES}
-use Rattle.remember_sets.specs.Filed.{IsFiled, SetsHold, logged, with_no_logs, with_sets}
+use Rattle.heap_words.specs.Map.{HasThread, IsAreas}
+use Rattle.heap_words.specs.Contents.{Contents, InLimits, depth_of}
+use Rattle.epoch_lattice.specs.declared.Space.{Space}
+use Rattle.yak_model.specs.Chains.{IsRegionOf}
+use Rattle.yak_model.specs.Spaces.{SpaceState, innermost}
+use Rattle.yak_model.specs.State.{object_of, view}
+use Rattle.yak_model.specs.Stands.{HeadsClosed, Stands, StandsAs}
+use Rattle.yak_model.specs.Recorded.{IsReader, IsRecorded, IsRecordedFor, Recorded}
+use Rattle.yak_model.proofs.Chains.{contains-or}
+use Rattle.remember_sets.specs.Filed.{SetsHold, all_filed, chain, enters, filed, logged, with_no_logs, with_sets, without_slot}
+use Rattle.remember_sets.proofs.Entering.{Enter, enters-since}
+use Rattle.remember_sets.proofs.Folded.{all_filed-has}
 use Rattle.forwarding.specs.Crossing.{AreFiled}
-use Rattle.standing_calls.proofs.Logs.{entries_of, no_entry, stands-with_logs}
+use Rattle.standing_calls.proofs.Closed.{filed-closed}
+use Rattle.standing_calls.proofs.FieldSlots.{crossing-enters}
+use Rattle.standing_calls.proofs.Homes.{home-region, home-valid}
+use Rattle.standing_calls.proofs.Logs.{buffers-told, entries_of, no_entry, stands-with_logs}
 use Rattle.escape_closure.specs.Targets.{TargetsWritten}
-use Rattle.escape_closure.specs.Leaving.{Begun}
+use Rattle.escape_closure.specs.Leaves.{FilesRecorded}
+use Rattle.escape_closure.specs.Leaving.{Begun, records_of}
+use Rattle.escape_closure.proofs.Written.{innermost_region}
 
 abbrev nil : List ℕ
 nil = []
@@ -31,97 +36,77 @@ none_logged m c filing others = subst AreFiled (sym (ap (λ (x : Contents). x.bu
 
 -- ---- what is filed is no more than what was recorded
 
--- a number for each index below another one
-abbrev choice : (n : ℕ) → ((k : ℕ) → k < n → ℕ) → ℕ → ℕ
-choice n f k = ⊎_elim (λ (lt : k < n). f k lt) (λ (h : n ≤ k). 0) (cases_lt k n)
+one_more : (m : Areas) (c : Contents) (x : Space) (a : ℕ) (slots : List ℕ) → length (filed m c x a slots) ≤ length slots + 1
+one_more m c x a slots =
+    let few : length (without_slot a slots) ≤ length slots = omega (arith, length-filter {X = ℕ}, count_by-le-length {X = ℕ}) in
+    ⊎_elim
+    (λ (t : enters m c x a ≡ true). let size = ap (λ (l : List ℕ). length l) (cond-true (enters m c x a) (a ∷ without_slot a slots) (without_slot a slots) t) in omega (arith, few, size))
+    (λ t. let size = ap (λ (l : List ℕ). length l) (cond-false (enters m c x a) (a ∷ without_slot a slots) (without_slot a slots) t) in omega (arith, few, size))
+    (cases_Bool (enters m c x a))
 
-choice-case : (n k : ℕ) (f : (k : ℕ) → k < n → ℕ) (P : ℕ → Type 0) → k < n → ((lt : k < n) → P (f k lt)) → (x : (k < n) ⊎ (n ≤ k)) → P (⊎_elim (λ (lt : k < n). f k lt) (λ (h : n ≤ k). 0) x)
-choice-case n k f P lt h (inl a) = h a
-choice-case n k f P lt h (inr b) = absurd (omega (arith, lt, b))
+pub few_filed : (m : Areas) (c : Contents) (x : Space) (l slots : List ℕ) → length (all_filed m c x l slots) ≤ length slots + length l
+few_filed m c x [] slots = omega arith
+few_filed m c x (a ∷ l) slots = let rest = few_filed m c x l (filed m c x a slots) in let one = one_more m c x a slots in omega (arith, rest, one)
 
-choice-is : (n k : ℕ) (f : (k : ℕ) → k < n → ℕ) (P : ℕ → Type 0) → k < n → ((lt : k < n) → P (f k lt)) → P (choice n f k)
-choice-is n k f P lt h = choice-case n k f P lt h (cases_lt k n)
-
-module _ (m : Areas) (c filing : Contents) (filed : (a : ℕ) → IsFiled filing a ↔ (IsFiled c a ⊎ Contains (logged c) a)) (sets : SetsHold m filing) (long : length filing.sets ≡ 2 * heap_length m) where
-  abbrev joint : List ℕ
-  joint = take (set_entries c.heads) c.sets ++ logged c
-
-  -- each slot that is filed stands in the joint list
-  found : (j : ℕ) → j < set_entries filing.heads → Contains joint (get_or filing.sets j 0)
-  found j lt =
-      let fits = sets.within in
-      let whole : set_entries filing.heads ≤ length filing.sets = omega (arith, fits, long) in
-      let one : IsFiled filing (get_or filing.sets j 0) = contains_at (set_entries filing.heads) filing.sets j whole lt in
-      ⊎_elim
-      (λ (f : IsFiled c (get_or filing.sets j 0)). Contains-append_left (take (set_entries c.heads) c.sets) (logged c) (get_or filing.sets j 0) f)
-      (λ (f : Contains (logged c) (get_or filing.sets j 0)). Contains-append_right (take (set_entries c.heads) c.sets) (logged c) (get_or filing.sets j 0) f)
-      ((filed (get_or filing.sets j 0)).0 one)
-
-  abbrev place : ℕ → ℕ
-  place = choice (set_entries filing.heads) (λ j lt. (found j lt).0)
-
-  place_is : (j : ℕ) → j < set_entries filing.heads → (place j < length joint) × (get_or joint (place j) 0 ≡ get_or filing.sets j 0)
-  place_is j lt = choice-is (set_entries filing.heads) j (λ i li. (found i li).0) (λ p. (p < length joint) × (get_or joint p 0 ≡ get_or filing.sets j 0)) lt (λ lt'.
-      let w = found j lt' in
-      (w.1, get_or_default joint w.0 0 (get_or filing.sets j 0) w.1 ∙ w.2))
-
-  pub few_filed : set_entries filing.heads ≤ set_entries c.heads + length (logged c)
-  few_filed =
-      let n : ℕ = set_entries filing.heads in
-      let xs : List ℕ = table_of place n in
-      let size : length joint ≡ length (take (set_entries c.heads) c.sets) + length (logged c) = length-append (take (set_entries c.heads) c.sets) (logged c) in
-      let front : length (take (set_entries c.heads) c.sets) ≤ set_entries c.heads = omega (arith, length-take (set_entries c.heads) c.sets) in
-      let at : (j : ℕ) → j < n → get_or xs j 0 ≡ place j = λ j lt. get-table_of place n j 0 lt in
-      let fit : n ≤ length joint = distinct_fit xs n (length joint) (omega (arith, length-table_of place n))
-      (λ j lt. subst (λ i. i < length joint) (sym (at j lt)) (place_is j lt).0)
-      (λ i j li lj e.
-      let same : place i ≡ place j = sym (at i li) ∙ e ∙ at j lj in
-      let word : get_or filing.sets i 0 ≡ get_or filing.sets j 0 = sym (place_is i li).1 ∙ ap (λ p. get_or joint p 0) same ∙ (place_is j lj).1 in
-      let a = (sets.listed i li).1 in
-      let b = (sets.listed j lj).1 in
-      let slot : get_or filing.sets (heap_length m + get_or filing.sets i 0) 0 ≡ get_or filing.sets (heap_length m + get_or filing.sets j 0) 0 = ap (λ w. get_or filing.sets (heap_length m + w) 0) word in
-      omega (arith, a, b, slot)) in
-      omega (arith, fit, size, front)
-
-module _ (m : Areas) (c filing : Contents) (s : SpaceState) (st : Stands m c s) (recorded : Recorded m c s st) (filed : (a : ℕ) → IsFiled filing a ↔ (IsFiled c a ⊎ Contains (logged c) a)) (sets : SetsHold m filing) (others : filing ≡ with_no_logs m (with_sets c filing)) (limits : InLimits m filing) where
-  forth : (a : ℕ) → IsRecorded filing.heads filing.sets filing.buffers a → IsRecorded c.heads c.sets c.buffers a
+module _ (m : Areas) (c filing : Contents) (s : SpaceState) (st : Stands m c s) (recorded : Recorded m c s st) (areas : IsAreas m) (records : FilesRecorded m c filing) (sets : SetsHold m filing) (others : filing ≡ with_no_logs m (with_sets c filing)) (limits : InLimits m filing) where
+  -- what is recorded
+  forth : (a : ℕ) → IsRecorded m filing.firsts filing.sets filing.buffers a → IsRecorded m c.firsts c.sets c.buffers a
   forth a h = ⊎_elim
-      (λ (f : IsFiled filing a). (filed a).0 f)
+      (λ (f : (x : Space) × IsRegionOf m x × Contains (chain m filing x) a).
+      ⊎_elim
+      (λ (p : Contains (logged c) a × (enters m c f.0 a ≡ true)). inr p.0)
+      (λ (p : (Contains (logged c) a → ⊥) × Contains (chain m c f.0) a). inl (f.0, f.1, p.1))
+      ((all_filed-has m c f.0 (logged c) (chain m c f.0) a).0 (subst (λ (l : List ℕ). Contains l a) (records f.0 f.1) f.2)))
       (λ (f : Contains (entries_of filing.buffers) a). absurd (no_entry m.threads a (subst (λ (bs : List (List ℕ)). Contains (entries_of bs) a) (ap (λ (x : Contents). x.buffers) others) f)))
       h
 
-  back : (a : ℕ) → IsRecorded c.heads c.sets c.buffers a → IsRecorded filing.heads filing.sets filing.buffers a
-  back a h = inl ((filed a).1 h)
+  back : (x : Space) (a : ℕ) → IsRegionOf m x → Enter m c x a → IsRecordedFor m c.firsts c.sets c.buffers x a → IsRecordedFor m filing.firsts filing.sets filing.buffers x a
+  back x a r enter h =
+      let now : Contains (all_filed m c x (logged c) (chain m c x)) a = (all_filed-has m c x (logged c) (chain m c x) a).1 (⊎_elim
+      (λ (f : Contains (logged c) a). inl (f, enters-since m c x a enter))
+      (λ (no : Contains (logged c) a → ⊥). inr (no, ⊎_elim (λ (f : Contains (chain m c x) a). f) (λ (f : Contains (logged c) a). absurd (no f)) h))
+      (contains-or a (logged c))) in
+      inl (subst (λ (l : List ℕ). Contains l a) (sym (records x r)) now)
+
+  pub frame : filing ≡ record c { firsts = filing.firsts; sets = filing.sets; buffers = filing.buffers }
+  frame = others ∙ ap (λ (bs : List (List ℕ)). record c { firsts = filing.firsts; sets = filing.sets; buffers = bs }) (sym (ap (λ (x : Contents). x.buffers) others))
 
   abbrev pub filed_stands : Stands m filing s
   filed_stands = record {
     whole = st.whole;
     places = st.places;
     stands =
-        let same_heads : filing.heads ≡ set c.heads SET_ENTRIES (set_entries filing.heads) = ap (λ (x : Contents). x.heads) others in
-        let whole : filing ≡ record c { heads = set c.heads SET_ENTRIES (set_entries filing.heads); sets = filing.sets; buffers = filing.buffers } = others ∙ ap (λ bs. record c { heads = set c.heads SET_ENTRIES (set_entries filing.heads); sets = filing.sets; buffers = bs }) (sym (ap (λ (x : Contents). x.buffers) others)) in
-        subst (λ (x : Contents). StandsAs m x (view s) st.places) (sym whole) (stands-with_logs m c (view s) st.places (set_entries filing.heads) filing.sets filing.buffers st.stands (subst (λ (hs : List ℕ). SetsStand m hs filing.sets) same_heads sets) limits.buffers);
+        let closed : HeadsClosed m filing.firsts (view s).depths = filed-closed m c filing (view s) st.places st.stands (buffers-told m c ∣ (s, st, recorded) ∣₁) sets records in
+        subst (λ (x : Contents). StandsAs m x (view s) st.places) (sym frame) (stands-with_logs m c (view s) st.places filing.firsts filing.sets filing.buffers st.stands sets closed limits.buffers);
   }
 
   pub filed_recorded : Recorded m filing s filed_stands
   filed_recorded =
       let readers : filing.readers ≡ c.readers = ap (λ (x : Contents). x.readers) others in
       record {
-        crossing = λ n x o p f en lt e ex enters. back (st.places.at n + 3 + f) (recorded.crossing n x o p f en lt e ex enters);
+        crossing = λ n x o p f en lt e ex enters.
+            back p.home (st.places.at n + 3 + f) (home-region m c s st x p areas ex enters.0) (crossing-enters m c (object_of s) st.places (λ _. 0) n x o p f st.stands.heap (home-valid m c s st) en lt e ex enters) (recorded.crossing n x o p f en lt e ex enters);
         fields = λ b h. recorded.fields b (forth b h);
         read = λ v u e k x p hv hm hk q ex home ne. subst (λ rs. IsReader rs v u e) (sym readers) (recorded.read v u e k x p hv hm hk q ex home ne);
         closed = λ u e hu hm he lt. ap (λ (rs : List (List ℕ)). get_or (get_or rs (u - 1) []) (e - 1) 0) readers ∙ recorded.closed u e hu hm he lt;
       }
 
-  pub begun : (d : Contents) (t escaping : ℕ) → length filing.sets ≡ 2 * heap_length m → TargetsWritten m s st.places t filing d escaping → Begun m c d s st t escaping
-  begun d t escaping long written = record {
+  pub few_recorded : (t : ℕ) → HasThread m t → 1 ≤ depth_of c t → length (chain m filing (innermost s.graph t)) ≤ records_of m c (innermost s.graph t)
+  few_recorded t has low =
+      let x : Space = innermost s.graph t in
+      let same = ap (λ (l : List ℕ). length l) (records x (innermost_region m c s st t has low)) in
+      let few = few_filed m c x (logged c) (chain m c x) in
+      omega (arith, same, few)
+
+  pub begun : (d : Contents) (t escaping : ℕ) → HasThread m t → 1 ≤ depth_of c t → TargetsWritten m s st.places t filing d escaping → Begun m c d s st t escaping
+  begun d t escaping has low written = record {
     filing = filing;
     later = filed_stands;
     places = refl;
     recorded = filed_recorded;
     filed = none_logged m c filing others;
     written = written;
-    few = few_filed m c filing filed sets long;
-    records = filed;
-    frame = others ∙ ap (λ bs. record c { heads = set c.heads SET_ENTRIES (set_entries filing.heads); sets = filing.sets; buffers = bs }) (sym (ap (λ (x : Contents). x.buffers) others));
+    few = few_recorded t has low;
+    records = records;
+    frame = frame;
   }

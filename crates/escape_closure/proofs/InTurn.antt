@@ -1,8 +1,7 @@
 -- Objects that are placed one after another.
-use Rattle.std.proofs.Common.{◌≡◌, ℕ, ◌+◌, ◌≤◌, ◌<◌, cond, nat_le, List, ◌∷◌, set, length, refl, sym, ap, subst, ◌∙◌, arith, inl, inr, get_or-set_other}
+use Rattle.std.proofs.Common.{◌≡◌, ℕ, ◌+◌, ◌≤◌, ◌<◌, cond, nat_le, List, set, length, refl, sym, ap, subst, ◌∙◌, arith, inl, inr}
 use Rattle.std.proofs.lemmas.Bool.{cases_eq}
 use Rattle.std.proofs.lemmas.Bool.Decides.{nat_tests}
-use Rattle.std.proofs.lemmas.List.{set-get_or, set-set, set_comm}
 use Rattle.object_layout.specs.declared.names.Name.{Name}
 use Rattle.heap_words.specs.declared.map.Areas.{Areas}
 use Rattle.heap_words.specs.Contents.{Contents, with_current}
@@ -11,12 +10,10 @@ use Rattle.epoch_lattice.specs.declared.Space.TheVariants.{Control, Region}
 use Rattle.epoch_lattice.specs.Lattice.{space_index}
 use Rattle.yak_model.specs.Spaces.{SpaceState, innermost}
 use Rattle.yak_model.specs.Placed.{Places}
-use Rattle.yak_model.specs.Stands.{claim_counter, free_pages, pool_length, set_entries}
-use Rattle.region_pages.specs.Pages.{with_claimed}
+use Rattle.yak_model.specs.Stands.{free_pages}
 use Rattle.region_pages.specs.Freeing.{freed_table, free_below, pool_with, with_released}
-use Rattle.region_pages.specs.Placement.{IsPlaced, depth_in, with_used}
+use Rattle.region_pages.specs.Placement.{IsPlaced}
 use Rattle.region_pages.specs.declared.TheConstants.{CLAIM_COUNTER, POOL_LENGTH}
-use Rattle.remember_sets.specs.declared.TheConstants.{SET_ENTRIES}
 use Rattle.escape_closure.specs.InTurn.{PlacedInTurn, FindsNoPlace, StandInTurn}
 use Rattle.escape_closure.specs.Needs.{InOrder}
 use Rattle.escape_closure.specs.Placing.{owner}
@@ -80,62 +77,38 @@ in_turn_beside m t count space size address c d scratch heap p = record {
 -- ---- nor at what is recorded
 
 -- the words with other records
-abbrev recording : ℕ → List ℕ → List (List ℕ) → Contents → Contents
-recording n sets buffers c = record c { heads = set c.heads SET_ENTRIES n; sets = sets; buffers = buffers }
+abbrev recording : List (List ℕ) → List ℕ → List (List ℕ) → Contents → Contents
+recording firsts sets buffers c = record c { firsts = firsts; sets = sets; buffers = buffers }
 
-free_kept : (heads pool : List ℕ) (n : ℕ) → free_pages (set heads SET_ENTRIES n) pool ≡ free_pages heads pool
-free_kept heads pool n =
-    let claims : claim_counter (set heads SET_ENTRIES n) ≡ claim_counter heads = get_or-set_other heads SET_ENTRIES 1 n 0 (omega arith) in
-    let count : pool_length (set heads SET_ENTRIES n) ≡ pool_length heads = get_or-set_other heads SET_ENTRIES 2 n 0 (omega arith) in
-    rw (claims, count) refl
+placed_recording : (m : Areas) (c after : Contents) (firsts : List (List ℕ)) (sets : List ℕ) (buffers : List (List ℕ)) (t size a : ℕ) (x : Space) → IsPlaced m c t x size a after → IsPlaced m (recording firsts sets buffers c) t x size a (recording firsts sets buffers after)
+placed_recording m c after firsts sets buffers t size a x (inl p) = inl (record { fits = p.fits; address = p.address; changed = ap (recording firsts sets buffers) p.changed })
+placed_recording m c after firsts sets buffers t size a x (inr p) = inr (p.0, record { page = p.1.page; free = p.1.free; address = p.1.address; changed = ap (recording firsts sets buffers) p.1.changed })
 
-claim_kept : (heads : List ℕ) (n : ℕ) → set (set heads CLAIM_COUNTER (claim_counter heads + 1)) SET_ENTRIES n ≡ set (set heads SET_ENTRIES n) CLAIM_COUNTER (claim_counter (set heads SET_ENTRIES n) + 1)
-claim_kept heads n =
-    set_comm heads CLAIM_COUNTER SET_ENTRIES (claim_counter heads + 1) n (omega arith)
-    ∙ ap (λ k. set (set heads SET_ENTRIES n) CLAIM_COUNTER (k + 1)) (sym (get_or-set_other heads SET_ENTRIES CLAIM_COUNTER n 0 (omega arith)))
-
-placed_recording : (m : Areas) (c after : Contents) (n : ℕ) (sets : List ℕ) (buffers : List (List ℕ)) (t size a : ℕ) (x : Space) → IsPlaced m c t x size a after → IsPlaced m (recording n sets buffers c) t x size a (recording n sets buffers after)
-placed_recording m c after n sets buffers t size a x (inl p) = inl (record { fits = p.fits; address = p.address; changed = ap (recording n sets buffers) p.changed })
-placed_recording m c after n sets buffers t size a x (inr p) =
-    let w = p.1 in
-    let last : Contents = with_current (with_used (with_claimed (recording n sets buffers c) x w.page) w.page size) t (depth_in x) (w.page + 1) in
-    inr (
-      p.0,
-      record {
-        page = w.page;
-        free = free_kept c.heads c.pool n ∙ w.free ∙ ap (λ (ps : List ℕ). w.page ∷ ps) (sym (free_kept after.heads after.pool n));
-        address = w.address;
-        changed = ap (recording n sets buffers) w.changed ∙ ap (λ (hs : List ℕ). record last { heads = hs }) (claim_kept c.heads n);
-      },
-    )
-
-in_turn_recording : (m : Areas) (t count : ℕ) (space : ℕ → Space) (size address : ℕ → ℕ) (c d : Contents) (n : ℕ) (sets : List ℕ) (buffers : List (List ℕ)) → PlacedInTurn m t count space size address c d → PlacedInTurn m t count space size address (recording n sets buffers c) (recording n sets buffers d)
-in_turn_recording m t count space size address c d n sets buffers p = record {
-  words = λ k. recording n sets buffers (p.words k);
-  begins = ap (recording n sets buffers) p.begins;
-  placed = λ k lt. placed_recording m (p.words k) (p.words (k + 1)) n sets buffers (owner t (space k)) (size k) (address k) (space k) (p.placed k lt);
-  ends = ap (recording n sets buffers) p.ends;
+in_turn_recording : (m : Areas) (t count : ℕ) (space : ℕ → Space) (size address : ℕ → ℕ) (c d : Contents) (firsts : List (List ℕ)) (sets : List ℕ) (buffers : List (List ℕ)) → PlacedInTurn m t count space size address c d → PlacedInTurn m t count space size address (recording firsts sets buffers c) (recording firsts sets buffers d)
+in_turn_recording m t count space size address c d firsts sets buffers p = record {
+  words = λ k. recording firsts sets buffers (p.words k);
+  begins = ap (recording firsts sets buffers) p.begins;
+  placed = λ k lt. placed_recording m (p.words k) (p.words (k + 1)) firsts sets buffers (owner t (space k)) (size k) (address k) (space k) (p.placed k lt);
+  ends = ap (recording firsts sets buffers) p.ends;
 }
 
 -- from words whose buffers were filed to the words before
-before_filing : (c filing : Contents) (n : ℕ) (sets : List ℕ) (buffers : List (List ℕ)) → filing ≡ record c { heads = set c.heads SET_ENTRIES n; sets = sets; buffers = buffers } → recording (set_entries c.heads) c.sets c.buffers filing ≡ c
-before_filing c filing n sets buffers frame =
-    ap (recording (set_entries c.heads) c.sets c.buffers) frame ∙ ap (λ (hs : List ℕ). record c { heads = hs }) (set-set c.heads SET_ENTRIES n (set_entries c.heads) ∙ set-get_or c.heads SET_ENTRIES 0)
+before_filing : (c filing : Contents) → filing ≡ recording filing.firsts filing.sets filing.buffers c → recording c.firsts c.sets c.buffers filing ≡ c
+before_filing c filing frame = ap (recording c.firsts c.sets c.buffers) frame
 
-pub out_before : (m : Areas) (t count : ℕ) (space : ℕ → Space) (size : ℕ → ℕ) (c filing mid : Contents) (n : ℕ) (sets : List ℕ) (buffers : List (List ℕ)) → filing ≡ record c { heads = set c.heads SET_ENTRIES n; sets = sets; buffers = buffers } → mid ≡ record filing { scratch = mid.scratch; heap = mid.heap } → FindsNoPlace m t count space size mid → FindsNoPlace m t count space size c
-out_before m t count space size c filing mid n sets buffers frame beside h =
-    let k : ℕ = set_entries c.heads in
+pub out_before : (m : Areas) (t count : ℕ) (space : ℕ → Space) (size : ℕ → ℕ) (c filing mid : Contents) → filing ≡ record c { firsts = filing.firsts; sets = filing.sets; buffers = filing.buffers } → mid ≡ record filing { scratch = mid.scratch; heap = mid.heap } → FindsNoPlace m t count space size mid → FindsNoPlace m t count space size c
+out_before m t count space size c filing mid frame beside h =
     let still : Contents = record h.last { scratch = filing.scratch; heap = filing.heap } in
-    let last : Contents = recording k c.sets c.buffers still in
+    let last : Contents = recording c.firsts c.sets c.buffers still in
     let first = in_turn_between m t h.reached space size h.address (record mid { scratch = filing.scratch; heap = filing.heap }) filing still still (ap (λ (x : Contents). record x { scratch = filing.scratch; heap = filing.heap }) beside) refl (in_turn_beside m t h.reached space size h.address mid h.last filing.scratch filing.heap h.placed) in
     record {
       reached = h.reached;
       fewer = h.fewer;
       address = h.address;
       last = last;
-      placed = in_turn_between m t h.reached space size h.address (recording k c.sets c.buffers filing) c last last (before_filing c filing n sets buffers frame) refl (in_turn_recording m t h.reached space size h.address filing still k c.sets c.buffers first);
+      placed = in_turn_between m t h.reached space size h.address (recording c.firsts c.sets c.buffers filing) c last last (before_filing c filing frame) refl (in_turn_recording m t h.reached space size h.address filing still c.firsts c.sets c.buffers first);
       little = h.little;
-      none = free_kept h.last.heads h.last.pool k ∙ h.none;
+      none = h.none;
     }
 
 -- ---- the pages after a region gave its own back
@@ -158,35 +131,25 @@ released_is : (c : Contents) (y : Space) → free_pages (with_released c y).head
 released_is c Control = refl
 released_is c (Region u d) = refl
 
-free_moved : (word : ℕ) (heads pool : List ℕ) (table : List (List ℕ)) (n : ℕ) → free_after word (set heads SET_ENTRIES n) pool table ≡ free_after word heads pool table
-free_moved word heads pool table n =
-    let pages : List ℕ = free_below (freed_table word table) (length (freed_table word table)) in
-    let moved : set (set (set heads SET_ENTRIES n) CLAIM_COUNTER 0) POOL_LENGTH (length pages) ≡ set (set (set heads CLAIM_COUNTER 0) POOL_LENGTH (length pages)) SET_ENTRIES n =
-    ap (λ (hs : List ℕ). set hs POOL_LENGTH (length pages)) (set_comm heads SET_ENTRIES CLAIM_COUNTER n 0 (omega arith)) ∙ set_comm (set heads CLAIM_COUNTER 0) SET_ENTRIES POOL_LENGTH n (length pages) (omega arith)
-    in
-    ap (λ (hs : List ℕ). free_pages hs (pool_with pages pool)) moved ∙ free_kept (set (set heads CLAIM_COUNTER 0) POOL_LENGTH (length pages)) (pool_with pages pool) n
-
-pub released_free : (a b : Contents) (n : ℕ) (y : Space) → a.heads ≡ set b.heads SET_ENTRIES n → a.pool ≡ b.pool → a.table ≡ b.table → free_pages (with_released a y).heads (with_released a y).pool ≡ free_pages (with_released b y).heads (with_released b y).pool
-released_free a b n y heads pool table =
+pub released_free : (a b : Contents) (y : Space) → a.heads ≡ b.heads → a.pool ≡ b.pool → a.table ≡ b.table → free_pages (with_released a y).heads (with_released a y).pool ≡ free_pages (with_released b y).heads (with_released b y).pool
+released_free a b y heads pool table =
     released_is a y
     ∙ ap (λ (hs : List ℕ). free_after (space_index y + 1) hs a.pool a.table) heads
-    ∙ ap (λ (ps : List ℕ). free_after (space_index y + 1) (set b.heads SET_ENTRIES n) ps a.table) pool
-    ∙ ap (λ (ts : List (List ℕ)). free_after (space_index y + 1) (set b.heads SET_ENTRIES n) b.pool ts) table
-    ∙ free_moved (space_index y + 1) b.heads b.pool b.table n
+    ∙ ap (λ (ps : List ℕ). free_after (space_index y + 1) b.heads ps a.table) pool
+    ∙ ap (λ (ts : List (List ℕ)). free_after (space_index y + 1) b.heads b.pool ts) table
     ∙ sym (released_is b y)
 
 -- what stands then
-pub stand_before : (m : Areas) (c filing d : Contents) (s : SpaceState) (l : Places) (t count : ℕ) (o : InOrder s l t count) (at : Name → ℕ) (n : ℕ) (sets : List ℕ) (buffers : List (List ℕ)) → filing ≡ record c { heads = set c.heads SET_ENTRIES n; sets = sets; buffers = buffers } → StandInTurn m filing d s l t count o at → StandInTurn m c d s l t count o at
-stand_before m c filing d s l t count o at n sets buffers frame h =
-    let k : ℕ = set_entries c.heads in
-    let last : Contents = recording k c.sets c.buffers h.last in
-    let before : recording k c.sets c.buffers filing ≡ c = before_filing c filing n sets buffers frame in
+pub stand_before : (m : Areas) (c filing d : Contents) (s : SpaceState) (l : Places) (t count : ℕ) (o : InOrder s l t count) (at : Name → ℕ) → filing ≡ record c { firsts = filing.firsts; sets = filing.sets; buffers = filing.buffers } → StandInTurn m filing d s l t count o at → StandInTurn m c d s l t count o at
+stand_before m c filing d s l t count o at frame h =
+    let last : Contents = recording c.firsts c.sets c.buffers h.last in
+    let before : recording c.firsts c.sets c.buffers filing ≡ c = before_filing c filing frame in
     record {
       last = last;
-      placed = in_turn_between m t count _ _ _ (recording k c.sets c.buffers filing) c last last before refl (in_turn_recording m t count _ _ _ filing h.last k c.sets c.buffers h.placed);
+      placed = in_turn_between m t count _ _ _ (recording c.firsts c.sets c.buffers filing) c last last before refl (in_turn_recording m t count _ _ _ filing h.last c.firsts c.sets c.buffers h.placed);
       left = with_released last (innermost s.graph t);
       released = refl;
       table = h.table ∙ ap (λ (x : Contents). x.table) h.released ∙ released_table h.last (innermost s.graph t) ∙ sym (released_table last (innermost s.graph t));
       currents = h.currents ∙ ap (λ (x : Contents). x.currents) h.released ∙ released_currents h.last last (innermost s.graph t) refl;
-      free = h.free ∙ ap (λ (x : Contents). free_pages x.heads x.pool) h.released ∙ sym (released_free last h.last k (innermost s.graph t) refl refl refl);
+      free = h.free ∙ ap (λ (x : Contents). free_pages x.heads x.pool) h.released ∙ sym (released_free last h.last (innermost s.graph t) refl refl refl);
     }

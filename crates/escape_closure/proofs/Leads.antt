@@ -1,5 +1,5 @@
 -- What refers to the objects that the plan of an end moves.
-use Rattle.std.proofs.Common.{◌≡◌, ◌≢◌, ◌⊎◌, ℕ, ◌+◌, ◌-◌, ◌*◌, ◌/◌, ◌≤◌, ◌<◌, Bool, true, Option, Some, None, is_some, List, [], ◌∷◌, zero, suc, length, map, take, get_or, refl, sym, ap, subst, ◌∙◌, arith, inl, inr, length-take, get_or-take}
+use Rattle.std.proofs.Common.{◌≡◌, ◌≢◌, ◌⊎◌, ℕ, ◌+◌, ◌-◌, ◌*◌, ◌/◌, ◌≤◌, ◌<◌, Bool, true, Option, Some, None, is_some, List, [], ◌∷◌, zero, suc, length, map, get_or, refl, sym, ap, subst, ◌∙◌, arith, inl, inr}
 use Rattle.std.proofs.lemmas.Bool.{cases_eq}
 use Rattle.std.proofs.lemmas.List.{ext_get_or, get_or_default, length-map}
 use Rattle.std.proofs.lemmas.List.Elements.{All-get_or, Contains-get_or}
@@ -23,7 +23,9 @@ use Rattle.yak_model.specs.Spaces.{SpaceState, innermost}
 use Rattle.yak_model.specs.State.{Thing, IsDatum, object_of, view}
 use Rattle.yak_model.specs.Placed.{Holds, datum_word, size_by, space_word}
 use Rattle.yak_model.specs.Plans.{Move, forward, forwarded, without}
-use Rattle.yak_model.specs.Stands.{Stands, set_entries}
+use Rattle.yak_model.specs.Stands.{Stands}
+use Rattle.yak_model.specs.Chains.{IsRegionOf}
+use Rattle.remember_sets.specs.Filed.{SetsHold, chain}
 use Rattle.yak_model.specs.Recorded.{Enters, IsField}
 use Rattle.yak_model.proofs.Names.{same_or_other}
 use Rattle.yak_model.proofs.Placed.{in_page}
@@ -42,7 +44,7 @@ use Rattle.relocation.proofs.Moving.{fields_at-header, fields_at-same}
 use Rattle.relocation.proofs.SlidLawful.{kept-false}
 use Rattle.relocation.proofs.Slidden.{holds-corrected}
 use Rattle.escape_closure.specs.Ends.{DropsRest, PlanReady, References}
-use Rattle.escape_closure.specs.Referring.{IsOutside, OutsideCorrected, SlotsReady, StackLeads, corrected_stack}
+use Rattle.escape_closure.specs.Referring.{IsOutside, OutsideCorrected, SlotsReady, StackLeads, corrected_stack, slot_at}
 use Rattle.escape_closure.proofs.Reaches.{reached_here}
 use Rattle.escape_closure.proofs.Tells.{same_index}
 use Rattle.escape_closure.proofs.Written.{none_filed}
@@ -139,17 +141,11 @@ module _ (m : Areas) (before c : Contents) (s : SpaceState) (stands : Stands m b
       let stays : f (at x) ≡ at x = by_move-other count (move_at c.scratch) (λ v. v.new) (at x) (at x) (unmoved x p.0 p.1 (outside x p.0 refl p.1)) in
       ap (λ a. 2 * (a + 1)) (sym stays)
 
-  -- a recorded slot is a field
-  slot_field : (i : ℕ) → length c.sets ≡ 2 * heap_length m → i < set_entries c.heads → IsField stands.places.at (view s) (get_or c.sets i 0)
-  slot_field i size lt =
-      let sets : c.sets ≡ before.sets = ap (λ (x : Contents). x.sets) ready.frame in
-      let k : ℕ = set_entries before.heads in
-      let below : i < k = omega (arith, lt, ready.entries) in
-      let fits = stands.stands.sets.within in
-      let whole : length before.sets ≡ 2 * heap_length m = ap (λ (xs : List ℕ). length xs) (sym sets) ∙ size in
-      let long : i < length (take k before.sets) = simp length-take (omega (arith, below, fits, whole)) in
-      let found : Contains (take k before.sets) (get_or c.sets i 0) = subst (Contains (take k before.sets)) (get_or-take k before.sets i 0 below ∙ ap (λ xs. get_or xs i 0) (sym sets)) (Contains-get_or (take k before.sets) i 0 long) in
-      ready.recorded.fields (get_or c.sets i 0) (inl found)
+  -- a slot of a chain is a field
+  slot_field : (x : Space) → IsRegionOf m x → (i : ℕ) → i < length (chain m c x) → IsField stands.places.at (view s) (slot_at m c x i)
+  slot_field x own i lt =
+      let same : chain m c x ≡ chain m before x = ap (λ (y : Contents). chain m y x) ready.frame in
+      ready.recorded.fields (slot_at m c x i) (inl (x, own, subst (λ (slots : List ℕ). Contains slots (slot_at m c x i)) same (Contains-get_or (chain m c x) i 0 lt)))
 
   -- a field's word leads into the heap
   field_leads : (n : Name) (o : Thing) (j b : ℕ) → object_of s n ≡ Some o → j < length o.fields → datum_word at (get_or o.fields j Null) ≡ 2 * (b + 1) → b + 2 < heap_length m
@@ -160,27 +156,18 @@ module _ (m : Areas) (before c : Contents) (s : SpaceState) (stands : Stands m b
       let end = in_heap m laid w.0 w.1 stands.stands w.3 in
       omega (arith, end, w.4)
 
-  pub slots_ready : length c.sets ≡ 2 * heap_length m → SlotsReady m c count (move_at c.scratch)
-  slots_ready size =
-      let sets : c.sets ≡ before.sets = ap (λ (x : Contents). x.sets) ready.frame in
-      let at_slot : (i : ℕ) → get_or c.sets i 0 ≡ get_or before.sets i 0 = λ i. ap (λ (xs : List ℕ). get_or xs i 0) sets in
-      record {
-        within = omega (arith, stands.stands.sets.within, ready.entries);
-        slots = λ i lt. let w = stands.stands.sets.listed i (omega (arith, lt, ready.entries)) in omega (arith, w.0, at_slot i);
-        once = λ i j less lt q.
-            let a = stands.stands.sets.listed i (omega (arith, less, lt, ready.entries)) in
-            let b = stands.stands.sets.listed j (omega (arith, lt, ready.entries)) in
-            let same : get_or before.sets (heap_length m + get_or before.sets i 0) 0 ≡ get_or before.sets (heap_length m + get_or before.sets j 0) 0 = ap (λ a. get_or before.sets (heap_length m + a) 0) (sym (at_slot i) ∙ q ∙ at_slot j) in
-            omega (arith, a.1, b.1, same, less);
-        lead = λ i b lt e.
-            let w = slot_field i size lt in
-            let value : get_or c.heap (get_or c.sets i 0) 0 ≡ datum_word at (get_or w.1.fields w.2 Null) = ap (λ a. get_or c.heap a 0) w.5 ∙ (ready.holds.stands w.0 w.1 w.3).fields w.2 w.4 in
-            field_leads w.0 w.1 w.2 b w.3 w.4 (sym value ∙ e);
-        beside = λ i k lt lk q.
-            let w = slot_field i size lt in
-            let v = moved_at k lk in
-            kept_word m laid w.0 w.1 (OBJECT_WORDS + w.2) stands.stands w.3 (omega (arith, w.4)) (omega arith) v.name v.thing v.present (omega (arith, q, w.5, v.place));
-      }
+  pub slots_ready : (x : Space) → IsRegionOf m x → SlotsReady m c x count (move_at c.scratch)
+  slots_ready x own = record {
+    sets = subst (SetsHold m) (sym ready.frame) stands.stands.sets;
+    lead = λ i b lt e.
+        let w = slot_field x own i lt in
+        let value : get_or c.heap (slot_at m c x i) 0 ≡ datum_word at (get_or w.1.fields w.2 Null) = ap (λ a. get_or c.heap a 0) w.5 ∙ (ready.holds.stands w.0 w.1 w.3).fields w.2 w.4 in
+        field_leads w.0 w.1 w.2 b w.3 w.4 (sym value ∙ e);
+    beside = λ i k lt lk q.
+        let w = slot_field x own i lt in
+        let v = moved_at k lk in
+        kept_word m laid w.0 w.1 (OBJECT_WORDS + w.2) stands.stands w.3 (omega (arith, w.4)) (omega arith) v.name v.thing v.present (omega (arith, q, w.5, v.place));
+  }
 
   stack_is : (k : ℕ) → row c.stacks k ≡ map (datum_word stands.places.at) (get_or (view s).stacks k [])
   stack_is k = ap (λ (x : Contents). row x.stacks k) ready.frame ∙ ap (λ (ss : List (List ℕ)). get_or ss k []) stands.stands.stacks ∙ get_or-map_all (map (datum_word stands.places.at)) (view s).stacks k []
@@ -222,7 +209,7 @@ module _ (m : Areas) (before c : Contents) (s : SpaceState) (stands : Stands m b
       ap (size_at c.heap) (sym w.place) ∙ ap (λ i. i + 3) (fields_at-header c.heap (at w.name) (record { fields = length w.thing.fields; space = space_index w.thing.home }) (ready.holds.limits w.name w.thing w.present) st.header)
 
   -- after what leads into the region from outside is corrected
-  module _ (mid : Contents) (depth : ℕ) (region_at : region ≡ Region t depth) (valid : IsValid MAX_DEPTH (Region t depth)) (size : length c.sets ≡ 2 * heap_length m) (out : OutsideCorrected m (forward count (move_at c.scratch)) c mid t depth) where
+  module _ (mid : Contents) (depth : ℕ) (region_at : region ≡ Region t depth) (valid : IsValid MAX_DEPTH (Region t depth)) (own : IsRegionOf m (Region t depth)) (out : OutsideCorrected m (forward count (move_at c.scratch)) c mid t depth) where
     inside_word : (n : Name) (o : Thing) (a : ℕ) → object_of s n ≡ Some o → o.home ≡ region → at n ≤ a → a < at n + (length o.fields + OBJECT_WORDS) → get_or mid.heap a 0 ≡ get_or c.heap a 0
     inside_word n o a present home low high =
         let word = page_word n o a present low high ∙ ap (λ x. space_index x + 1) (home ∙ region_at) in
@@ -278,9 +265,9 @@ module _ (m : Areas) (before c : Contents) (s : SpaceState) (stands : Stands m b
           ]
 
       -- the first words of an object are no slots
-      no_slot : (n : Name) (o : Thing) (j i : ℕ) → object_of s n ≡ Some o → j < 3 → i < set_entries c.heads → at n + j ≢ get_or c.sets i 0
+      no_slot : (n : Name) (o : Thing) (j i : ℕ) → object_of s n ≡ Some o → j < 3 → i < length (chain m c (Region t depth)) → at n + j ≢ slot_at m c (Region t depth) i
       no_slot n o j i present three lt q =
-          let w = slot_field i size lt in
+          let w = slot_field (Region t depth) own i lt in
           elim (same_or_other n w.0) [
             | inl e ↦ let same : at n ≡ at w.0 = ap stands.places.at e in omega (arith, same, q, w.5, three)
             | inr ne ↦ elim (lie_apart m laid n w.0 o w.1 stands.stands present w.3 ne) as (λ _. ⊥) [
@@ -296,16 +283,16 @@ module _ (m : Areas) (before c : Contents) (s : SpaceState) (stands : Stands m b
             | inr ne ↦ far n o (at n + j) k present (omega arith) (omega (arith, three)) lk ne
           ]) ∙ out.fields (at n + j) (λ i lt _ q. no_slot n o j i present three lt q)
 
-      -- a field from outside that is not recorded leads to no moved object
-      unrecorded : (n : Name) (o : Thing) (i : ℕ) → object_of s n ≡ Some o → o.home ≢ region → i < length o.fields → ((j : ℕ) → j < set_entries c.heads → at n + OBJECT_WORDS + i ≢ get_or c.sets j 0) → (x : Name) (p : Thing) → get_or o.fields i Null ≡ Object x → object_of s x ≡ Some p → p.home ≢ region
+      -- a field from outside that is not in the region's chain leads to no moved object
+      unrecorded : (n : Name) (o : Thing) (i : ℕ) → object_of s n ≡ Some o → o.home ≢ region → i < length o.fields → ((j : ℕ) → j < length (chain m c (Region t depth)) → at n + OBJECT_WORDS + i ≢ slot_at m c (Region t depth) j) → (x : Name) (p : Thing) → get_or o.fields i Null ≡ Object x → object_of s x ≡ Some p → p.home ≢ region
       unrecorded n o i present outside lt none x p is there home =
           let enters : Enters o.home p.home = (λ q. let w : Control ≡ Region t depth = sym q ∙ home ∙ region_at in cc, λ q. outside (sym q ∙ home)) in
           let slot : ℕ = at n + OBJECT_WORDS + i in
           elim (ready.recorded.crossing n x o p i present lt is there enters) as (λ _. ⊥) [
-            | inl k ↦
-                let below : k.0 < set_entries before.heads = omega (arith, k.1, length-take (set_entries before.heads) before.sets) in
-                let found : get_or before.sets k.0 0 ≡ slot = sym (get_or-take (set_entries before.heads) before.sets k.0 0 below) ∙ get_or_default (take (set_entries before.heads) before.sets) k.0 0 slot k.1 ∙ k.2 in
-                none k.0 (omega (arith, below, ready.entries)) (sym found ∙ ap (λ (y : Contents). get_or y.sets k.0 0) (sym ready.frame))
+            | inl h ↦
+                let into : Contains (chain m before (Region t depth)) slot = subst (λ (y : Space). Contains (chain m before y) slot) (home ∙ region_at) h in
+                let k : Contains (chain m c (Region t depth)) slot = subst (λ (y : Contents). Contains (chain m y (Region t depth)) slot) (sym ready.frame) into in
+                none k.0 k.1 (sym (get_or_default (chain m c (Region t depth)) k.0 0 slot k.1 ∙ k.2))
             | inr b ↦ let none_ = subst (λ xs. Contains xs slot) (none_filed before.buffers ready.filed) b in omega (arith, none_.1)
           ]
 
@@ -313,9 +300,9 @@ module _ (m : Areas) (before c : Contents) (s : SpaceState) (stands : Stands m b
       outside_field n o i present outside lt =
           let a : ℕ = at n + OBJECT_WORDS + i in
           let still : get_or d.heap a 0 ≡ get_or mid.heap a 0 = last.others a (λ k lk. far n o a k present (omega arith) (omega (arith, lt)) lk (unmoved n o present outside k lk)) in
-          still ∙ elim (listed_or_not c.sets a (set_entries c.heads)) [
+          still ∙ elim (listed_or_not (chain m c (Region t depth)) a (length (chain m c (Region t depth)))) [
             | inl w ↦
-                let beside : IsOutside m c (space_index (Region t depth)) w.0 = λ q.
+                let beside : IsOutside m c (Region t depth) (slot_at m c (Region t depth) w.0) = λ q.
                 let own : space_index o.home + 1 ≡ space_index (Region t depth) + 1 = sym (page_word n o a present (omega arith) (omega (arith, lt))) ∙ ap (λ b. space_word c.table (b / page_words m)) w.2 ∙ q in
                 outside (same_index o.home (Region t depth) (home_valid n o present) valid (omega (arith, own)) ∙ sym region_at) in
                 ap (λ b. get_or mid.heap b 0) w.2 ∙ out.slots w.0 w.1 beside ∙ ap (λ b. corrected_word (forward count (move_at c.scratch)) (get_or c.heap b 0)) (sym w.2)

@@ -1,5 +1,5 @@
 -- The words that an end leaves stand for the state after it, and its crossing references are recorded.
-use Rattle.std.proofs.Common.{◌≡◌, ◌≢◌, ◌↔◌, ℕ, ◌+◌, ◌-◌, ◌/◌, ◌≤◌, ◌<◌, Bool, true, false, cond, Option, Some, None, IsSome, List, [], ◌∷◌, length, get_or, map, set, zero, suc, refl, sym, ap, subst, ◌∙◌, arith, inl, inr, length-set, get_or-set_same, get_or-set_other}
+use Rattle.std.proofs.Common.{◌≡◌, ◌≢◌, ℕ, ◌+◌, ◌-◌, ◌≤◌, ◌<◌, Bool, true, false, cond, Option, Some, List, [], ◌∷◌, length, get_or, map, set, zero, suc, refl, sym, ap, subst, ◌∙◌, arith, inl, inr, length-set, get_or-set_same, get_or-set_other}
 use Rattle.std.specs.List.{All, Contains, flat_map}
 use Rattle.std.proofs.lemmas.Bool.{cases_eq, cases_lt}
 use Rattle.std.specs.Int.{IsBitSet}
@@ -7,9 +7,8 @@ use Rattle.std.proofs.lemmas.Bool.Decides.{nat_tests}
 use Rattle.std.proofs.lemmas.List.{get_or_past}
 use Rattle.std.proofs.Math.Logic.{⊎_elim}
 use Rattle.object_layout.specs.declared.names.Name.{Name}
-use Rattle.object_layout.specs.declared.TheConstants.{MAX_FIELDS, OBJECT_WORDS}
 use Rattle.heap_words.specs.declared.map.Areas.{Areas}
-use Rattle.heap_words.specs.Map.{HasThread, IsAreas, max_depth, page_words}
+use Rattle.heap_words.specs.Map.{HasThread, IsAreas, max_depth}
 use Rattle.heap_words.specs.Cells.{row}
 use Rattle.heap_words.specs.Contents.{Contents, depth_of, with_depth, with_readers}
 use Rattle.epoch_lattice.specs.declared.Space.{Space}
@@ -17,30 +16,31 @@ use Rattle.epoch_lattice.specs.declared.Space.TheVariants.{Control, Region}
 use Rattle.epoch_lattice.specs.declared.TheConstants.{MAX_DEPTH}
 use Rattle.epoch_lattice.specs.Lattice.{IsBelow, IsValid, parent_of, space_index}
 use Rattle.epoch_lattice.proofs.Numbers.{number-own}
-use Rattle.yak_model.specs.declared.datum.Datum.{Datum}
-use Rattle.yak_model.specs.declared.datum.Datum.TheVariants.{Int, Null, Object}
+use Rattle.yak_model.specs.declared.datum.Datum.TheVariants.{Null, Object}
 use Rattle.yak_model.specs.Graph.{Limits, thread_of}
 use Rattle.yak_model.specs.Spaces.{Counts, IsOnStack, SpaceState, Walk, here, home_of, innermost, other, own}
-use Rattle.yak_model.specs.State.{IsClosed, IsDatum, IsOpen, State, Thing, object_of, stack, view}
-use Rattle.yak_model.specs.Placed.{HeapStands, Places, datum_word, size_by, space_word, words_by}
-use Rattle.yak_model.specs.Plans.{Move, after_moves, forwarded, rehomed, without}
+use Rattle.yak_model.specs.State.{IsOpen, State, Thing, object_of, stack, view}
+use Rattle.yak_model.specs.Placed.{Places, datum_word, space_word}
+use Rattle.yak_model.specs.Plans.{Move, forwarded, without}
 use Rattle.yak_model.specs.Stands.{Stands, StandsAs}
-use Rattle.yak_model.specs.Recorded.{Enters, IsField, IsRecorded, Recorded, RecordedAs}
-use Rattle.yak_model.proofs.Placed.{in_page}
+use Rattle.yak_model.specs.Chains.{IsRegionOf}
+use Rattle.yak_model.specs.Recorded.{IsField, IsRecorded, Recorded, RecordedAs}
+use Rattle.yak_model.proofs.Chains.{contains-none}
 use Rattle.yak_model.proofs.Lists.{slot_on_list}
 use Rattle.yak_model.proofs.Stacks.{all-at}
 use Rattle.heap_walks.proofs.Seen.{on_stack, present_home, seen, shown}
 use Rattle.heap_walks.proofs.Stacks.{some_row}
-use Rattle.relocation.proofs.Lawful.{before_moves, by_move-at}
-use Rattle.remember_sets.specs.Filed.{IsFiled, LiesIn}
-use Rattle.forwarding.specs.Crossing.{AreFiled, IsCrossing}
+use Rattle.remember_sets.specs.Filed.{chain}
+use Rattle.forwarding.specs.Crossing.{AreFiled}
 use Rattle.escape_closure.specs.Targets.{IsEscaping}
 use Rattle.escape_closure.specs.Ends.{StateEnded, region_word}
-use Rattle.escape_closure.specs.Leaves.{FilesEnded, IsMovedCrossing, RestKept}
+use Rattle.escape_closure.specs.Leaves.{FilesEnded, RestKept}
 use Rattle.escape_closure.specs.Leaving.{EndMoves, Leaves, left_behind, objects_left}
 use Rattle.escape_closure.proofs.Afters.{Ended, ended_so, ended_view}
-use Rattle.escape_closure.proofs.Fates.{MovedAs, OneEach, escaping_in, left_so, moves_so, one_each, stays_so}
-use Rattle.escape_closure.proofs.Written.{depth_is, region_is}
+use Rattle.escape_closure.proofs.Fates.{MovedAs, OneEach, left_so, moves_so, one_each, stays_so}
+use Rattle.escape_closure.proofs.Files.{closed_left, crossing_filed, field_filed, files_left}
+use Rattle.escape_closure.proofs.Rehomed.{closed_after}
+use Rattle.escape_closure.proofs.Written.{depth_is, none_filed, region_is}
 
 one_thing : (a b : Thing) → Some a ≡ Some b → a ≡ b
 one_thing a b e = cc
@@ -50,32 +50,6 @@ one_region u d v e h = ((cc), (cc))
 
 no_region : (u d : ℕ) → Control ≡ Region u d → ⊥
 no_region u d h = cc
-
--- ---- what is closed stays closed
-
-datum_as : (f g : Name → Option Thing) → ((n : Name) → IsSome (f n) → IsSome (g n)) → (d : Datum) → IsDatum f d → IsDatum g d
-datum_as f g to Null h = tt
-datum_as f g to (Int i) h = h
-datum_as f g to (Object n) h = to n h
-
-all_as : {X : Type 0} (P Q : X → Type 0) (xs : List X) → ((x : X) → P x → Q x) → All P xs → All Q xs
-all_as P Q xs to h k d lt = to (get_or xs k d) (h k d lt)
-
-some_rehomed : (count : ℕ) (moves : ℕ → Move) (a : ℕ) (x : Option Thing) → IsSome x → IsSome (rehomed count moves a x)
-some_rehomed count moves a None h = h
-some_rehomed count moves a (Some o) h = refl
-
-pub closed_after : (count : ℕ) (moves : ℕ → Move) (at : Name → ℕ) (s : State) → IsClosed s → IsClosed (after_moves count moves at s)
-closed_after count moves at s h =
-    let to : (n : Name) → IsSome (s.objects n) → IsSome (rehomed count moves (at n) (s.objects n)) = λ n. some_rehomed count moves (at n) (s.objects n) in
-    let datum : (d : Datum) → IsDatum s.objects d → IsDatum (λ n. rehomed count moves (at n) (s.objects n)) d = datum_as s.objects (λ n. rehomed count moves (at n) (s.objects n)) to in
-    record {
-      stacks = all_as (All (IsDatum s.objects)) (All (IsDatum (λ n. rehomed count moves (at n) (s.objects n)))) s.stacks (λ st. all_as (IsDatum s.objects) (IsDatum (λ n. rehomed count moves (at n) (s.objects n))) st datum) h.stacks;
-      fields = λ n p e.
-          let b = before_moves count moves (at n) (s.objects n) p e in
-          let f = h.fields n b.0 b.1 in
-          subst (λ (x : Thing). All (IsDatum (λ n. rehomed count moves (at n) (s.objects n))) x.fields × (length x.fields ≤ MAX_FIELDS)) (sym b.2) (all_as (IsDatum s.objects) (IsDatum (λ n. rehomed count moves (at n) (s.objects n))) b.0.fields datum f.0, f.1);
-    }
 
 -- ---- spaces
 
@@ -101,16 +75,6 @@ still_open depths t depth (Region u e) some most is h ne = ⊎_elim
 parent_below : (t depth u d : ℕ) → IsBelow (parent_of (Region t depth)) (Region u d) → u ≡ t
 parent_below t depth u d h = grind (arith, nat_tests)
 
-none_filed : (buffers : List (List ℕ)) → AreFiled buffers → flat_map (λ (b : List ℕ). b) buffers ≡ []
-none_filed [] h = refl
-none_filed (b ∷ bs) h =
-    let first : b ≡ [] = h 0 [] (omega arith) in
-    let rest : flat_map (λ (x : List ℕ). x) bs ≡ [] = none_filed bs (λ k d lt. h (suc k) d (omega (arith, lt))) in
-    rw first rest
-
-not_in : (xs : List ℕ) (a : ℕ) → xs ≡ [] → Contains xs a → ⊥
-not_in xs a e h = let none : Contains [] a = subst (λ (ys : List ℕ). Contains ys a) e h in let lt : none.0 < 0 = none.1 in omega (arith, lt)
-
 set_past : {X : Type 0} (xs : List X) (i : ℕ) (x : X) → length xs ≤ i → set xs i x ≡ xs
 set_past [] i x le = refl
 set_past (y ∷ ys) zero x le = absurd (omega (arith, le))
@@ -124,7 +88,7 @@ set_zero (x ∷ xs) (suc i) = set_zero xs i
 here_walk : {edge : Name → Name → Type 0} (x : Name) → Walk edge x x
 here_walk x = here
 
-module _ (m : Areas) (c : Contents) (s : SpaceState) (st : Stands m c s) (recorded : Recorded m c s st) (areas : IsAreas m) (t count : ℕ) (has : HasThread m t) (low : 1 ≤ depth_of c t) (moves : ℕ → Move) (tight : Bool) (e : EndMoves s st.places t count moves tight) (d : Contents) (later : Places) (leaves : Leaves m c d s st.places t count moves later) where
+module _ (m : Areas) (c : Contents) (s : SpaceState) (st : Stands m c s) (recorded : Recorded m c s st) (quiet : AreFiled c.buffers) (areas : IsAreas m) (t count : ℕ) (has : HasThread m t) (low : 1 ≤ depth_of c t) (moves : ℕ → Move) (tight : Bool) (e : EndMoves s st.places t count moves tight) (spaces : (k : ℕ) → k < count → IsValid MAX_DEPTH (moves k).space) (d : Contents) (later : Places) (leaves : Leaves m c d s st.places t count moves later) where
   abbrev l : Places
   l = st.places
 
@@ -176,70 +140,20 @@ module _ (m : Areas) (c : Contents) (s : SpaceState) (st : Stands m c s) (record
     pool = leaves.pool;
     currents = leaves.currents;
     sets = leaves.sets;
+    heads_closed = closed_left m c s st recorded quiet areas t count has low moves tight e spaces d later leaves;
     dense = leaves.dense;
   }
 
   -- ---- records
 
-  filed_again : (a : ℕ) → IsRecorded d.heads d.sets d.buffers a → IsFiled d a
-  filed_again a h = ⊎_elim (λ (f : IsFiled d a). f) (λ (f : Contains (flat_map (λ (b : List ℕ). b) d.buffers) a). absurd (not_in (flat_map (λ (b : List ℕ). b) d.buffers) a (none_filed d.buffers leaves.buffers) f)) h
-
-  -- the page of a field
-  field_page : (n : Name) (o : Thing) (f a : ℕ) → object_of s n ≡ Some o → f < length o.fields → a ≡ l.at n + OBJECT_WORDS + f → space_word c.table (a / page_words m) ≡ space_index o.home + 1
-  field_page n o f a now_is lt is =
-      let at = st.stands.heap.present n o now_is in
-      let w = st.stands.heap.whole n at.0 at.1 at.2 in
-      let page = in_page (page_words m) (size_by (object_of s)) l n at.0 at.1 st.stands.heap.tiles at.2 in
-      let size : size_by (object_of s) n ≡ length o.fields + OBJECT_WORDS = ap words_by now_is in
-      let in_it : a / page_words m ≡ at.0 = omega (arith, is, lt, page.0, page.1, size) in
-      ap (space_word c.table) in_it ∙ w.2 ∙ ap (λ (q : Thing). space_index q.home + 1) (one_thing w.0 o (sym w.1 ∙ now_is))
-
   home_valid : (n : Name) (o : Thing) → object_of s n ≡ Some o → IsValid MAX_DEPTH o.home
   home_valid n o h = subst (λ k. IsValid k o.home) (ap (λ (q : Limits). q.depth) st.whole.limits) (st.whole.homes n o.home (seen s n o h).home_is)
 
-  crossing_now : (n x : Name) (o p : Thing) (f : ℕ) → left n ≡ Some o → f < length o.fields → get_or o.fields f Null ≡ Object x → left x ≡ Some p → Enters o.home p.home → IsFiled d (later.at n + OBJECT_WORDS + f)
-  crossing_now n x o p f hn lt refers hx enters =
-      let w = left_so s st.whole l one t count has.0 valid moves tight e n o hn in
-      elim w.2 [
-        | inl q ↦ (leaves.filed (later.at n + OBJECT_WORDS + f)).1 (inr (record {
-          move = q.move;
-          among = q.among;
-          from = n;
-          object = o;
-          present = hn;
-          moved = leads n ∙ q.leads;
-          field = f;
-          within = lt;
-          to = x;
-          goal = p;
-          refers = refers;
-          reached = hx;
-          enters = enters;
-          place = refl;
-        }))
-        | inr q ↦
-            let v = left_so s st.whole l one t count has.0 valid moves tight e x p hx in
-            let same : later.at n ≡ l.at n = leads n ∙ q.leads in
-            let lt' : f < length w.0.fields = subst (λ (z : Thing). f < length z.fields) q.is lt in
-            let refers' : get_or w.0.fields f Null ≡ Object x = ap (λ (z : Thing). get_or z.fields f Null) (sym q.is) ∙ refers in
-            let before : Enters w.0.home v.0.home = elim v.2 [
-              | inl y ↦ ((λ z. no_region t depth (sym z ∙ y.home ∙ region)), λ z. q.home (sym z ∙ y.home))
-              | inr y ↦ subst (λ (z : Thing). Enters z.home v.0.home) q.is (subst (λ (z : Thing). Enters o.home z.home) y.is enters)
-            ] in
-            let was = recorded.crossing n x w.0 v.0 f w.1 lt' refers' v.1 before in
-            let outside : LiesIn m c (innermost s.graph t) (l.at n + OBJECT_WORDS + f) → ⊥ = λ z. q.home (number-own w.0.home (innermost s.graph t) (home_valid n w.0 w.1) valid (omega (arith, z, field_page n w.0 f (l.at n + OBJECT_WORDS + f) w.1 lt' refl))) in
-            subst (λ a. IsFiled d (a + OBJECT_WORDS + f)) (sym same) ((leaves.filed (l.at n + OBJECT_WORDS + f)).1 (inl (was, outside)))
-      ]
-
-  field_now : (a : ℕ) → IsFiled d a → IsField later.at (ended_view s l t count moves) a
-  field_now a h = elim ((leaves.filed a).0 h) [
-    | inr q ↦ (q.from, q.object, q.field, q.present, q.within, q.place)
-    | inl q ↦
-        let w = recorded.fields a q.0 in
-        let far : w.1.home ≢ innermost s.graph t = λ z. q.1 (field_page w.0 w.1 w.2 a w.3 w.4 w.5 ∙ ap (λ (y : Space). space_index y + 1) z) in
-        let r = stays_so s st.whole l one t count has.0 valid moves tight e w.0 w.1 w.3 far in
-        (w.0, w.1, w.2, r.0, w.4, w.5 ∙ ap (λ i. i + OBJECT_WORDS + w.2) (sym (leads w.0 ∙ r.1.leads)))
-  ]
+  field_now : (a : ℕ) → IsRecorded m d.firsts d.sets d.buffers a → IsField later.at (ended_view s l t count moves) a
+  field_now a h = ⊎_elim
+      (λ (f : (x : Space) × IsRegionOf m x × Contains (chain m d x) a). let q = field_filed m c s st recorded quiet areas t count has low moves tight e spaces d later leaves f.0 a f.1 f.2 in (q.name, q.object, q.field, q.present, q.within, q.place))
+      (λ (f : Contains (flat_map (λ (b : List ℕ). b) d.buffers) a). absurd (contains-none a (subst (λ (b : List ℕ). Contains b a) (none_filed d.buffers leaves.buffers) f)))
+      h
 
   -- a reference of a stack of another thread enters no region newly
   moved_home : (v u f k : ℕ) (x : Name) (o p : Thing) → 1 ≤ v → k < length (stack (view s) v) → get_or (stack (view s) v) k Null ≡ Object x → object_of s x ≡ Some o → left x ≡ Some p → MovedAs s l t count moves x o p → p.home ≡ Region u f → u ≢ v → ⊥
@@ -283,8 +197,8 @@ module _ (m : Areas) (c : Contents) (s : SpaceState) (st : Stands m c s) (record
 
   pub view_recorded : RecordedAs m d (ended_view s l t count moves) later.at
   view_recorded = record {
-    crossing = λ n x o p f hn lt refers hx enters. inl (crossing_now n x o p f hn lt refers hx enters);
-    fields = λ a h. field_now a (filed_again a h);
+    crossing = λ n x o p f hn lt refers hx enters. inl (crossing_filed m c s st recorded quiet areas t count has low moves tight e spaces d later leaves n x o p f hn lt refers hx enters);
+    fields = field_now;
     read = λ v u f k x p some most lt refers hx home ne.
         let w = left_so s st.whole l one t count has.0 valid moves tight e x p hx in
         elim w.2 [
@@ -320,8 +234,8 @@ module _ (m : Areas) (c : Contents) (s : SpaceState) (st : Stands m c s) (record
       x.3 (number-own x.0 (innermost s.graph t) (open_valid m (view s).depths x.0 areas st.stands.threads deep x.2) valid (omega (arith, x.1, is))))
       (leaves.spaces p hp)
 
-  pub state_ended : Counts (IsEscaping s t) count → ((k : ℕ) → k < count → IsValid MAX_DEPTH (moves k).space) → StateEnded m d s t tight count
-  state_ended counts spaces =
+  pub state_ended : Counts (IsEscaping s t) count → StateEnded m d s t tight count
+  state_ended counts =
       let x : Ended s l t count moves tight = ended_so s st.whole l one t count has.0 valid moves tight e counts (omega (arith, low, depth_is m c s st t has)) spaces in
       record {
         after = x.after;
@@ -333,82 +247,28 @@ module _ (m : Areas) (c : Contents) (s : SpaceState) (st : Stands m c s) (record
       }
 
   -- the places are those that the moves leave
-  pub ended_places : (counts : Counts (IsEscaping s t) count) (spaces : (k : ℕ) → k < count → IsValid MAX_DEPTH (moves k).space) → (state_ended counts spaces).stands.places ≡ later
+  pub ended_places : (counts : Counts (IsEscaping s t) count) → (state_ended counts).stands.places ≡ later
   unfolding state_ended
-  ended_places counts spaces = refl
+  ended_places counts = refl
 
   -- ---- what is left beside the state
 
   same_objects : (x : Ended s l t count moves tight) → object_of x.after ≡ left
   same_objects x = ap (λ (v : State). v.objects) x.shows
 
-  -- objects that are left at one address are one
-  one_left : Ended s l t count moves tight → (a b : Name) (o p : Thing) → left a ≡ Some o → left b ≡ Some p → later.at a ≡ later.at b → a ≡ b
-  one_left x = subst (λ (f : Name → Option Thing). (a b : Name) (o p : Thing) → f a ≡ Some o → f b ≡ Some p → later.at a ≡ later.at b → a ≡ b) (same_objects x) (one_each m d.table d.heap x.after later (λ _. 0) (subst (λ (f : Name → Option Thing). HeapStands m d.table d.heap f later (λ _. 0)) (sym (same_objects x)) leaves.heap))
-
-  moved_to : (n : Name) (k : ℕ) → k < count → l.at n ≡ (moves k).old → later.at n ≡ (moves k).new
-  moved_to n k lt at = leads n ∙ by_move-at count moves (λ v. v.new) (l.at n) (l.at n) k e.ascending lt at
-
-  -- what stands at the new place of a move has escaped
-  escaped_at : Ended s l t count moves tight → (n : Name) (o : Thing) (k : ℕ) → left n ≡ Some o → k < count → later.at n ≡ (moves k).new → IsEscaping s t n
-  escaped_at x n o k present lt at =
-      let w = e.moved k lt in
-      let i = escaping_in s st.whole l one t count has.0 valid moves tight e w.0 w.1 in
-      let v = moves_so s st.whole l one t count has.0 valid moves tight e w.0 i.0 k i.1 lt w.2 in
-      subst (IsEscaping s t) (one_left x w.0 n (record i.0 { home = (moves k).space }) o v.0 present (moved_to w.0 k lt w.2 ∙ sym at)) w.1
-
-  crossing_as : Ended s l t count moves tight → (a : ℕ) → IsCrossing left later.at count moves a ↔ IsMovedCrossing s t left later.at a
-  crossing_as x a = (
-    λ q. record {
-      from = q.from;
-      escaped = escaped_at x q.from q.object q.move q.present q.among q.moved;
-      object = q.object;
-      present = q.present;
-      field = q.field;
-      within = q.within;
-      to = q.to;
-      goal = q.goal;
-      refers = q.refers;
-      reached = q.reached;
-      enters = q.enters;
-      place = q.place;
-    },
-    λ q.
-        let k = e.complete q.from q.escaped in
-        record {
-          move = k.0;
-          among = k.1;
-          from = q.from;
-          object = q.object;
-          present = q.present;
-          moved = moved_to q.from k.0 k.1 k.2;
-          field = q.field;
-          within = q.within;
-          to = q.to;
-          goal = q.goal;
-          refers = q.refers;
-          reached = q.reached;
-          enters = q.enters;
-          place = q.place;
-        },
-  )
-
   files_ended : (x : Ended s l t count moves tight) → FilesEnded m c d s t (object_of x.after) later.at
-  files_ended x = subst (λ (f : Name → Option Thing). FilesEnded m c d s t f later.at) (sym (same_objects x)) (λ a. (
-    λ h. ⊎_elim (λ r. inl r) (λ q. inr ((crossing_as x a).0 q)) ((leaves.filed a).0 h),
-    λ h. (leaves.filed a).1 (⊎_elim (λ r. inl r) (λ q. inr ((crossing_as x a).1 q)) h),
-  ))
+  files_ended x = subst (λ (f : Name → Option Thing). FilesEnded m c d s t f later.at) (sym (same_objects x)) (files_left m c s st recorded quiet areas t count has low moves tight e spaces d later leaves)
 
-  frame_kept : d ≡ record (with_depth (with_readers c t (depth_of c t) 0) t (depth_of c t - 1)) { heads = d.heads; stacks = d.stacks; buffers = d.buffers; currents = d.currents; table = d.table; pool = d.pool; sets = d.sets; scratch = d.scratch; heap = d.heap }
+  frame_kept : d ≡ record (with_depth (with_readers c t (depth_of c t) 0) t (depth_of c t - 1)) { heads = d.heads; stacks = d.stacks; buffers = d.buffers; currents = d.currents; firsts = d.firsts; table = d.table; pool = d.pool; sets = d.sets; scratch = d.scratch; heap = d.heap }
   frame_kept =
       ap (λ (ds : List ℕ). record d { depths = ds }) leaves.depths
       ∙ ap (λ (ms : List ℕ). record d { depths = set c.depths (t - 1) (depth_of c t - 1); made = ms }) leaves.made
       ∙ ap (λ (rs : List (List ℕ)). record d { depths = set c.depths (t - 1) (depth_of c t - 1); made = c.made; rests = rs }) leaves.rests
       ∙ ap (λ (rs : List (List ℕ)). record d { depths = set c.depths (t - 1) (depth_of c t - 1); made = c.made; rests = c.rests; readers = rs }) leaves.readers
 
-  pub rest_kept : (counts : Counts (IsEscaping s t) count) (spaces : (k : ℕ) → k < count → IsValid MAX_DEPTH (moves k).space) → RestKept m c d s l t (state_ended counts spaces).after (state_ended counts spaces).stands.places.at
+  pub rest_kept : (counts : Counts (IsEscaping s t) count) → RestKept m c d s l t (state_ended counts).after (state_ended counts).stands.places.at
   unfolding state_ended
-  rest_kept counts spaces =
+  rest_kept counts =
       let x : Ended s l t count moves tight = ended_so s st.whole l one t count has.0 valid moves tight e counts (omega (arith, low, depth_is m c s st t has)) spaces in
       record {
         stays = λ n present far.

@@ -12,6 +12,7 @@ pub mod Reaches
 pub mod Written
 pub mod Rolls
 pub mod Placing
+pub mod Walked
 pub mod Weighed
 pub mod Follows
 pub mod InTurn
@@ -48,3 +49,9 @@ pub mod SlidPages
 pub mod TightLeaves
 pub mod MovedWords
 pub mod Costs
+pub mod Refiles
+pub mod Rehomed
+pub mod Brought
+pub mod LeftFields
+pub mod Files
+pub mod Filable

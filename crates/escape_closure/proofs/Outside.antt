@@ -1,8 +1,11 @@
 -- References into the region from outside.
-use Rattle.std.proofs.Common.{◌≡◌, ◌≢◌, ℕ, ◌+◌, ◌-◌, ◌*◌, ◌/◌, ◌≤◌, ◌<◌, Some, List, [], refl, sym, ap, subst, ◌∙◌, arith, inl, inr, get_or, length, below_more, take, length-take, get_or-take}
+use Rattle.std.proofs.Common.{◌≡◌, ◌≢◌, ℕ, ◌+◌, ◌-◌, ◌/◌, ◌≤◌, ◌<◌, Some, List, [], refl, sym, ap, subst, ◌∙◌, arith, inl, inr, get_or, length, below_more}
 use Rattle.escape_closure.specs.declared.raising.Tally.{Tally}
 use Rattle.epoch_lattice.specs.declared.TheConstants.{MAX_DEPTH}
 use Rattle.object_layout.specs.declared.TheConstants.{OBJECT_WORDS}
+use Rattle.std.proofs.Props.{props}
+use Rattle.std.proofs.Math.Logic.{∥∥₁_elim}
+use Rattle.yak_model.proofs.Chains.{linked-prop}
 use Rattle.std.proofs.lemmas.List.{get_or_default}
 use Rattle.std.proofs.lemmas.List.Elements.{All-get_or, Contains-get_or}
 use Rattle.std.specs.List.{Contains, All, flat_map}
@@ -21,7 +24,7 @@ use Rattle.heap_words.specs.Contents.{Contents, stack_of}
 use Rattle.yak_model.specs.State.{Thing, IsDatum}
 use Rattle.epoch_lattice.specs.Lattice.{space_index}
 use Rattle.yak_model.specs.Placed.{datum_word, size_by, space_word}
-use Rattle.yak_model.specs.Stands.{set_entries}
+use Rattle.remember_sets.specs.Filed.{IsFiled, SetsHold, chain}
 use Rattle.yak_model.specs.Recorded.{RecordedAs, IsField, Enters, IsReader}
 use Rattle.yak_model.proofs.Placed.{in_page}
 use Rattle.heap_walks.proofs.Objects.{in_heap, same_thing, size_is, field_now, lie_apart}
@@ -29,7 +32,7 @@ use Rattle.heap_walks.proofs.Stacks.{some_row, slot_word}
 use Rattle.heap_walks.proofs.Pages.{table_now}
 use Rattle.escape_closure.specs.Words.{settled_word}
 use Rattle.escape_closure.specs.Sources.{IsDue, IsReachedIn}
-use Rattle.escape_closure.specs.Raising.{Ended, IsRaised, Raising, Rises, IsOwed, IsPaid, IsStackDue, IsStackPaidTo, IsStackPaid, IsSlotPaid, AreEntriesPaid, AreSourcesPaid}
+use Rattle.escape_closure.specs.Raising.{Ended, IsRaised, Raising, Rises, IsOwed, IsPaid, IsStackDue, IsStackPaidTo, IsStackPaid, IsSlotPaid, AreSlotsPaid, AreSourcesPaid}
 use Rattle.escape_closure.proofs.Fields.{raised_on}
 
 -- a source reaches the object to which it refers
@@ -57,7 +60,7 @@ stack_paid e c t k x all to n refers here_ =
     let value : get_or (get_or e.laid.state.stacks t []) refers.0 Null ≡ Object n = get_or_default (get_or e.laid.state.stacks t []) refers.0 Null (Object n) refers.1 ∙ refers.2 in
     to refers.0 (omega (arith, refers.1)) n here_ (ap (datum_word e.laid.places.at) value)
 
--- a recorded slot
+-- a slot of a chain
 pub record Slot (e : Ended) (a : ℕ) : Type 0 where
   pub from : Name
   pub object : Thing
@@ -66,18 +69,9 @@ pub record Slot (e : Ended) (a : ℕ) : Type 0 where
   pub within : field < length object.fields
   pub address : a ≡ e.laid.places.at from + OBJECT_WORDS + field
 
-pub slot_at : (m : Areas) (e : Ended) (c : Contents) (tally : Tally) (i : ℕ) → Raising m e c tally → RecordedAs m e.laid.before e.laid.state e.laid.places.at → i < set_entries c.heads → length c.sets ≡ 2 * heap_length m → Slot e (get_or c.sets i 0)
-slot_at m e c tally i rz recorded lt size =
-    let heads : c.heads ≡ e.laid.before.heads = ap (λ (x : Contents). x.heads) rz.among.frame in
-    let sets : c.sets ≡ e.laid.before.sets = ap (λ (x : Contents). x.sets) rz.among.frame in
-    let k : ℕ = set_entries e.laid.before.heads in
-    let below : i < k = omega (arith, lt, ap set_entries heads) in
-    let fits = rz.among.stands.sets.within in
-    let areas = rz.among.areas in
-    let whole : length e.laid.before.sets ≡ 2 * heap_length m = ap (λ (xs : List ℕ). length xs) (sym sets) ∙ size in
-    let long : i < length (take k e.laid.before.sets) = simp length-take (omega arith) in
-    let found : Contains (take k e.laid.before.sets) (get_or c.sets i 0) = subst (Contains (take k e.laid.before.sets)) (get_or-take k e.laid.before.sets i 0 below ∙ ap (λ xs. get_or xs i 0) (sym sets)) (Contains-get_or (take k e.laid.before.sets) i 0 long) in
-    let f : IsField e.laid.places.at e.laid.state (get_or c.sets i 0) = recorded.fields (get_or c.sets i 0) (inl found) in
+pub slot_at : (m : Areas) (e : Ended) (a : ℕ) → RecordedAs m e.laid.before e.laid.state e.laid.places.at → IsFiled m e.laid.before a → Slot e a
+slot_at m e a recorded filed =
+    let f : IsField e.laid.places.at e.laid.state a = recorded.fields a (inl filed) in
     record { from = f.0; object = f.1; field = f.2; present = f.3; within = f.4; address = f.5 }
 
 module _ (m : Areas) (e : Ended) (c : Contents) (tally : Tally) (rz : Raising m e c tally) (a : ℕ) (s : Slot e a) where
@@ -129,32 +123,40 @@ module _ (m : Areas) (e : Ended) (c : Contents) (tally : Tally) (rz : Raising m 
       let same = same_slot from o f present within at in
       absurd (outside (ap (λ (t : Thing). t.home) (sym same.0) ∙ inside))
 
-pub entries_fit : (m : Areas) (e : Ended) (c : Contents) (tally : Tally) → Raising m e c tally → set_entries c.heads ≤ heap_length m
-entries_fit m e c tally rz =
-    let heads : c.heads ≡ e.laid.before.heads = ap (λ (x : Contents). x.heads) rz.among.frame in
-    omega (arith, ap set_entries heads, rz.among.stands.sets.within)
+pub chain_now : (m : Areas) (e : Ended) (c : Contents) (tally : Tally) (x : Space) → Raising m e c tally → chain m c x ≡ chain m e.laid.before x
+chain_now m e c tally x rz = ap (λ (y : Contents). chain m y x) rz.among.frame
 
-pub sets_now : (m : Areas) (e : Ended) (c : Contents) (tally : Tally) (i : ℕ) → Raising m e c tally → get_or c.sets i 0 ≡ get_or e.laid.before.sets i 0
-sets_now m e c tally i rz = ap (λ (x : Contents). get_or x.sets i 0) rz.among.frame
+pub sets_now : (m : Areas) (e : Ended) (c : Contents) (tally : Tally) → Raising m e c tally → SetsHold m c
+sets_now m e c tally rz = subst (SetsHold m) (sym rz.among.frame) rz.among.stands.sets
 
-pub entries_now : (m : Areas) (e : Ended) (c : Contents) (tally : Tally) → Raising m e c tally → set_entries c.heads ≡ set_entries e.laid.before.heads
-entries_now m e c tally rz = ap (λ (x : Contents). set_entries x.heads) rz.among.frame
+-- Some end rises in words: their chains stand.
+abbrev pub IsSome : Areas → Space → Contents → Tally → Type 0
+IsSome m x c tally = ∥ ((e : Ended) × (e.region ≡ x) × Raising m e c tally × RecordedAs m e.laid.before e.laid.state e.laid.places.at) ∥₁
+
+pub sets-held : (m : Areas) (x : Space) (c : Contents) (tally : Tally) → IsSome m x c tally → SetsHold m c
+sets-held m x c tally some = ∥∥₁_elim some (hlevel (props, linked-prop)) (λ q. sets_now m q.0 c tally q.2)
+
+pub sets-then : (m : Areas) (x : Space) (c d : Contents) (tally more : Tally) → IsSome m x c tally → ((e : Ended) → e.region ≡ x → Raising m e c tally → RecordedAs m e.laid.before e.laid.state e.laid.places.at → Raising m e d more) → SetsHold m d
+sets-then m x c d tally more some next = ∥∥₁_elim some (hlevel (props, linked-prop)) (λ q. sets_now m q.0 d more (next q.0 q.1 q.2 q.3))
+
+pub chain-then : (m : Areas) (x : Space) (c d : Contents) (tally more : Tally) → IsSome m x c tally → ((e : Ended) → e.region ≡ x → Raising m e c tally → RecordedAs m e.laid.before e.laid.state e.laid.places.at → Raising m e d more) → chain m d x ≡ chain m c x
+chain-then m x c d tally more some next = ∥∥₁_elim some (hlevel props) (λ q. chain_now m q.0 d more x (next q.0 q.1 q.2 q.3) ∙ sym (chain_now m q.0 c tally x q.2))
 
 pub slot_still : (e : Ended) (c d : Contents) (a : ℕ) → Rises e c d → IsSlotPaid e c a → IsSlotPaid e d a
 slot_still e c d a r paid from n o f present within value at outside here_ = raised_on e c d n o.home r here_ (paid from n o f present within value at outside here_)
 
--- Where the recorded slots, the own stack and the readers' stacks are paid, all sources are.
+-- Where the slots of the region's chain, the own stack and the readers' stacks are paid, all sources are.
 pub sources_paid : (m : Areas) (e : Ended) (c : Contents) (tally : Tally) (u d : ℕ) → Raising m e c tally → RecordedAs m e.laid.before e.laid.state e.laid.places.at → e.region ≡ Region u d → e.thread ≡ u → 1 ≤ u → length e.laid.state.stacks ≡ m.threads → flat_map (λ (b : List ℕ). b) e.laid.before.buffers ≡ []
-    → AreEntriesPaid e c (set_entries e.laid.before.heads) → IsStackPaid e c (e.thread - 1) (parent_of e.region) → ((t : ℕ) → 1 ≤ t → t ≤ m.threads → t ≢ u → IsReader e.laid.before.readers t u d → IsStackPaid e c (t - 1) Control) → AreSourcesPaid e c
+    → AreSlotsPaid m e c (length (chain m e.laid.before e.region)) → IsStackPaid e c (e.thread - 1) (parent_of e.region) → ((t : ℕ) → 1 ≤ t → t ≤ m.threads → t ≢ u → IsReader e.laid.before.readers t u d → IsStackPaid e c (t - 1) Control) → AreSourcesPaid e c
 sources_paid m e c tally u d rz recorded region thread some threads empty entries own readers n x (here_, inl (from, o, present, home, outside, refers)) =
     let value : get_or o.fields refers.0 Null ≡ Object n = get_or_default o.fields refers.0 Null (Object n) refers.1 ∙ refers.2 in
     let enters : Enters o.home here_.0.home = (λ q. cc (here_.2, region), λ q. outside (sym home ∙ sym q ∙ here_.2)) in
     let slot : ℕ = e.laid.places.at from + OBJECT_WORDS + refers.0 in
+    let slots : List ℕ = chain m e.laid.before e.region in
     elim (recorded.crossing from n o here_.0 refers.0 present refers.1 value here_.1 enters) [
-      | inl k ↦
-          let lt : k.0 < set_entries e.laid.before.heads = omega (arith, k.1, length-take (set_entries e.laid.before.heads) e.laid.before.sets) in
-          let found : get_or e.laid.before.sets k.0 0 ≡ slot = sym (get_or-take (set_entries e.laid.before.heads) e.laid.before.sets k.0 0 lt) ∙ get_or_default (take (set_entries e.laid.before.heads) e.laid.before.sets) k.0 0 slot k.1 ∙ k.2 in
-          subst (IsRaised e c n) home (entries k.0 lt from n o refers.0 present refers.1 value found (λ q. outside (sym home ∙ q)) here_)
+      | inl filed ↦
+          let k : Contains slots slot = subst (λ y. Contains (chain m e.laid.before y) slot) here_.2 filed in
+          subst (IsRaised e c n) home (entries k.0 k.1 from n o refers.0 present refers.1 value (get_or_default slots k.0 0 slot k.1 ∙ k.2) (λ q. outside (sym home ∙ q)) here_)
       | inr b ↦ absurd (let none = subst (λ xs. Contains xs slot) empty b in omega (arith, none.1))
     ]
 sources_paid m e c tally u d rz recorded region thread some threads empty entries own readers n x (here_, inr (inl (held, is))) = subst (IsRaised e c n) (sym is) (own n held.1 here_)

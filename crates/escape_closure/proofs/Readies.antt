@@ -1,5 +1,5 @@
 -- The plan of the end of a region that references can follow.
-use Rattle.std.proofs.Common.{◌≡◌, ◌≢◌, ℕ, ◌+◌, false, Some, List, get_or, set, refl, sym, ap, subst, ◌∙◌, arith, get_or-set_other}
+use Rattle.std.proofs.Common.{◌≡◌, ◌≢◌, ℕ, ◌+◌, false, Some, List, get_or, set, refl, sym, ap, subst, ◌∙◌, arith}
 use Rattle.object_layout.specs.declared.names.Name.{Name}
 use Rattle.object_layout.specs.declared.TheConstants.{OBJECT_WORDS}
 use Rattle.heap_words.specs.declared.map.Areas.{Areas}
@@ -8,7 +8,8 @@ use Rattle.heap_words.specs.Contents.{Contents}
 use Rattle.yak_model.specs.Spaces.{SpaceState, innermost}
 use Rattle.yak_model.specs.State.{Thing, object_of, view}
 use Rattle.yak_model.specs.Placed.{Holds, space_word}
-use Rattle.yak_model.specs.Stands.{SetsStand, Stands, claim_counter, set_entries}
+use Rattle.yak_model.specs.Stands.{Stands, claim_counter}
+use Rattle.remember_sets.specs.Filed.{SetsHold}
 use Rattle.heap_walks.specs.Laid.{IsKeptWord, Laid}
 use Rattle.heap_walks.proofs.Objects.{home_index, in_heap, kept_word}
 use Rattle.heap_walks.proofs.Seen.{present_home, shown}
@@ -39,14 +40,6 @@ still_holds m before s st heap areas kept =
           };
     }
 
--- the sets depend on the heads by the number of entries alone
-pub sets_same : (m : Areas) (heads heads' sets : List ℕ) → set_entries heads' ≡ set_entries heads → SetsStand m heads sets → SetsStand m heads' sets
-sets_same m heads heads' sets e h = record {
-  within = omega (arith, h.within, e);
-  listed = λ k lt. h.listed k (omega (arith, lt, e));
-  placed = λ a lt ne. let p = h.placed a lt ne in (omega (arith, p.0, e), p.1);
-}
-
 module _ (m : Areas) (before mid c : Contents) (s : SpaceState) (st : Stands m before s) (t count : ℕ) (areas : IsAreas m) (has : HasThread m t) (r : RegionReady m before mid c s st t count) where
   planned : EndPlanned m mid c s st.places t count
   planned = r.planned
@@ -71,14 +64,11 @@ module _ (m : Areas) (before mid c : Contents) (s : SpaceState) (st : Stands m b
       let o = shown s n home.0 st.whole home.1 in
       none n o.0 o.1)
 
-  chain : c ≡ record before { heads = set before.heads CLAIM_COUNTER (claim_counter c.heads); currents = c.currents; table = c.table; scratch = c.scratch; heap = c.heap }
-  chain = planned.frame ∙ ap (λ (x : Contents). record x { heads = set x.heads CLAIM_COUNTER (claim_counter c.heads); currents = c.currents; table = c.table; scratch = c.scratch; heap = c.heap }) r.written.frame
-
-  pub entries_same : set_entries c.heads ≡ set_entries before.heads
-  entries_same = ap (λ (x : Contents). set_entries x.heads) chain ∙ get_or-set_other before.heads CLAIM_COUNTER 3 (claim_counter c.heads) 0 (omega arith)
+  planned_frame : c ≡ record before { heads = set before.heads CLAIM_COUNTER (claim_counter c.heads); currents = c.currents; table = c.table; scratch = c.scratch; heap = c.heap }
+  planned_frame = planned.frame ∙ ap (λ (x : Contents). record x { heads = set x.heads CLAIM_COUNTER (claim_counter c.heads); currents = c.currents; table = c.table; scratch = c.scratch; heap = c.heap }) r.written.frame
 
   pub plan_frame : c ≡ record before { heads = c.heads; currents = c.currents; table = c.table; scratch = c.scratch; heap = c.heap }
-  plan_frame = chain ∙ ap (λ (hs : List ℕ). record before { heads = hs; currents = c.currents; table = c.table; scratch = c.scratch; heap = c.heap }) (sym (ap (λ (x : Contents). x.heads) chain))
+  plan_frame = planned_frame ∙ ap (λ (hs : List ℕ). record before { heads = hs; currents = c.currents; table = c.table; scratch = c.scratch; heap = c.heap }) (sym (ap (λ (x : Contents). x.heads) planned_frame))
 
   table_same : mid.table ≡ before.table
   table_same = ap (λ (x : Contents). x.table) r.written.frame
@@ -96,9 +86,8 @@ module _ (m : Areas) (before mid c : Contents) (s : SpaceState) (st : Stands m b
           let same : space_word mid.table p ≡ space_word before.table p = ap (λ (ts : List (List ℕ)). space_word ts p) table_same in
           planned.kept p lt (λ z. ne (sym same ∙ z)) ∙ same;
       frame = plan_frame;
-      entries = entries_same;
     };
     moves = end_moves;
     lawful = planned.lawful;
-    sets = subst (λ xs. SetsStand m c.heads xs) (sym (ap (λ (x : Contents). x.sets) plan_frame)) (sets_same m before.heads c.heads before.sets entries_same st.stands.sets);
+    sets = subst (SetsHold m) (sym plan_frame) st.stands.sets;
   }

@@ -31,6 +31,7 @@ use Rattle.relocation.specs.Slidden.{names_after}
 use Rattle.relocation.proofs.SlidLaid.{places_of}
 use Rattle.escape_closure.specs.Ends.{EndPlanned, region_word}
 use Rattle.escape_closure.specs.Leaving.{PagesLeft, PlacedIn, RegionReady, objects_left}
+use Rattle.escape_closure.proofs.Brought.{same_test}
 use Rattle.escape_closure.proofs.Carries.{innermost_valid}
 use Rattle.escape_closure.proofs.Fates.{one_each, stays_so}
 use Rattle.escape_closure.proofs.Reaches.{reached_here}
@@ -115,6 +116,12 @@ module _ (m : Areas) (before mid c : Contents) (s : SpaceState) (st : Stands m b
       target_word w.0 w.1 (sym w.2 ∙ is))
       (λ (nz : space_word mid.table p ≢ 0). other (sym (planned.kept p lt nz) ∙ is))
       (cases_eq (space_word mid.table p) 0)
+
+  -- the region has as many pages as before
+  pub own_pages : length mid.table ≡ m.pages → pages_of c.table (innermost s.graph t) ≡ pages_of mid.table (innermost s.graph t)
+  own_pages mid_long = pages_alike (innermost s.graph t) mid.table c.table (long ∙ sym mid_long) (λ p lt. same_test (space_word c.table p) (space_word mid.table p) slid
+      (λ own. ⊎_elim (λ (was : space_word mid.table p ≡ slid). was) (λ (other : space_word mid.table p ≢ slid). absurd (other_word p (omega (arith, lt, mid_long)) other own)) (cases_eq (space_word mid.table p) slid))
+      (own_word p (omega (arith, lt, mid_long))))
 
   in_table : (p : ℕ) → p < m.pages → p < length c.table
   in_table p lt = omega (arith, lt, long)

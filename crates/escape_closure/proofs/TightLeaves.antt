@@ -1,6 +1,5 @@
 -- What a tight end leaves.
-use Rattle.std.proofs.Common.{◌≡◌, ◌≢◌, ◌⊎◌, ◌↔◌, ℕ, ◌+◌, ◌-◌, ◌*◌, ◌/◌, ◌≤◌, ◌<◌, ◌==◌, true, false, Option, Some, List, length, get_or, set, drop, refl, sym, ap, subst, ◌∙◌, arith, inl, inr, get_or-set_other}
-use Rattle.std.specs.List.{Contains, flat_map}
+use Rattle.std.proofs.Common.{◌≡◌, ◌≢◌, ◌⊎◌, ℕ, ◌+◌, ◌-◌, ◌*◌, ◌/◌, ◌≤◌, ◌<◌, ◌==◌, true, false, Option, Some, List, length, get_or, set, refl, sym, ap, subst, ◌∙◌, arith, inl, inr}
 use Rattle.std.proofs.lemmas.Bool.{cases_eq, cases_lt, cases_order, ne_eqb}
 use Rattle.std.proofs.lemmas.List.{drop-set-lt}
 use Rattle.std.proofs.Math.Logic.{⊎_elim}
@@ -18,8 +17,8 @@ use Rattle.yak_model.specs.Spaces.{SpaceState, innermost}
 use Rattle.yak_model.specs.State.{IsClosed, IsOpen, Thing, object_of, view}
 use Rattle.yak_model.specs.Placed.{HeapStands, Holds, Places, names_of, size_by, space_word, used_mark, words_by}
 use Rattle.yak_model.specs.Plans.{Move, cleared, forwarded, without}
-use Rattle.yak_model.specs.Stands.{CurrentsStand, PoolStands, RegionsDense, SetsStand, Stands, claim_counter, current, pages_of, pool_length, set_entries}
-use Rattle.yak_model.specs.Recorded.{IsRecorded}
+use Rattle.yak_model.specs.Chains.{IsRegionOf}
+use Rattle.yak_model.specs.Stands.{CurrentsStand, PoolStands, RegionsDense, Stands, current, pages_of, unused_heads}
 use Rattle.region_pages.specs.Freeing.{free_below, pool_with, with_pool_rebuilt}
 use Rattle.region_pages.specs.declared.TheConstants.{CLAIM_COUNTER, POOL_LENGTH}
 use Rattle.region_pages.proofs.Entries.{current-cases}
@@ -33,9 +32,10 @@ use Rattle.relocation.proofs.Lawful.{by_move-at, by_move-other, kept}
 use Rattle.relocation.proofs.Moving.{fields_at-header}
 use Rattle.relocation.proofs.Settled.{TableAfter, slide-stands}
 use Rattle.relocation.proofs.SlidLaid.{places_of}
-use Rattle.remember_sets.specs.declared.TheConstants.{SET_ENTRIES}
-use Rattle.remember_sets.specs.Filed.{IsFiled, LiesIn, SetsHold, with_sets}
-use Rattle.forwarding.specs.Crossing.{AreData, AreFiled, AreMoved, AreValid, IsCrossing}
+use Rattle.remember_sets.specs.Filed.{ChainsBecome, SetsHold, all_filed, chain, outside, with_sets}
+use Rattle.remember_sets.proofs.Folded.{all_filed-same, with_sets-step}
+use Rattle.forwarding.specs.Crossing.{AreFiled}
+use Rattle.forwarding.specs.Slots.{slots_brought}
 use Rattle.forwarding.specs.Pool.{PoolAnew}
 use Rattle.forwarding.proofs.Anew.{pool_anew}
 use Rattle.escape_closure.specs.Ends.{StateEnded, TightEnded, region_word}
@@ -44,13 +44,12 @@ use Rattle.escape_closure.specs.Leaving.{Carried, EndMoves, Leaves, TightReady, 
 use Rattle.escape_closure.proofs.Fates.{left_so, moves_so}
 use Rattle.escape_closure.proofs.Leaves.{ended_places, rest_kept, state_ended}
 use Rattle.escape_closure.proofs.SlidPages.{holds_one, slid_same}
-use Rattle.escape_closure.proofs.Readies.{sets_same}
-use Rattle.escape_closure.proofs.Records.{data_left, filed_as, iff_then, moved_left, valid_left}
-use Rattle.escape_closure.proofs.RegionLeaves.{not_listed, pool_same}
+use Rattle.escape_closure.proofs.Filable.{Filable, filable}
+use Rattle.escape_closure.proofs.LeftFields.{Lies}
 use Rattle.escape_closure.proofs.Releases.{inner_is, none_of}
 use Rattle.escape_closure.proofs.Sums.{pages_alike, words_into-none, words_left}
 use Rattle.escape_closure.proofs.TightReadies.{aimless, drops_of, in_order, known, laid, name_escapes, name_is, named, one, rest, slide, small, tight_counts, tight_frame, tight_lawful, tight_moves, valid}
-use Rattle.escape_closure.proofs.Written.{none_filed, region_is}
+use Rattle.escape_closure.proofs.Written.{innermost_region, region_is}
 
 -- other work words, which are the same for the objects that there are
 holds_work : (m : Areas) (heap : List ℕ) (lies leads w w' : Name → ℕ) (objects : Name → Option Thing) → Holds m heap lies leads w objects → ((n : Name) (o : Thing) → objects n ≡ Some o → w n ≡ w' n) → Holds m heap lies leads w' objects
@@ -69,12 +68,6 @@ shape_before m before c frame h =
     let x : Contents = record before { scratch = c.scratch; heap = c.heap } in
     let q : Shape m x = subst (Shape m) frame h in
     record { heads = q.heads; pool = q.pool; table = q.table; entries = q.entries; currents = q.currents; slots = q.slots }
-
--- settling the pages keeps the sets
-pub settled_sets : (m : Areas) (moved settled : Contents) (t depth : ℕ) → settled ≡ with_pool_rebuilt (with_current (record moved { table = settled.table }) t depth 0) → SetsHold m moved → SetsHold m settled
-settled_sets m moved settled t depth frame h =
-    let entries : set_entries settled.heads ≡ set_entries moved.heads = ap (λ (x : Contents). set_entries x.heads) frame ∙ get_or-set_other (set moved.heads CLAIM_COUNTER 0) POOL_LENGTH SET_ENTRIES _ 0 (omega arith) ∙ get_or-set_other moved.heads CLAIM_COUNTER SET_ENTRIES 0 0 (omega arith) in
-    subst (λ xs. SetsStand m settled.heads xs) (sym (ap (λ (x : Contents). x.sets) frame)) (sets_same m moved.heads settled.heads moved.sets entries h)
 
 module _ (m : Areas) (before mid c : Contents) (s : SpaceState) (st : Stands m before s) (t count next : ℕ) (areas : IsAreas m) (has : HasThread m t) (low : 1 ≤ depth_of before t) (r : TightReady m before mid c s st t count next) (depth : ℕ) (is : depth ≡ depth_of before t) (moved : Contents) (carried : Carried m c moved s st.places t count) where
   abbrev l : Places
@@ -112,15 +105,6 @@ module _ (m : Areas) (before mid c : Contents) (s : SpaceState) (st : Stands m b
 
   pub targets_valid : (k : ℕ) → k < count → IsValid MAX_DEPTH (move_at c.scratch k).space
   targets_valid k lt = subst (IsValid MAX_DEPTH) (sym (to_control k lt)) tt
-
-  pub all_data : AreData left
-  all_data = data_left s st.whole l (one m before mid c s st t count next areas has low r) t count has.0 region_valid moves true e closed
-
-  pub are_moved : AreMoved left (forwarded count (move_at c.scratch) st.places.at) count (move_at c.scratch)
-  are_moved = moved_left s st.whole l (one m before mid c s st t count next areas has low r) t count has.0 region_valid moves true e
-
-  are_valid : AreValid left
-  are_valid = valid_left s st.whole l (one m before mid c s st t count next areas has low r) t count has.0 region_valid moves true e targets_valid
 
   mid_frame : mid.table ≡ before.table
   mid_frame = ap (λ (x : Contents). x.table) r.written.frame
@@ -197,10 +181,6 @@ module _ (m : Areas) (before mid c : Contents) (s : SpaceState) (st : Stands m b
       (λ n o present far. aimless m before mid c s st t count next areas has low r n o present (λ q. far (ap (λ (y : Space). space_index y + 1) q)))
       (known m before mid c s st t count next areas has low r) (slide m before mid c s st t count next areas has low r) t'
       (holds_work m moved.heap (forwarded count moves l.at) (forwarded count moves l.at) (cleared count moves l.at work) (cleared count moves l.at (λ x. get_or mid.heap (st.places.at x + 2) 0)) left carried.holds same_work)
-
-  -- what the recording of moved objects wants
-  pub held_settled : (settled : Contents) → settled.heap ≡ moved.heap → settled.scratch ≡ moved.scratch → Holds m settled.heap (forwarded count (move_at c.scratch) st.places.at) (forwarded count (move_at c.scratch) st.places.at) (cleared count (move_at c.scratch) st.places.at (λ n. get_or c.heap (st.places.at n + 2) 0)) left × AreMoved left (forwarded count (move_at c.scratch) st.places.at) count (move_at settled.scratch)
-  held_settled settled heap scratch = (subst (λ (h : List ℕ). Holds m h (forwarded count moves l.at) (forwarded count moves l.at) (cleared count moves l.at work) left) (sym heap) carried.holds, subst (λ (x : List ℕ). AreMoved left (forwarded count moves l.at) count (move_at x)) (sym (scratch ∙ moved_scratch)) are_moved)
 
   -- ---- the page table and the current pages
   module _ (table : List (List ℕ)) (after : TableAfter m (region_word s t) mid.table mid.heap table count (move_at c.scratch) next) (freed : (p : ℕ) → p < m.pages → IsPageOf (region_word s t) before.table p → next ≤ p → space_word table p ≡ 0) (long : length table ≡ m.pages) (long_before : length before.table ≡ m.pages) where
@@ -313,16 +293,10 @@ module _ (m : Areas) (before mid c : Contents) (s : SpaceState) (st : Stands m b
           (λ z. d.0 (sym cur ∙ z), omega (arith, d.1, count_same, mark, more, none)))
           (cases_eq (space_index (Region u e)) (space_index (innermost s.graph t)))
 
-  -- ---- the words afterwards
-  module _ (settled filed d : Contents) (shape : Shape m before) (after : TableAfter m (region_word s t) mid.table mid.heap settled.table count (move_at c.scratch) next) (freed : (p : ℕ) → p < m.pages → IsPageOf (region_word s t) before.table p → next ≤ p → space_word settled.table p ≡ 0) (long : length settled.table ≡ m.pages) (frame : settled ≡ with_pool_rebuilt (with_current (record moved { table = settled.table }) t depth 0)) (pool : PoolStands m settled.heads settled.pool settled.table) (recording : (objects : Name → Option Thing) (at work' : Name → ℕ) → Holds m settled.heap at at work' objects → AreData objects → AreMoved objects at count (move_at settled.scratch) → AreValid objects → (a : ℕ) → IsFiled filed a ↔ (IsFiled settled a ⊎ IsCrossing objects at count (move_at settled.scratch) a)) (sets : SetsHold m filed) (others : filed ≡ with_sets settled filed) (ends : d ≡ with_depth (with_readers filed t (depth_of filed t) 0) t (depth_of filed t - 1)) (limits : InLimits m d) where
+  -- ---- the words after the pages are settled
+  module _ (settled : Contents) (shape : Shape m before) (after : TableAfter m (region_word s t) mid.table mid.heap settled.table count (move_at c.scratch) next) (freed : (p : ℕ) → p < m.pages → IsPageOf (region_word s t) before.table p → next ≤ p → space_word settled.table p ≡ 0) (long : length settled.table ≡ m.pages) (frame : settled ≡ with_pool_rebuilt (with_current (record moved { table = settled.table }) t depth 0)) where
     base_frame : c ≡ record before { scratch = c.scratch; heap = c.heap }
     base_frame = tight_frame m before mid c s st t count next areas has low r
-
-    d_table : d.table ≡ settled.table
-    d_table = ap (λ (x : Contents). x.table) ends ∙ ap (λ (x : Contents). x.table) others
-
-    heap_is : d.heap ≡ moved.heap
-    heap_is = ap (λ (x : Contents). x.heap) ends ∙ ap (λ (x : Contents). x.heap) others ∙ ap (λ (x : Contents). x.heap) frame
 
     settled_heap : settled.heap ≡ moved.heap
     settled_heap = ap (λ (x : Contents). x.heap) frame
@@ -330,185 +304,189 @@ module _ (m : Areas) (before mid c : Contents) (s : SpaceState) (st : Stands m b
     settled_scratch : settled.scratch ≡ c.scratch
     settled_scratch = ap (λ (x : Contents). x.scratch) frame ∙ moved_scratch
 
-    currents_is : d.currents ≡ row_set before.currents (t - 1) depth 0
-    currents_is =
-        ap (λ (x : Contents). x.currents) ends ∙ ap (λ (x : Contents). x.currents) others ∙ ap (λ (x : Contents). x.currents) frame
-        ∙ ap (λ (x : Contents). row_set x.currents (t - 1) depth 0) carried.frame ∙ ap (λ (x : Contents). row_set x.currents (t - 1) depth 0) base_frame
-
-    depth_filed : depth_of filed t ≡ depth_of before t
-    depth_filed =
-        ap (λ (x : Contents). depth_of x t) others ∙ ap (λ (x : Contents). depth_of x t) frame ∙ ap (λ (x : Contents). depth_of x t) carried.frame
-        ∙ ap (λ (x : Contents). depth_of x t) base_frame
-
-    depths_is : d.depths ≡ set before.depths (t - 1) (depth_of before t - 1)
-    depths_is =
-        ap (λ (x : Contents). x.depths) ends ∙ ap (λ i. set filed.depths (t - 1) (i - 1)) depth_filed
-        ∙ ap (λ (ds : List ℕ). set ds (t - 1) (depth_of before t - 1)) (ap (λ (x : Contents). x.depths) others ∙ ap (λ (x : Contents). x.depths) frame ∙ ap (λ (x : Contents). x.depths) carried.frame ∙ ap (λ (x : Contents). x.depths) base_frame)
-
-    readers_is : d.readers ≡ row_set before.readers (t - 1) (depth_of before t - 1) 0
-    readers_is =
-        ap (λ (x : Contents). x.readers) ends ∙ ap (λ i. row_set filed.readers (t - 1) (i - 1) 0) depth_filed
-        ∙ ap (λ (rs : List (List ℕ)). row_set rs (t - 1) (depth_of before t - 1) 0) (ap (λ (x : Contents). x.readers) others ∙ ap (λ (x : Contents). x.readers) frame ∙ ap (λ (x : Contents). x.readers) carried.frame ∙ ap (λ (x : Contents). x.readers) base_frame)
-
-    unused_is : drop 4 d.heads ≡ drop 4 before.heads
-    unused_is =
-        ap (λ (x : Contents). drop 4 x.heads) ends ∙ ap (λ (x : Contents). drop 4 x.heads) others
-        ∙ drop-set-lt 4 settled.heads SET_ENTRIES (set_entries filed.heads) (omega arith)
-        ∙ ap (λ (x : Contents). drop 4 x.heads) frame
-        ∙ drop-set-lt 4 (set moved.heads CLAIM_COUNTER 0) POOL_LENGTH _ (omega arith) ∙ drop-set-lt 4 moved.heads CLAIM_COUNTER 0 (omega arith)
-        ∙ ap (λ (x : Contents). drop 4 x.heads) carried.frame ∙ drop-set-lt 4 c.heads SET_ENTRIES (set_entries moved.heads) (omega arith)
-        ∙ ap (λ (x : Contents). drop 4 x.heads) base_frame
-
-    settled_entries : set_entries settled.heads ≡ set_entries moved.heads
-    settled_entries = ap (λ (x : Contents). set_entries x.heads) frame ∙ get_or-set_other (set moved.heads CLAIM_COUNTER 0) POOL_LENGTH SET_ENTRIES _ 0 (omega arith) ∙ get_or-set_other moved.heads CLAIM_COUNTER SET_ENTRIES 0 0 (omega arith)
-
-    d_claims : claim_counter d.heads ≡ claim_counter settled.heads
-    d_claims = ap (λ (x : Contents). claim_counter x.heads) ends ∙ ap (λ (x : Contents). claim_counter x.heads) others ∙ get_or-set_other settled.heads SET_ENTRIES 1 (set_entries filed.heads) 0 (omega arith)
-
-    d_pooled : pool_length d.heads ≡ pool_length settled.heads
-    d_pooled = ap (λ (x : Contents). pool_length x.heads) ends ∙ ap (λ (x : Contents). pool_length x.heads) others ∙ get_or-set_other settled.heads SET_ENTRIES 2 (set_entries filed.heads) 0 (omega arith)
-
-    d_pool : d.pool ≡ settled.pool
-    d_pool = ap (λ (x : Contents). x.pool) ends ∙ ap (λ (x : Contents). x.pool) others
-
-    settled_filed : (a : ℕ) → IsFiled settled a ↔ IsFiled moved a
-    settled_filed a =
-        let same_sets : settled.sets ≡ moved.sets = ap (λ (x : Contents). x.sets) frame in
-        (filed_as moved settled settled_entries same_sets a, filed_as settled moved (sym settled_entries) (sym same_sets) a)
-
-    before_filed : (a : ℕ) → IsFiled c a ↔ IsRecorded before.heads before.sets before.buffers a
-    before_filed a = (
-      λ h. inl (subst (λ (x : Contents). IsFiled x a) base_frame h),
-      λ h. ⊎_elim
-          (λ (f : IsFiled before a). subst (λ (x : Contents). IsFiled x a) (sym base_frame) f)
-          (λ (f : Contains (flat_map (λ (b : List ℕ). b) before.buffers) a). absurd (not_listed (flat_map (λ (b : List ℕ). b) before.buffers) a (none_filed before.buffers r.filed.filed) f))
-          h,
-    )
-
-    outside_filed : (a : ℕ) → IsFiled moved a ↔ (IsRecorded before.heads before.sets before.buffers a × (LiesIn m before (innermost s.graph t) a → ⊥))
-    outside_filed a =
-        let table : c.table ≡ before.table = ap (λ (x : Contents). x.table) base_frame in (
-          λ h. let w = (carried.filed a).0 h in ((before_filed a).0 w.0, λ z. w.1 (ap (λ (ts : List (List ℕ)). space_word ts (a / page_words m)) table ∙ z)),
-          λ w. (carried.filed a).1 ((before_filed a).1 w.0, λ z. w.1 (ap (λ (ts : List (List ℕ)). space_word ts (a / page_words m)) (sym table) ∙ z)),
-        )
-
-    held : Holds m settled.heap (forwarded count moves l.at) (forwarded count moves l.at) (cleared count moves l.at work) left
-    held = subst (λ (h : List ℕ). Holds m h (forwarded count moves l.at) (forwarded count moves l.at) (cleared count moves l.at work) left) (sym settled_heap) carried.holds
-
-    filed_now : (a : ℕ) → IsFiled filed a ↔ (IsFiled settled a ⊎ IsCrossing left (forwarded count moves l.at) count moves a)
-    filed_now = subst (λ (x : List ℕ). (objects : Name → Option Thing) (at work' : Name → ℕ) → Holds m settled.heap at at work' objects → AreData objects → AreMoved objects at count (move_at x) → AreValid objects → (a : ℕ) → IsFiled filed a ↔ (IsFiled settled a ⊎ IsCrossing objects at count (move_at x) a)) settled_scratch recording left (forwarded count moves l.at) (cleared count moves l.at work) held all_data are_moved are_valid
-
-    d_filed : (a : ℕ) → IsFiled d a ↔ IsFiled filed a
-    d_filed a =
-        let entries = ap (λ (x : Contents). set_entries x.heads) ends in
-        let same = ap (λ (x : Contents). x.sets) ends in
-        (filed_as filed d entries same a, filed_as d filed (sym entries) (sym same) a)
-
-    either : {A B C X : Type 0} → A ↔ B → B ↔ C → (A ⊎ X) ↔ (C ⊎ X)
-    either f g = (
-      λ h. ⊎_elim (λ a. inl (g.0 (f.0 a))) (λ x. inr x) h,
-      λ h. ⊎_elim (λ a. inl (f.1 (g.1 a))) (λ x. inr x) h,
-    )
-
-    -- the pool afterwards
-    d_free : free_below settled.table (length settled.table) ≡ free_below d.table m.pages
-    d_free = ap (free_below settled.table) long ∙ ap (λ (ts : List (List ℕ)). free_below ts m.pages) (sym d_table)
-
-    anew : PoolAnew m before d
-    anew = pool_anew m before d before.heads moved.heads moved.pool (set_entries moved.heads)
-        refl
-        shape.heads
-        (ap (λ (x : Contents). x.pool) carried.frame ∙ ap (λ (x : Contents). x.pool) base_frame)
-        (ap (λ (x : Contents). x.heads) carried.frame ∙ ap (λ (x : Contents). set x.heads SET_ENTRIES (set_entries moved.heads)) base_frame)
-        (ap (λ (x : Contents). x.heads) ends ∙ ap (λ (x : Contents). x.heads) others
-        ∙ ap (λ (x : Contents). set x.heads SET_ENTRIES (set_entries filed.heads)) frame
-        ∙ ap (λ (ps : List ℕ). set (set (set moved.heads CLAIM_COUNTER 0) POOL_LENGTH (length ps)) SET_ENTRIES (set_entries filed.heads)) d_free
-        ∙ ap (λ n. set (set (set moved.heads CLAIM_COUNTER 0) POOL_LENGTH (length (free_below d.table m.pages))) SET_ENTRIES n) (sym (ap (λ (x : Contents). set_entries x.heads) ends)))
-        (d_pool ∙ ap (λ (x : Contents). x.pool) frame ∙ ap (λ (ps : List ℕ). pool_with ps moved.pool) d_free)
-
-    pub tight_leaves : Leaves m before d s st.places t count (move_at c.scratch) later
-    tight_leaves = record {
+    abbrev lies : Lies m s st.places t count (move_at c.scratch) settled later
+    lies = record {
       at = refl;
-      heap = subst (λ (ts : List (List ℕ)). HeapStands m ts d.heap left later (λ _. 0)) (sym d_table) (subst (λ (h : List ℕ). HeapStands m settled.table h left later (λ _. 0)) (sym heap_is) (tight_stands settled.table after));
-      spaces = subst (λ (ts : List (List ℕ)). (p : ℕ) → p < m.pages → (space_word ts p ≡ 0) ⊎ ((x : Space) × (space_word ts p ≡ space_index x + 1) × IsOpen (view s).depths x × (x ≢ innermost s.graph t))) (sym d_table) (spaces_left settled.table after freed long shape.table);
+      heap = subst (λ (h : List ℕ). HeapStands m settled.table h left later (λ _. 0)) (sym settled_heap) (tight_stands settled.table after);
+      spaces = spaces_left settled.table after freed long shape.table;
       closed = closed;
-      stacks = ap (λ (x : Contents). x.stacks) ends ∙ ap (λ (x : Contents). x.stacks) others ∙ ap (λ (x : Contents). x.stacks) frame ∙ carried.stacks;
-      depths = depths_is;
-      made = ap (λ (x : Contents). x.made) ends ∙ ap (λ (x : Contents). x.made) others ∙ ap (λ (x : Contents). x.made) frame ∙ ap (λ (x : Contents). x.made) carried.frame ∙ ap (λ (x : Contents). x.made) base_frame;
-      rests = ap (λ (x : Contents). x.rests) ends ∙ ap (λ (x : Contents). x.rests) others ∙ ap (λ (x : Contents). x.rests) frame ∙ ap (λ (x : Contents). x.rests) carried.frame ∙ ap (λ (x : Contents). x.rests) base_frame;
-      unused = unused_is;
-      readers = readers_is;
-      buffers = subst AreFiled (sym (ap (λ (x : Contents). x.buffers) ends ∙ ap (λ (x : Contents). x.buffers) others ∙ ap (λ (x : Contents). x.buffers) frame ∙ ap (λ (x : Contents). x.buffers) carried.frame ∙ ap (λ (x : Contents). x.buffers) base_frame)) r.filed.filed;
-      limits = limits;
-      pool = subst (λ (ts : List (List ℕ)). PoolStands m d.heads d.pool ts) (sym d_table) (subst (λ (ps : List ℕ). PoolStands m d.heads ps settled.table) (sym d_pool) (pool_same m settled.heads d.heads settled.pool settled.table d_claims d_pooled pool));
-      anew = anew;
-      currents = subst (λ (ts : List (List ℕ)). CurrentsStand m d.currents ts) (sym d_table) (currents_stand settled.table after freed long shape.table d.currents shape.currents shape.slots currents_is);
-      sets = subst (SetsHold m) (sym ends) sets;
-      dense = subst (λ (ts : List (List ℕ)). RegionsDense m ts d.currents later.pages left) (sym d_table) (tight_dense settled.table after freed long shape.table d.currents shape.currents shape.slots currents_is);
-      filed = λ a. iff_then (d_filed a) (iff_then (filed_now a) (either (settled_filed a) (outside_filed a)));
     }
 
-    -- where the objects that escaped stand
-    abbrev state : StateEnded m d s t true count
-    state = state_ended m before s st r.filed.recorded areas t count has low moves true e d later tight_leaves (tight_counts m before mid c s st t count next areas has low r) targets_valid
+    own : IsRegionOf m (innermost s.graph t)
+    own = innermost_region m before s st t has low
 
-    stands_at : (k : ℕ) → k < count → (moves k).new ≡ state.stands.places.at (names k)
-    stands_at k lt =
-        let places = ended_places m before s st r.filed.recorded areas t count has low moves true e d later tight_leaves (tight_counts m before mid c s st t count next areas has low r) targets_valid in
-        sym (ap (λ (l' : Places). l'.at (names k)) places ∙ by_move-at count moves (λ v. v.new) (l.at (names k)) (l.at (names k)) k e.ascending lt (name_is m before mid c s st t count next areas has low r k lt))
+    -- the slots outside the region stay in their chains
+    settled_chain : (x : Space) → IsRegionOf m x → chain m settled x ≡ outside m before (innermost s.graph t) (chain m before x)
+    settled_chain x of_heap = ap (λ (y : Contents). chain m y x) frame ∙ carried.filed x of_heap ∙ ap (λ (y : Contents). outside m y (innermost s.graph t) (chain m y x)) base_frame
 
-    sized : (k : ℕ) → k < count → size_at mid.heap (moves k).old ≡ size_by (object_of s) (names k)
-    sized k lt =
-        let x = (known m before mid c s st t count next areas has low r).object k lt in
-        x.3 ∙ sym (ap words_by (kept (view s) (left_behind s st.places t count moves) (names k) x.0 x.1))
+    pub settled_sets : SetsHold m settled
+    settled_sets = subst (SetsHold m) (sym frame) carried.sets
 
-    planned_into : SlidInto m slid mid.table count (λ k. size_at mid.heap (moves k).old) (λ k. (moves k).new)
-    planned_into = let sl = slide m before mid c s st t count next areas has low r in record { begins = sl.begins; follows = sl.follows }
+    pub settled_filable : Filable m settled (Region t depth) count
+    settled_filable = filable m before s st r.filed.recorded areas t count has low moves true e targets_valid settled later lies (Region t depth) region (settled_chain (innermost s.graph t) own) (ap move_at settled_scratch)
 
-    slid_into : SlidInto m slid before.table count (λ k. size_by (object_of s) (names k)) (λ k. state.stands.places.at (names k))
-    slid_into = slid_same m slid mid.table before.table count (λ k. size_at mid.heap (moves k).old) (λ k. size_by (object_of s) (names k)) (λ k. (moves k).new) (λ k. state.stands.places.at (names k)) mid_frame sized stands_at planned_into
+    -- ---- and after the slots are filed
+    module _ (refiled filed d : Contents) (pool : PoolStands m settled.heads settled.pool settled.table) (refiling : ChainsBecome m settled refiled (λ x slots. all_filed m settled x (chain m settled (Region t depth)) slots)) (first : refiled ≡ with_sets settled refiled) (recording : ChainsBecome m refiled filed (λ x slots. all_filed m refiled x (slots_brought refiled.heap count (move_at refiled.scratch)) slots)) (sets : SetsHold m filed) (second : filed ≡ with_sets refiled filed) (ends : d ≡ with_depth (with_readers filed t (depth_of filed t) 0) t (depth_of filed t - 1)) (limits : InLimits m d) where
+      others : filed ≡ with_sets settled filed
+      others = with_sets-step settled refiled filed first second
 
-    -- the page of a move
-    page_at : (k p : ℕ) → k < count → state.stands.places.at (names k) / page_words m ≡ p → p < next
-    page_at k p lt at =
-        let w = target k lt in
-        let same = stands_at k lt in
-        let q : w.0 ≡ p = sym w.3 ∙ ap (λ a. a / page_words m) same ∙ at in
-        subst (λ i. i < next) q w.4
+      d_table : d.table ≡ settled.table
+      d_table = ap (λ (x : Contents). x.table) ends ∙ ap (λ (x : Contents). x.table) others
 
-    -- a page of the region before the last one that was filled holds one of the objects
-    filled_one : (p : ℕ) → IsPageOf slid before.table p → p < next → HoldsOne m count (λ k. state.stands.places.at (names k)) p
-    filled_one p own less =
-        let sl = slide m before mid c s st t count next areas has low r in
-        ⊎_elim
-        (λ (none : count ≡ 0). absurd (let z = sl.unused none in omega (arith, z.0, less)))
-        (λ (some : count ≢ 0).
-        let k : ℕ = count - 1 in
-        let lt : k < count = omega (arith, some) in
-        let end = sl.last k (omega (arith, some)) in
-        let same = ap (λ a. a / page_words m) (stands_at k lt) in
-        let upto : p ≤ state.stands.places.at (names k) / page_words m = omega (arith, end.1, same, less) in
-        holds_one m slid before.table count (λ i. size_by (object_of s) (names i)) (λ i. state.stands.places.at (names i)) slid_into
-        (λ i li.
-        let x = (known m before mid c s st t count next areas has low r).object i li in
-        let size : size_by (object_of s) (names i) ≡ length x.0.fields + 3 = sym (sized i li) ∙ x.3 in
-        omega (arith, size))
-        k p lt own upto)
-        (cases_eq count 0)
+      heap_is : d.heap ≡ moved.heap
+      heap_is = ap (λ (x : Contents). x.heap) ends ∙ ap (λ (x : Contents). x.heap) others ∙ ap (λ (x : Contents). x.heap) frame
 
-    left_as : (p : ℕ) → p < m.pages → IsPageOf slid before.table p → IsLeftAs m d.table count (λ k. state.stands.places.at (names k)) p
-    left_as p lt own = ⊎_elim
-        (λ (less : p < next). inl (ap (λ (ts : List (List ℕ)). space_word ts p) d_table ∙ (after.filled p lt (subst (λ (ts : List (List ℕ)). IsPageOf slid ts p) (sym mid_frame) own) less).0, filled_one p own less))
-        (λ (le : next ≤ p). inr (ap (λ (ts : List (List ℕ)). space_word ts p) d_table ∙ freed p lt own le, λ w. let q = page_at w.0 p w.1 w.2 in omega (arith, q, le)))
-        (cases_lt p next)
+      currents_is : d.currents ≡ row_set before.currents (t - 1) depth 0
+      currents_is =
+          ap (λ (x : Contents). x.currents) ends ∙ ap (λ (x : Contents). x.currents) others ∙ ap (λ (x : Contents). x.currents) frame
+          ∙ ap (λ (x : Contents). row_set x.currents (t - 1) depth 0) carried.frame ∙ ap (λ (x : Contents). row_set x.currents (t - 1) depth 0) base_frame
 
-    pub tight_ended : TightEnded m before d s st t count
-    tight_ended = record {
-      state = state;
-      rest = rest_kept m before s st r.filed.recorded areas t count has low moves true e d later tight_leaves (tight_counts m before mid c s st t count next areas has low r) targets_valid;
-      order = in_order m before mid c s st t count next areas has low r;
-      slid = slid_into;
-      region = left_as;
-      pages = λ p lt other. ap (λ (ts : List (List ℕ)). row ts p) d_table ∙ same_row settled.table after freed long shape.table p other;
-      currents = currents_is ∙ ap (λ k. row_set before.currents (t - 1) k 0) is;
-    }
+      depth_filed : depth_of filed t ≡ depth_of before t
+      depth_filed =
+          ap (λ (x : Contents). depth_of x t) others ∙ ap (λ (x : Contents). depth_of x t) frame ∙ ap (λ (x : Contents). depth_of x t) carried.frame
+          ∙ ap (λ (x : Contents). depth_of x t) base_frame
+
+      depths_is : d.depths ≡ set before.depths (t - 1) (depth_of before t - 1)
+      depths_is =
+          ap (λ (x : Contents). x.depths) ends ∙ ap (λ i. set filed.depths (t - 1) (i - 1)) depth_filed
+          ∙ ap (λ (ds : List ℕ). set ds (t - 1) (depth_of before t - 1)) (ap (λ (x : Contents). x.depths) others ∙ ap (λ (x : Contents). x.depths) frame ∙ ap (λ (x : Contents). x.depths) carried.frame ∙ ap (λ (x : Contents). x.depths) base_frame)
+
+      readers_is : d.readers ≡ row_set before.readers (t - 1) (depth_of before t - 1) 0
+      readers_is =
+          ap (λ (x : Contents). x.readers) ends ∙ ap (λ i. row_set filed.readers (t - 1) (i - 1) 0) depth_filed
+          ∙ ap (λ (rs : List (List ℕ)). row_set rs (t - 1) (depth_of before t - 1) 0) (ap (λ (x : Contents). x.readers) others ∙ ap (λ (x : Contents). x.readers) frame ∙ ap (λ (x : Contents). x.readers) carried.frame ∙ ap (λ (x : Contents). x.readers) base_frame)
+
+      d_heads : d.heads ≡ settled.heads
+      d_heads = ap (λ (x : Contents). x.heads) ends ∙ ap (λ (x : Contents). x.heads) others
+
+      moved_heads : moved.heads ≡ before.heads
+      moved_heads = ap (λ (x : Contents). x.heads) carried.frame ∙ ap (λ (x : Contents). x.heads) base_frame
+
+      unused_is : unused_heads d.heads ≡ unused_heads before.heads
+      unused_is =
+          ap unused_heads d_heads ∙ ap (λ (x : Contents). unused_heads x.heads) frame
+          ∙ drop-set-lt 3 (set moved.heads CLAIM_COUNTER 0) POOL_LENGTH _ (omega arith) ∙ drop-set-lt 3 moved.heads CLAIM_COUNTER 0 (omega arith)
+          ∙ ap unused_heads moved_heads
+
+      d_pool : d.pool ≡ settled.pool
+      d_pool = ap (λ (x : Contents). x.pool) ends ∙ ap (λ (x : Contents). x.pool) others
+
+      -- ---- the chains
+
+      all_as : (x : Space) (l k slots : List ℕ) → l ≡ k → (y : Contents) → y.heap ≡ d.heap → y.table ≡ d.table → all_filed m y x l slots ≡ all_filed m d x k slots
+      all_as x l k slots same y heap table = all_filed-same m d y x l slots heap table ∙ ap (λ (z : List ℕ). all_filed m d x z slots) same
+
+      chains_is : ChainsBecome m before d (λ x slots. all_filed m d x (slots_brought d.heap count moves) (all_filed m d x (outside m before (innermost s.graph t) (chain m before (innermost s.graph t))) (outside m before (innermost s.graph t) slots)))
+      chains_is x of_heap =
+          let to_heap : settled.heap ≡ d.heap = settled_heap ∙ sym heap_is in
+          let heap : refiled.heap ≡ d.heap = ap (λ (y : Contents). y.heap) first ∙ to_heap in
+          let table : refiled.table ≡ d.table = ap (λ (y : Contents). y.table) first ∙ sym d_table in
+          let scratch : refiled.scratch ≡ c.scratch = ap (λ (y : Contents). y.scratch) first ∙ settled_scratch in
+          let here : slots_brought refiled.heap count (move_at refiled.scratch) ≡ slots_brought d.heap count moves = ap (λ (h : List ℕ). slots_brought h count (move_at refiled.scratch)) heap ∙ ap (λ (w : List ℕ). slots_brought d.heap count (move_at w)) scratch in
+          let left_over : chain m settled (Region t depth) ≡ outside m before (innermost s.graph t) (chain m before (innermost s.graph t)) = ap (chain m settled) (sym region) ∙ settled_chain (innermost s.graph t) own in
+          ap (λ (y : Contents). chain m y x) ends ∙ recording x of_heap
+          ∙ all_as x (slots_brought refiled.heap count (move_at refiled.scratch)) (slots_brought d.heap count moves) (chain m refiled x) here refiled heap table
+          ∙ ap (all_filed m d x (slots_brought d.heap count moves)) (
+          refiling x of_heap
+          ∙ all_as x (chain m settled (Region t depth)) (outside m before (innermost s.graph t) (chain m before (innermost s.graph t))) (chain m settled x) left_over settled to_heap (sym d_table)
+          ∙ ap (all_filed m d x (outside m before (innermost s.graph t) (chain m before (innermost s.graph t)))) (settled_chain x of_heap)
+          )
+
+      -- the pool afterwards
+      d_free : free_below settled.table (length settled.table) ≡ free_below d.table m.pages
+      d_free = ap (free_below settled.table) long ∙ ap (λ (ts : List (List ℕ)). free_below ts m.pages) (sym d_table)
+
+      anew : PoolAnew m before d
+      anew = pool_anew m before d moved.heads moved.pool
+          (ap (λ (hs : List ℕ). set hs CLAIM_COUNTER 0) moved_heads)
+          (ap (λ (hs : List ℕ). length hs) moved_heads ∙ shape.heads)
+          (ap (λ (x : Contents). x.pool) carried.frame ∙ ap (λ (x : Contents). x.pool) base_frame)
+          (d_heads ∙ ap (λ (x : Contents). x.heads) frame ∙ ap (λ (ps : List ℕ). set (set moved.heads CLAIM_COUNTER 0) POOL_LENGTH (length ps)) d_free)
+          (d_pool ∙ ap (λ (x : Contents). x.pool) frame ∙ ap (λ (ps : List ℕ). pool_with ps moved.pool) d_free)
+
+      pub tight_leaves : Leaves m before d s st.places t count (move_at c.scratch) later
+      tight_leaves = record {
+        at = refl;
+        heap = subst (λ (ts : List (List ℕ)). HeapStands m ts d.heap left later (λ _. 0)) (sym d_table) (subst (λ (h : List ℕ). HeapStands m settled.table h left later (λ _. 0)) (sym heap_is) (tight_stands settled.table after));
+        spaces = subst (λ (ts : List (List ℕ)). (p : ℕ) → p < m.pages → (space_word ts p ≡ 0) ⊎ ((x : Space) × (space_word ts p ≡ space_index x + 1) × IsOpen (view s).depths x × (x ≢ innermost s.graph t))) (sym d_table) (spaces_left settled.table after freed long shape.table);
+        closed = closed;
+        stacks = ap (λ (x : Contents). x.stacks) ends ∙ ap (λ (x : Contents). x.stacks) others ∙ ap (λ (x : Contents). x.stacks) frame ∙ carried.stacks;
+        depths = depths_is;
+        made = ap (λ (x : Contents). x.made) ends ∙ ap (λ (x : Contents). x.made) others ∙ ap (λ (x : Contents). x.made) frame ∙ ap (λ (x : Contents). x.made) carried.frame ∙ ap (λ (x : Contents). x.made) base_frame;
+        rests = ap (λ (x : Contents). x.rests) ends ∙ ap (λ (x : Contents). x.rests) others ∙ ap (λ (x : Contents). x.rests) frame ∙ ap (λ (x : Contents). x.rests) carried.frame ∙ ap (λ (x : Contents). x.rests) base_frame;
+        unused = unused_is;
+        readers = readers_is;
+        buffers = subst AreFiled (sym (ap (λ (x : Contents). x.buffers) ends ∙ ap (λ (x : Contents). x.buffers) others ∙ ap (λ (x : Contents). x.buffers) frame ∙ ap (λ (x : Contents). x.buffers) carried.frame ∙ ap (λ (x : Contents). x.buffers) base_frame)) r.filed.filed;
+        limits = limits;
+        pool = subst (λ (ts : List (List ℕ)). PoolStands m d.heads d.pool ts) (sym d_table) (subst (λ (ps : List ℕ). PoolStands m d.heads ps settled.table) (sym d_pool) (subst (λ (hs : List ℕ). PoolStands m hs settled.pool settled.table) (sym d_heads) pool));
+        anew = anew;
+        currents = subst (λ (ts : List (List ℕ)). CurrentsStand m d.currents ts) (sym d_table) (currents_stand settled.table after freed long shape.table d.currents shape.currents shape.slots currents_is);
+        sets = subst (SetsHold m) (sym ends) sets;
+        dense = subst (λ (ts : List (List ℕ)). RegionsDense m ts d.currents later.pages left) (sym d_table) (tight_dense settled.table after freed long shape.table d.currents shape.currents shape.slots currents_is);
+        filed = chains_is;
+      }
+
+      -- where the objects that escaped stand
+      abbrev state : StateEnded m d s t true count
+      state = state_ended m before s st r.filed.recorded r.filed.filed areas t count has low moves true e targets_valid d later tight_leaves (tight_counts m before mid c s st t count next areas has low r)
+
+      stands_at : (k : ℕ) → k < count → (moves k).new ≡ state.stands.places.at (names k)
+      stands_at k lt =
+          let places = ended_places m before s st r.filed.recorded r.filed.filed areas t count has low moves true e targets_valid d later tight_leaves (tight_counts m before mid c s st t count next areas has low r) in
+          sym (ap (λ (l' : Places). l'.at (names k)) places ∙ by_move-at count moves (λ v. v.new) (l.at (names k)) (l.at (names k)) k e.ascending lt (name_is m before mid c s st t count next areas has low r k lt))
+
+      sized : (k : ℕ) → k < count → size_at mid.heap (moves k).old ≡ size_by (object_of s) (names k)
+      sized k lt =
+          let x = (known m before mid c s st t count next areas has low r).object k lt in
+          x.3 ∙ sym (ap words_by (kept (view s) (left_behind s st.places t count moves) (names k) x.0 x.1))
+
+      planned_into : SlidInto m slid mid.table count (λ k. size_at mid.heap (moves k).old) (λ k. (moves k).new)
+      planned_into = let sl = slide m before mid c s st t count next areas has low r in record { begins = sl.begins; follows = sl.follows }
+
+      slid_into : SlidInto m slid before.table count (λ k. size_by (object_of s) (names k)) (λ k. state.stands.places.at (names k))
+      slid_into = slid_same m slid mid.table before.table count (λ k. size_at mid.heap (moves k).old) (λ k. size_by (object_of s) (names k)) (λ k. (moves k).new) (λ k. state.stands.places.at (names k)) mid_frame sized stands_at planned_into
+
+      -- the page of a move
+      page_at : (k p : ℕ) → k < count → state.stands.places.at (names k) / page_words m ≡ p → p < next
+      page_at k p lt at =
+          let w = target k lt in
+          let same = stands_at k lt in
+          let q : w.0 ≡ p = sym w.3 ∙ ap (λ a. a / page_words m) same ∙ at in
+          subst (λ i. i < next) q w.4
+
+      -- a page of the region before the last one that was filled holds one of the objects
+      filled_one : (p : ℕ) → IsPageOf slid before.table p → p < next → HoldsOne m count (λ k. state.stands.places.at (names k)) p
+      filled_one p own less =
+          let sl = slide m before mid c s st t count next areas has low r in
+          ⊎_elim
+          (λ (none : count ≡ 0). absurd (let z = sl.unused none in omega (arith, z.0, less)))
+          (λ (some : count ≢ 0).
+          let k : ℕ = count - 1 in
+          let lt : k < count = omega (arith, some) in
+          let end = sl.last k (omega (arith, some)) in
+          let same = ap (λ a. a / page_words m) (stands_at k lt) in
+          let upto : p ≤ state.stands.places.at (names k) / page_words m = omega (arith, end.1, same, less) in
+          holds_one m slid before.table count (λ i. size_by (object_of s) (names i)) (λ i. state.stands.places.at (names i)) slid_into
+          (λ i li.
+          let x = (known m before mid c s st t count next areas has low r).object i li in
+          let size : size_by (object_of s) (names i) ≡ length x.0.fields + 3 = sym (sized i li) ∙ x.3 in
+          omega (arith, size))
+          k p lt own upto)
+          (cases_eq count 0)
+
+      left_as : (p : ℕ) → p < m.pages → IsPageOf slid before.table p → IsLeftAs m d.table count (λ k. state.stands.places.at (names k)) p
+      left_as p lt own = ⊎_elim
+          (λ (less : p < next). inl (ap (λ (ts : List (List ℕ)). space_word ts p) d_table ∙ (after.filled p lt (subst (λ (ts : List (List ℕ)). IsPageOf slid ts p) (sym mid_frame) own) less).0, filled_one p own less))
+          (λ (le : next ≤ p). inr (ap (λ (ts : List (List ℕ)). space_word ts p) d_table ∙ freed p lt own le, λ w. let q = page_at w.0 p w.1 w.2 in omega (arith, q, le)))
+          (cases_lt p next)
+
+      pub tight_ended : TightEnded m before d s st t count
+      tight_ended = record {
+        state = state;
+        rest = rest_kept m before s st r.filed.recorded r.filed.filed areas t count has low moves true e targets_valid d later tight_leaves (tight_counts m before mid c s st t count next areas has low r);
+        order = in_order m before mid c s st t count next areas has low r;
+        slid = slid_into;
+        region = left_as;
+        pages = λ p lt other. ap (λ (ts : List (List ℕ)). row ts p) d_table ∙ same_row settled.table after freed long shape.table p other;
+        currents = currents_is ∙ ap (λ k. row_set before.currents (t - 1) k 0) is;
+      }

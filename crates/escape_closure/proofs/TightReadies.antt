@@ -19,7 +19,8 @@ use Rattle.yak_model.specs.Spaces.{Counts, SpaceState, innermost}
 use Rattle.yak_model.specs.State.{Thing, object_of, view}
 use Rattle.yak_model.specs.Placed.{HeapStands, Places, names_of, size_by, space_word, words_by}
 use Rattle.yak_model.specs.Plans.{IsLawfulPlan, Move}
-use Rattle.yak_model.specs.Stands.{SetsStand, Stands, set_entries}
+use Rattle.yak_model.specs.Stands.{Stands}
+use Rattle.remember_sets.specs.Filed.{SetsHold}
 use Rattle.yak_model.proofs.Placed.{in_page}
 use Rattle.heap_walks.proofs.Seen.{present_home, present_of, seen, shown}
 use Rattle.relocation.specs.Moves.{move_at}
@@ -182,11 +183,10 @@ module _ (m : Areas) (before mid c : Contents) (s : SpaceState) (st : Stands m b
               ∙ ap (λ (hs : List ℕ). record before { heads = hs; scratch = c.scratch; heap = c.heap }) heads
               ∙ ap (λ (cs : List (List ℕ)). record before { heads = c.heads; currents = cs; scratch = c.scratch; heap = c.heap }) currents
               ∙ ap (λ (ts : List (List ℕ)). record before { heads = c.heads; currents = c.currents; table = ts; scratch = c.scratch; heap = c.heap }) table;
-          entries = ap set_entries (sym heads);
         };
         moves = tight_moves;
         lawful = tight_lawful;
-        sets = subst (λ (x : Contents). SetsStand m x.heads x.sets) (sym tight_frame) st.stands.sets;
+        sets = subst (SetsHold m) (sym tight_frame) st.stands.sets;
       }
 
   -- the names of the moves, as the slide has them

@@ -14,11 +14,13 @@ use Rattle.yak_model.specs.Graph.{Thread, idle, thread_of}
 use Rattle.yak_model.specs.Spaces.{Counts, IsReachedFor, IsTarget, SpaceState, innermost}
 use Rattle.yak_model.specs.State.{Thing, object_of, view}
 use Rattle.yak_model.specs.Placed.{HeapStands}
-use Rattle.yak_model.specs.Stands.{Stands, set_entries, words_of}
+use Rattle.yak_model.specs.Stands.{Stands, words_of}
 use Rattle.yak_model.specs.Recorded.{Recorded}
+use Rattle.yak_model.specs.Chains.{IsRegionOf}
+use Rattle.yak_model.proofs.Stacks.{all-at}
 use Rattle.heap_words.specs.declared.map.Areas.{Areas}
 use Rattle.heap_words.specs.declared.TheConstants.{STACK_SLOTS}
-use Rattle.heap_words.specs.Map.{HasThread, IsAreas, heap_length, scratch_length}
+use Rattle.heap_words.specs.Map.{HasThread, IsAreas, heap_length, max_depth, scratch_length}
 use Rattle.heap_words.specs.Contents.{Contents, depth_of, stack_of}
 use Rattle.heap_walks.specs.Laid.{work_of}
 use Rattle.heap_walks.proofs.Lists.{none_listed}
@@ -29,6 +31,7 @@ use Rattle.heap_walks.proofs.Stacks.{stack_size}
 use Rattle.escape_closure.specs.Sources.{IsReachedIn}
 use Rattle.escape_closure.specs.Raising.{Ended, EndsAt, HasSome, IsDueToScan, IsHere, IsSettled, TargetsStand}
 use Rattle.forwarding.specs.Crossing.{AreFiled}
+use Rattle.remember_sets.specs.Filed.{chain}
 use Rattle.escape_closure.specs.Targets.{IsEscaping, TargetsWritten}
 use Rattle.escape_closure.proofs.Counted.{counts_as, counts_none}
 use Rattle.escape_closure.proofs.Reaches.{inner_region, reached_here, reached_in, reached_of, target_of_least}
@@ -47,6 +50,11 @@ depth_is m c s st t has =
 
 pub region_is : (m : Areas) (c : Contents) (s : SpaceState) (st : Stands m c s) (t depth : ℕ) → HasThread m t → depth ≡ depth_of c t → 1 ≤ depth → innermost s.graph t ≡ Region t depth
 region_is m c s st t depth has is le = ap (inner_of t) (sym (is ∙ depth_is m c s st t has)) ∙ inner_region t depth le
+
+pub innermost_region : (m : Areas) (c : Contents) (s : SpaceState) (st : Stands m c s) (t : ℕ) → HasThread m t → 1 ≤ depth_of c t → IsRegionOf m (innermost s.graph t)
+innermost_region m c s st t has low =
+    let deep : depth_of c t ≤ max_depth m = all-at (λ k. k ≤ max_depth m) c.depths (t - 1) 0 (omega arith) st.stands.limits.depths in
+    subst (IsRegionOf m) (sym (region_is m c s st t (depth_of c t) has refl low)) (has.0, has.1, low, deep)
 
 abbrev pub ended : (m : Areas) (c : Contents) (s : SpaceState) → Stands m c s → ℕ → ℕ → Ended
 ended m c s st t depth = record { laid = record { state = view s; places = st.places; before = c }; thread = t; region = Region t depth }
@@ -152,7 +160,7 @@ module _ (m : Areas) (c : Contents) (s : SpaceState) (st : Stands m c s) (t dept
       heap = still_stands;
     }
 
-    pub few_reads : after ≤ before + (27 * words_of st.places.pages (object_of s) (innermost s.graph t) + 5 * set_entries c.heads + 3 * length (stack_of c t) + (3 + (1 + 3 * STACK_SLOTS) * m.threads))
+    pub few_reads : after ≤ before + (27 * words_of st.places.pages (object_of s) (innermost s.graph t) + 5 * length (chain m c (innermost s.graph t)) + 3 * length (stack_of c t) + (3 + (1 + 3 * STACK_SLOTS) * m.threads))
     few_reads =
         let size : length (stack_of d t) ≡ length (get_or (view s).stacks (t - 1) []) = stack_size m e.laid d t stand.among in
         let same : length (stack_of d t) ≡ length (stack_of c t) = ap (λ (x : Contents). length (stack_of x t)) stand.among.frame in

@@ -15,13 +15,12 @@ use Rattle.yak_model.specs.State.{IsOpen, object_of, view}
 use Rattle.yak_model.specs.Placed.{Holds, Places, datum_word, size_by, space_word, used_mark}
 use Rattle.yak_model.specs.Plans.{IsLawfulPlan, Move, forwarded, without}
 use Rattle.yak_model.specs.Packed.{IsSpaceOf}
-use Rattle.yak_model.specs.Stands.{CurrentsStand, PoolStands, Stands, claim_counter, current, free_pages, pages_of, set_entries, words_of}
+use Rattle.yak_model.specs.Stands.{CurrentsStand, PoolStands, Stands, claim_counter, current, free_pages, pages_of, words_of}
 use Rattle.yak_model.specs.Recorded.{Recorded}
 use Rattle.region_pages.specs.Pages.{TableFits}
 use Rattle.region_pages.specs.declared.TheConstants.{CLAIM_COUNTER}
 use Rattle.relocation.specs.Moves.{Numbered, move_at}
 use Rattle.relocation.specs.Slide.{brought}
-use Rattle.remember_sets.specs.declared.TheConstants.{SET_ENTRIES}
 use Rattle.forwarding.specs.Crossing.{AreFiled}
 use Rattle.escape_closure.specs.Leaves.{FilesRecorded, IsLeftAs, RestKept, SlidInto}
 use Rattle.escape_closure.specs.Targets.{IsEscaping}
@@ -105,7 +104,6 @@ pub record PlanReady (m : Areas) (before c : Contents) (s : SpaceState) (stands 
   pub holds : Holds m c.heap stands.places.at stands.places.at (λ n. slice_index c.heap (stands.places.at n + 2)) (object_of s)
   pub kept : (p : ℕ) → p < m.pages → space_word before.table p ≢ 0 → space_word c.table p ≡ space_word before.table p
   pub frame : c ≡ record before { heads = c.heads; currents = c.currents; table = c.table; scratch = c.scratch; heap = c.heap }
-  pub entries : set_entries c.heads ≡ set_entries before.heads
 
 -- Every reference of the stacks and of the kept objects leads by the plan. Only stacks and fields have changed.
 pub record References (m : Areas) (c d : Contents) (s : SpaceState) (l : Places) (t count : ℕ) : Type 0 where
@@ -149,8 +147,8 @@ pub record RegionShort (m : Areas) (c d : Contents) (s : SpaceState) (stands : S
   pub places : later.places ≡ stands.places
   pub recorded : Recorded m d s later
   pub filed : AreFiled d.buffers
-  pub records : FilesRecorded c d
-  pub frame : d ≡ record c { heads = slice_set c.heads SET_ENTRIES (set_entries d.heads); sets = d.sets; buffers = d.buffers; scratch = d.scratch }
+  pub records : FilesRecorded m c d
+  pub frame : d ≡ record c { firsts = d.firsts; sets = d.sets; buffers = d.buffers; scratch = d.scratch }
   pub room : free_pages d.heads d.pool ≡ free_pages c.heads c.pool
 
 -- A tight end: the objects that escape, in ascending order of address, are slid within the region's own pages. A page of the

@@ -1,5 +1,5 @@
 -- The steps of an end, from its plan to the words that it leaves.
-use Rattle.std.specs.Prelude.{◌≡◌, ◌≢◌, ◌⊎◌, ◌↔◌, ℕ, ◌+◌, ◌-◌, ◌*◌, ◌/◌, ◌≤◌, ◌<◌, ◌==◌, cond, Bool, false, List, length, drop, slice_index, slice_set, map, Option, Some, None}
+use Rattle.std.specs.Prelude.{◌≡◌, ◌≢◌, ◌⊎◌, ℕ, ◌+◌, ◌-◌, ◌*◌, ◌/◌, ◌≤◌, ◌<◌, ◌==◌, cond, Bool, false, List, length, slice_index, slice_set, map, Option, Some, None}
 use Rattle.object_layout.specs.declared.names.Name.{Name}
 use Rattle.epoch_lattice.specs.declared.Space.{Space}
 use Rattle.epoch_lattice.specs.declared.Space.TheVariants.{Control}
@@ -12,13 +12,13 @@ use Rattle.yak_model.specs.Spaces.{SpaceState, home_of, innermost}
 use Rattle.yak_model.specs.State.{IsClosed, IsOpen, Thing, view}
 use Rattle.yak_model.specs.Placed.{HeapStands, Holds, Places, datum_word, space_word, used_mark}
 use Rattle.yak_model.specs.Plans.{IsLawfulPlan, Move, after_moves, by_move, cleared, forwarded, without}
-use Rattle.yak_model.specs.Stands.{CurrentsStand, PoolStands, RegionsDense, Stands, set_entries}
-use Rattle.yak_model.specs.Recorded.{IsRecorded, Recorded}
+use Rattle.yak_model.specs.Stands.{CurrentsStand, PoolStands, RegionsDense, Stands, unused_heads}
+use Rattle.yak_model.specs.Recorded.{Recorded}
 use Rattle.relocation.specs.Moves.{move_at}
 use Rattle.relocation.specs.Slide.{IsPageOf, Runs, Sliding, brought}
-use Rattle.remember_sets.specs.declared.TheConstants.{SET_ENTRIES}
-use Rattle.remember_sets.specs.Filed.{IsFiled, LiesIn, SetsHold, logged}
-use Rattle.forwarding.specs.Crossing.{AreFiled, IsCrossing}
+use Rattle.forwarding.specs.Slots.{slots_brought}
+use Rattle.remember_sets.specs.Filed.{ChainsBecome, SetsHold, all_filed, chain, logged, outside}
+use Rattle.forwarding.specs.Crossing.{AreFiled}
 use Rattle.forwarding.specs.Pool.{PoolAnew}
 use Rattle.escape_closure.specs.Leaves.{FilesRecorded}
 use Rattle.escape_closure.specs.Targets.{IsEscaping, IsTargetAt, TargetsWritten}
@@ -61,8 +61,9 @@ pub record PagesLeft (m : Areas) (slid : ℕ) (was : List (List ℕ)) (heap : Li
   pub fits : (p : ℕ) → p < m.pages → used_mark now p ≤ page_words m
   pub placed : (k : ℕ) → k < count → PlacedIn m slid was heap now moves k
 
--- What an end leaves in the words: the objects that are left lie in pages of open spaces, and references lead to them. What
--- was recorded and doesn't lie in the region is filed, and so are the crossing fields of the moved objects.
+-- What an end leaves in the words: the objects that are left lie in pages of open spaces, and references lead to them. The slots
+-- outside the region stay in their chains, those of the region's own chain are filed anew, and so are the fields of the moved
+-- objects. The words before are those whose buffers were filed.
 pub record Leaves (m : Areas) (c d : Contents) (s : SpaceState) (l : Places) (t count : ℕ) (moves : ℕ → Move) (later : Places) : Type 0 where
   pub at : later.at ≡ forwarded count moves l.at
   pub heap : HeapStands m d.table d.heap (objects_left s l t count moves) later (λ _. 0)
@@ -72,7 +73,7 @@ pub record Leaves (m : Areas) (c d : Contents) (s : SpaceState) (l : Places) (t 
   pub depths : d.depths ≡ slice_set c.depths (t - 1) (depth_of c t - 1)
   pub made : d.made ≡ c.made
   pub rests : d.rests ≡ c.rests
-  pub unused : drop 4 d.heads ≡ drop 4 c.heads
+  pub unused : unused_heads d.heads ≡ unused_heads c.heads
   pub readers : d.readers ≡ row_set c.readers (t - 1) (depth_of c t - 1) 0
   pub buffers : AreFiled d.buffers
   pub limits : InLimits m d
@@ -81,7 +82,7 @@ pub record Leaves (m : Areas) (c d : Contents) (s : SpaceState) (l : Places) (t 
   pub currents : CurrentsStand m d.currents d.table
   pub sets : SetsHold m d
   pub dense : RegionsDense m d.table d.currents later.pages (objects_left s l t count moves)
-  pub filed : (a : ℕ) → IsFiled d a ↔ ((IsRecorded c.heads c.sets c.buffers a × (LiesIn m c (innermost s.graph t) a → ⊥)) ⊎ IsCrossing (objects_left s l t count moves) later.at count moves a)
+  pub filed : ChainsBecome m c d (λ x slots. all_filed m d x (slots_brought d.heap count moves) (all_filed m d x (outside m c (innermost s.graph t) (chain m c (innermost s.graph t))) (outside m c (innermost s.graph t) slots)))
 
 -- ---- the steps
 
@@ -96,13 +97,13 @@ pub record ReadyToMove (m : Areas) (before c : Contents) (s : SpaceState) (stand
 pub record Carried (m : Areas) (c d : Contents) (s : SpaceState) (l : Places) (t count : ℕ) : Type 0 where
   pub holds : Holds m d.heap (forwarded count (move_at c.scratch) l.at) (forwarded count (move_at c.scratch) l.at) (cleared count (move_at c.scratch) l.at (λ n. slice_index c.heap (l.at n + 2))) (objects_left s l t count (move_at c.scratch))
   pub stacks : d.stacks ≡ map (map (datum_word (forwarded count (move_at c.scratch) l.at))) (view s).stacks
-  pub filed : (a : ℕ) → IsFiled d a ↔ (IsFiled c a × (LiesIn m c (innermost s.graph t) a → ⊥))
+  pub filed : ChainsBecome m c d (λ _ slots. outside m c (innermost s.graph t) slots)
   pub sets : SetsHold m d
-  pub frame : d ≡ record c { heads = slice_set c.heads SET_ENTRIES (set_entries d.heads); stacks = d.stacks; sets = d.sets; heap = d.heap }
+  pub frame : d ≡ record c { stacks = d.stacks; firsts = d.firsts; sets = d.sets; heap = d.heap }
 
--- How many slots are recorded, in the sets and in the store buffers.
-abbrev pub records_of : Contents → ℕ
-records_of c = set_entries c.heads + length (logged c)
+-- How many slots are recorded for a region, and in the store buffers.
+abbrev pub records_of : Areas → Contents → Space → ℕ
+records_of m c x = length (chain m c x) + length (logged c)
 
 -- The buffers are filed, and the targets stand in the work words.
 pub record Begun (m : Areas) (c d : Contents) (s : SpaceState) (stands : Stands m c s) (t escaping : ℕ) : Type 0 where
@@ -112,9 +113,9 @@ pub record Begun (m : Areas) (c d : Contents) (s : SpaceState) (stands : Stands 
   pub recorded : Recorded m filing s later
   pub filed : AreFiled filing.buffers
   pub written : TargetsWritten m s later.places t filing d escaping
-  pub few : set_entries filing.heads ≤ records_of c
-  pub records : FilesRecorded c filing
-  pub frame : filing ≡ record c { heads = slice_set c.heads SET_ENTRIES (set_entries filing.heads); sets = filing.sets; buffers = filing.buffers }
+  pub few : length (chain m filing (innermost s.graph t)) ≤ records_of m c (innermost s.graph t)
+  pub records : FilesRecorded m c filing
+  pub frame : filing ≡ record c { firsts = filing.firsts; sets = filing.sets; buffers = filing.buffers }
 
 -- The words after the targets of an end whose buffers were filed.
 pub record Filed (m : Areas) (before : Contents) (s : SpaceState) (stands : Stands m before s) : Type 0 where

@@ -12,8 +12,9 @@ use Rattle.yak_model.specs.declared.datum.Datum.TheVariants.{Null, Object}
 use Rattle.yak_model.specs.Spaces.{Counts}
 use Rattle.yak_model.specs.State.{Thing, IsDatum}
 use Rattle.yak_model.specs.Placed.{datum_word}
-use Rattle.yak_model.specs.Stands.{words_in, words_of, set_entries}
+use Rattle.yak_model.specs.Stands.{words_in, words_of}
 use Rattle.yak_model.specs.Recorded.{RecordedAs}
+use Rattle.remember_sets.specs.Filed.{chain}
 use Rattle.heap_words.specs.declared.map.Areas.{Areas}
 use Rattle.heap_words.specs.declared.TheConstants.{STACK_SLOTS}
 use Rattle.heap_words.specs.Map.{heap_length}
@@ -155,9 +156,9 @@ abbrev pub IsSlotPaid : Ended → Contents → ℕ → Type 0
 IsSlotPaid e c a =
     (from n : Name) (o : Thing) (f : ℕ) → e.laid.state.objects from ≡ Some o → f < length o.fields → slice_index_or o.fields f Null ≡ Object n → a ≡ e.laid.places.at from + OBJECT_WORDS + f → o.home ≢ e.region → IsHere e n → IsRaised e c n o.home
 
--- The targets behind the first entries of the sets are paid.
-abbrev pub AreEntriesPaid : Ended → Contents → ℕ → Type 0
-AreEntriesPaid e c k = (i : ℕ) → i < k → IsSlotPaid e c (slice_index e.laid.before.sets i)
+-- The targets behind the first slots of the region's chain are paid.
+abbrev pub AreSlotsPaid : Areas → Ended → Contents → ℕ → Type 0
+AreSlotsPaid m e c k = (i : ℕ) → i < k → IsSlotPaid e c (slice_index (chain m e.laid.before e.region) i)
 
 -- The words are those in which a thread ends its region: the work words are 0 and the buffers are filed.
 pub record EndsAt (m : Areas) (e : Ended) (c : Contents) (thread depth : ℕ) : Type 0 where
@@ -175,4 +176,4 @@ pub record TargetsStand (m : Areas) (e : Ended) (before : ℕ) (d : Contents) (a
   pub settled : (n : Name) → IsHere e n → IsSettled e d n
   pub outside : (n : Name) (o : Thing) → e.laid.state.objects n ≡ Some o → o.home ≢ e.region → work_of e.laid d n ≡ 0
   pub counted : Counts (HasSome e d) escaping
-  pub reads : after ≤ before + (27 * words_of e.laid.places.pages e.laid.state.objects e.region + 5 * set_entries e.laid.before.heads + 3 * length (slice_index_or e.laid.state.stacks (e.thread - 1) []) + (3 + (1 + 3 * STACK_SLOTS) * m.threads))
+  pub reads : after ≤ before + (27 * words_of e.laid.places.pages e.laid.state.objects e.region + 5 * length (chain m e.laid.before e.region) + 3 * length (slice_index_or e.laid.state.stacks (e.thread - 1) []) + (3 + (1 + 3 * STACK_SLOTS) * m.threads))

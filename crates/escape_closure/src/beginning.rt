@@ -22,7 +22,7 @@ pub(crate) fn begin_end<W: Words>(words: &mut W, map: Areas, thread: u8) -> u32
     requires depth { 1 ≤ depth_of (contents map (W.words words.old)) thread }
     requires recorded { ∥ ((s : SpaceState) × (h : Stands map (contents map (W.words words.old)) s) × Recorded map (contents map (W.words words.old)) s h) ∥₁ }
     ensures begun { (s : SpaceState) (h : Stands map (contents map (W.words words.old)) s) → Recorded map (contents map (W.words words.old)) s h → Begun map (contents map (W.words words.old)) (contents map (W.words words.new)) s h thread result }
-    ensures reads { let c = contents map (W.words words.old) in (s : SpaceState) (h : Stands map c s) → Recorded map c s h → W.reads words.new ≤ W.reads words.old + (27 * words_of h.places.pages (object_of s) (innermost s.graph thread) + 8 * records_of c + 3 * length (stack_of c thread) + (4 + (2 + 3 * STACK_SLOTS) * map.threads)) }
+    ensures reads { let c = contents map (W.words words.old) in (s : SpaceState) (h : Stands map c s) → Recorded map c s h → W.reads words.new ≤ W.reads words.old + (27 * words_of h.places.pages (object_of s) (innermost s.graph thread) + 12 * records_of map c (innermost s.graph thread) + 3 * length (stack_of c thread) + (4 + (2 + 3 * STACK_SLOTS) * map.threads)) }
     ensures sound { Sound map (W.words words.new) }
     ensures base { W.base words.new ≡ W.base words.old }
 {

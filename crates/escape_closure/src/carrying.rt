@@ -1,12 +1,13 @@
 //! The carrying out of the plan of an end.
 
 ghost use Rattle.std.specs.Prelude.{◌≡◌, ◌≤◌, ◌<◌, ◌+◌, ◌*◌, Bool, length};
-ghost use Rattle.heap_words.specs.Map.{HasThread};
+ghost use Rattle.heap_words.specs.Map.{HasThread, page_words};
 ghost use Rattle.heap_words.specs.Contents.{Contents, contents, depth_of, stack_of, Sound};
 ghost use Rattle.heap_words.specs.declared.TheConstants.{STACK_SLOTS};
 ghost use Rattle.yak_model.specs.Spaces.{SpaceState, innermost};
 ghost use Rattle.yak_model.specs.State.{object_of};
-ghost use Rattle.yak_model.specs.Stands.{Stands, set_entries, words_of};
+ghost use Rattle.yak_model.specs.Stands.{Stands, pages_of, words_of};
+ghost use Rattle.remember_sets.specs.Filed.{chain};
 ghost use Rattle.relocation.specs.Moves.{move_at};
 ghost use Rattle.escape_closure.specs.Leaving.{Carried, ReadyToMove};
 
@@ -24,7 +25,7 @@ pub(crate) fn carry_out<W: Words>(words: &mut W, map: Areas, plan: Plan, thread:
     requires depth { 1 ≤ depth_of (contents map (W.words words.old)) thread }
     requires ready { ∥ ((before : Contents) × (s : SpaceState) × (stands : Stands map before s) × (tight : Bool) × ReadyToMove map before (contents map (W.words words.old)) s stands thread plan.count tight) ∥₁ }
     ensures carried { (before : Contents) (s : SpaceState) (stands : Stands map before s) (tight : Bool) → ReadyToMove map before (contents map (W.words words.old)) s stands thread plan.count tight → Carried map (contents map (W.words words.old)) (contents map (W.words words.new)) s stands.places thread plan.count }
-    ensures reads { let c = contents map (W.words words.old) in (before : Contents) (s : SpaceState) (stands : Stands map before s) (tight : Bool) → ReadyToMove map before c s stands thread plan.count tight → W.reads words.new ≤ W.reads words.old + (8 * words_of stands.places.pages (object_of s) (innermost s.graph thread) + 10 * set_entries c.heads + 4 * length (stack_of c thread) + (6 + (1 + 4 * STACK_SLOTS) * map.threads)) }
+    ensures reads { let c = contents map (W.words words.old) in (before : Contents) (s : SpaceState) (stands : Stands map before s) (tight : Bool) → ReadyToMove map before c s stands thread plan.count tight → W.reads words.new ≤ W.reads words.old + (8 * words_of stands.places.pages (object_of s) (innermost s.graph thread) + 6 * length (chain map c (innermost s.graph thread)) + 4 * length (stack_of c thread) + (map.pages + 2 * (page_words map * pages_of c.table (innermost s.graph thread))) + (5 + (1 + 4 * STACK_SLOTS) * map.threads)) }
     ensures sound { Sound map (W.words words.new) }
     ensures base { W.base words.new ≡ W.base words.old }
 {

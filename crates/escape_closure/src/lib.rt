@@ -10,6 +10,7 @@ mod needing;
 mod planning;
 mod raising;
 mod references;
+mod refiling;
 mod regional;
 mod rolling;
 mod sources;

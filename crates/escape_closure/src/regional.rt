@@ -1,12 +1,13 @@
 //! The end of a region into its objects' targets.
 
 ghost use Rattle.std.specs.Prelude.{◌≡◌, ◌≤◌, ◌<◌, ◌+◌, ◌*◌, IfOk, MatchResult, length};
-ghost use Rattle.heap_words.specs.Map.{HasThread};
+ghost use Rattle.heap_words.specs.Map.{HasThread, page_words};
 ghost use Rattle.heap_words.specs.Contents.{Contents, contents, depth_of, stack_of, Sound};
 ghost use Rattle.heap_words.specs.declared.TheConstants.{STACK_SLOTS};
 ghost use Rattle.yak_model.specs.Spaces.{SpaceState, innermost};
 ghost use Rattle.yak_model.specs.State.{object_of};
-ghost use Rattle.yak_model.specs.Stands.{Stands, set_entries, words_of};
+ghost use Rattle.yak_model.specs.Stands.{Stands, pages_of, words_of};
+ghost use Rattle.remember_sets.specs.Filed.{chain};
 ghost use Rattle.yak_model.specs.Recorded.{Recorded};
 ghost use Rattle.escape_closure.specs.Ends.{RegionEnded, RegionShort};
 ghost use Rattle.escape_closure.specs.Leaving.{RegionReady, records_of};
@@ -16,6 +17,7 @@ use crate::carrying::carry_out;
 use crate::clearing::clear_targets;
 use crate::closing::close_region;
 use crate::planning::plan_escaping;
+use crate::refiling::refile_slots;
 use epoch_lattice::Space;
 use forwarding::record_moved;
 use heap_words::{Areas, Words};
@@ -25,14 +27,14 @@ use relocation::Plan;
 use thread_stacks::depth;
 
 /// Ends the innermost region of a thread whose escaping objects are planned: references follow the plan, the objects are
-/// moved, the region's pages are given back, and the crossing fields of the moved objects are recorded.
+/// moved, the region's pages are given back, and the slots of its chain and the fields of the moved objects are filed.
 fn finish_region<W: Words>(words: &mut W, map: Areas, plan: Plan, thread: u8)
     requires sound { Sound map (W.words words.old) }
     requires thread { HasThread map thread }
     requires depth { 1 ≤ depth_of (contents map (W.words words.old)) thread }
     requires ready { ∥ ((before : Contents) × (mid : Contents) × (s : SpaceState) × (stands : Stands map before s) × RegionReady map before mid (contents map (W.words words.old)) s stands thread plan.count) ∥₁ }
     ensures ended { (before mid : Contents) (s : SpaceState) (stands : Stands map before s) → RegionReady map before mid (contents map (W.words words.old)) s stands thread plan.count → RegionEnded map before (contents map (W.words words.new)) s stands thread plan.count }
-    ensures reads { let c = contents map (W.words words.old) in (before mid : Contents) (s : SpaceState) (stands : Stands map before s) → RegionReady map before mid c s stands thread plan.count → W.reads words.new ≤ W.reads words.old + (12 * words_of stands.places.pages (object_of s) (innermost s.graph thread) + 10 * set_entries c.heads + 4 * length (stack_of c thread) + 2 * map.pages + (8 + (1 + 4 * STACK_SLOTS) * map.threads)) }
+    ensures reads { let c = contents map (W.words words.old) in (before mid : Contents) (s : SpaceState) (stands : Stands map before s) → RegionReady map before mid c s stands thread plan.count → W.reads words.new ≤ W.reads words.old + (14 * words_of stands.places.pages (object_of s) (innermost s.graph thread) + 13 * length (chain map c (innermost s.graph thread)) + 4 * length (stack_of c thread) + 2 * map.pages + 2 * (page_words map * pages_of c.table (innermost s.graph thread)) + (8 + (1 + 4 * STACK_SLOTS) * map.threads)) }
     ensures sound { Sound map (W.words words.new) }
     ensures base { W.base words.new ≡ W.base words.old }
 {
@@ -43,6 +45,7 @@ fn finish_region<W: Words>(words: &mut W, map: Areas, plan: Plan, thread: u8)
     };
     carry_out(words, map, plan, thread);
     release_space(words, map, region);
+    refile_slots(words, map, region);
     record_moved(words, map, &plan);
     close_region(words, map, thread);
 }
@@ -60,7 +63,7 @@ pub fn end_region<W: Words>(words: &mut W, map: Areas, thread: u8) -> Result<u64
     requires depth { 1 ≤ depth_of (contents map (W.words words.old)) thread }
     requires recorded { ∥ ((s : SpaceState) × (h : Stands map (contents map (W.words words.old)) s) × Recorded map (contents map (W.words words.old)) s h) ∥₁ }
     ensures ended { let c = contents map (W.words words.old) in let d = contents map (W.words words.new) in (s : SpaceState) (h : Stands map c s) → Recorded map c s h → MatchResult result (λ moved. RegionEnded map c d s h thread moved) (λ shortage. RegionShort map c d s h thread shortage) }
-    ensures reads { let c = contents map (W.words words.old) in (s : SpaceState) (h : Stands map c s) → Recorded map c s h → IfOk result (λ _. W.reads words.new ≤ W.reads words.old + (100 * (words_of h.places.pages (object_of s) (innermost s.graph thread) + records_of c + length (stack_of c thread) + 71) + 4 * map.pages)) }
+    ensures reads { let c = contents map (W.words words.old) in (s : SpaceState) (h : Stands map c s) → Recorded map c s h → IfOk result (λ _. W.reads words.new ≤ W.reads words.old + (100 * (words_of h.places.pages (object_of s) (innermost s.graph thread) + records_of map c (innermost s.graph thread) + length (stack_of c thread) + 71) + 4 * map.pages)) }
     ensures sound { Sound map (W.words words.new) }
     ensures base { W.base words.new ≡ W.base words.old }
 {

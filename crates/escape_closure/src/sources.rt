@@ -8,15 +8,16 @@ ghost use Rattle.epoch_lattice.specs.Lattice.{IsValid, space_index};
 ghost use Rattle.heap_words.specs.Map.{HasThread, IsAreas, heap_length, page_words};
 ghost use Rattle.heap_words.specs.declared.TheConstants.{STACK_SLOTS};
 ghost use Rattle.heap_words.specs.Contents.{contents, Sound};
-ghost use Rattle.yak_model.specs.Stands.{set_entries};
+ghost use Rattle.yak_model.specs.Chains.{IsRegionOf};
+ghost use Rattle.remember_sets.specs.Filed.{IsFiled, chain};
 ghost use Rattle.yak_model.specs.Recorded.{RecordedAs};
-ghost use Rattle.escape_closure.specs.Raising.{Ended, Raising, RaisesOn, IsStackDue, IsStackPaid, IsSlotPaid, AreEntriesPaid};
+ghost use Rattle.escape_closure.specs.Raising.{Ended, Raising, RaisesOn, IsStackDue, IsStackPaid, IsSlotPaid, AreSlotsPaid};
 
 use crate::raising::{Tally, raise, target_of};
 use epoch_lattice::{Space, index_of};
-use heap_words::{Areas, Words, get_head, get_heap, get_page, get_set, get_stack, stack_length};
+use heap_words::{Areas, Words, get_heap, get_page, get_stack, stack_length};
 use region_pages::SPACE_WORD;
-use remember_sets::SET_ENTRIES;
+use remember_sets::{first_slot, next_slot};
 
 /// Raises the targets of the objects of the region to which a thread's stack refers.
 pub(crate) fn raise_stack<W: Words>(
@@ -53,17 +54,16 @@ pub(crate) fn page_of(map: Areas, a: usize) -> u32
     (a / map.page_words() as usize) as u32
 }
 
-/// Raises the target of the object of the region to which a recorded slot refers from outside.
-fn raise_slot<W: Words>(words: &mut W, map: Areas, tally: Tally, region: u8, i: usize) -> Tally
+/// Raises the target of the object of the region to which a slot of the region's chain refers from outside.
+fn raise_slot<W: Words>(words: &mut W, map: Areas, tally: Tally, region: u8, slot: usize) -> Tally
     requires sound { Sound map (W.words words.old) }
-    requires within { i < set_entries (contents map (W.words words.old)).heads }
-    requires some { ∥ ((e : Ended) × (space_index e.region ≡ region) × Raising map e (contents map (W.words words.old)) tally × RecordedAs map e.laid.before e.laid.state e.laid.places.at) ∥₁ }
-    ensures raising { (e : Ended) → space_index e.region ≡ region → Raising map e (contents map (W.words words.old)) tally → RecordedAs map e.laid.before e.laid.state e.laid.places.at → RaisesOn map e (contents map (W.words words.old)) (contents map (W.words words.new)) result × IsSlotPaid e (contents map (W.words words.new)) (slice_index e.laid.before.sets i) }
+    requires within { slot < heap_length map }
+    requires some { ∥ ((e : Ended) × (space_index e.region ≡ region) × Raising map e (contents map (W.words words.old)) tally × RecordedAs map e.laid.before e.laid.state e.laid.places.at × IsFiled map e.laid.before slot) ∥₁ }
+    ensures raising { (e : Ended) → space_index e.region ≡ region → Raising map e (contents map (W.words words.old)) tally → RecordedAs map e.laid.before e.laid.state e.laid.places.at → IsFiled map e.laid.before slot → RaisesOn map e (contents map (W.words words.old)) (contents map (W.words words.new)) result × IsSlotPaid e (contents map (W.words words.new)) slot }
     ensures sound { Sound map (W.words words.new) }
-    ensures reads { W.reads words.new ≤ W.reads words.old + 5 }
+    ensures reads { W.reads words.new ≤ W.reads words.old + 4 }
     ensures base { W.base words.new ≡ W.base words.old }
 {
-    let slot = get_set(words, map, i) as usize;
     let told = get_page(words, map, page_of(map, slot), SPACE_WORD);
     let Some(space) = target_of(told) else {
         return tally;
@@ -75,18 +75,21 @@ fn raise_slot<W: Words>(words: &mut W, map: Areas, tally: Tally, region: u8, i: 
     raise(words, map, tally, region, word, space)
 }
 
-/// Raises the targets of the objects of the region to which recorded slots refer from outside.
-pub(crate) fn raise_slots<W: Words>(words: &mut W, map: Areas, tally: Tally, region: u8) -> Tally
+/// Raises the targets of the objects of the region to which the slots of its chain refer from outside.
+pub(crate) fn raise_slots<W: Words>(words: &mut W, map: Areas, tally: Tally, region: Space) -> Tally
     requires sound { Sound map (W.words words.old) }
-    requires some { ∥ ((e : Ended) × (space_index e.region ≡ region) × Raising map e (contents map (W.words words.old)) tally × RecordedAs map e.laid.before e.laid.state e.laid.places.at) ∥₁ }
-    ensures raising { (e : Ended) → space_index e.region ≡ region → Raising map e (contents map (W.words words.old)) tally → RecordedAs map e.laid.before e.laid.state e.laid.places.at → RaisesOn map e (contents map (W.words words.old)) (contents map (W.words words.new)) result × AreEntriesPaid e (contents map (W.words words.new)) (set_entries e.laid.before.heads) × (W.reads words.new ≤ W.reads words.old + (1 + 5 * set_entries e.laid.before.heads)) }
+    requires region { IsRegionOf map region }
+    requires some { ∥ ((e : Ended) × (e.region ≡ region) × Raising map e (contents map (W.words words.old)) tally × RecordedAs map e.laid.before e.laid.state e.laid.places.at) ∥₁ }
+    ensures raising { (e : Ended) → e.region ≡ region → Raising map e (contents map (W.words words.old)) tally → RecordedAs map e.laid.before e.laid.state e.laid.places.at → RaisesOn map e (contents map (W.words words.old)) (contents map (W.words words.new)) result × AreSlotsPaid map e (contents map (W.words words.new)) (length (chain map e.laid.before e.region)) × (W.reads words.new ≤ W.reads words.old + (1 + 5 * length (chain map e.laid.before e.region))) }
     ensures sound { Sound map (W.words words.new) }
     ensures base { W.base words.new ≡ W.base words.old }
 {
-    let entries = get_head(words, map, SET_ENTRIES) as usize;
+    let index = index_of(region);
     let mut tally = tally;
-    for i in 0..entries {
-        tally = raise_slot(words, map, tally, region, i);
+    let mut next = first_slot(words, map, region);
+    while let Some(slot) = next {
+        tally = raise_slot(words, map, tally, index, slot.0 as usize);
+        next = next_slot(words, map, slot);
     }
     tally
 }

@@ -21,6 +21,7 @@ ghost use Rattle.escape_closure.specs.Leaving.{TightReady};
 use crate::beginning::begin_end;
 use crate::carrying::carry_out;
 use crate::closing::close_region;
+use crate::refiling::refile_slots;
 use epoch_lattice::{Space, index_of};
 use forwarding::{record_moved, settle_pages};
 use heap_words::{Areas, Words, set_current};
@@ -91,6 +92,14 @@ fn finish_tight<W: Words>(words: &mut W, map: Areas, packing: Packing, thread: u
     let plan = packing.plan;
     carry_out(words, map, plan, thread);
     settle_region(words, map, &plan, thread, innermost, packing.cursor.next);
+    refile_slots(
+        words,
+        map,
+        Space::Region {
+            thread,
+            depth: innermost,
+        },
+    );
     record_moved(words, map, &plan);
     close_region(words, map, thread);
 }

@@ -5,3 +5,5 @@ pub mod StackSteps
 pub mod TableSteps
 pub mod Anew
 pub mod Filled
+pub mod Followed
+pub mod Gaps

@@ -5,3 +5,4 @@ pub mod Pool
 pub mod Reshaped
 pub mod Row
 pub mod Settled
+pub mod Slots

@@ -2,11 +2,15 @@
 //! table after a slide, and the records of the moved objects.
 #![tactic(auto)]
 
+mod dropping;
+mod following;
 mod recording;
 mod regions;
 mod settling;
 mod stacks;
 
+pub use dropping::drop_others;
+pub use following::follow_moves;
 pub use recording::record_moved;
 pub use regions::correct_regions;
 pub use settling::settle_pages;

@@ -144,7 +144,7 @@ pub record StepTold (m m' : Areas) (before later : List ℕ) (t : ℕ) (asked : 
   pub ended : EndsSo m (contents m before) (contents m' later) t asked stepped
   pub census : TellsPages (contents m before) asked stepped.reply
   pub packed : asked ≡ call.Collect → (s : SpaceState) (h : Stands m' (contents m' later) s) → IsPacked m' (contents m' later) s h Control
-  pub records : (s : SpaceState) (h : Stands m (contents m before) s) → StepRecords m s h.places.at (contents m before) (contents m' later) t asked stepped.reply stepped.collected
+  pub records : (s : SpaceState) (h : Stands m (contents m before) s) → StepRecords m (contents m before) (contents m' later) s h t asked stepped.reply stepped.collected
   pub room : StepRoom m (contents m before) (contents m' later) t asked stepped.reply stepped.collected
   pub idle : IsIdle asked stepped.reply → contents m' later ≡ contents m before
 

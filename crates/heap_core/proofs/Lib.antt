@@ -21,3 +21,4 @@ pub mod RoomsNames
 pub mod RoomsPages
 pub mod RoomsPlaced
 pub mod RoomsEscaped
+pub mod FiledSlots

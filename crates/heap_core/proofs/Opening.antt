@@ -15,7 +15,7 @@ use Rattle.heap_words.specs.declared.map.Areas.{Areas}
 use Rattle.heap_words.specs.declared.TheConstants.{STACK_SLOTS, BUFFER_ENTRIES}
 use Rattle.object_layout.specs.Layout.{header_word}
 use Rattle.heap_words.specs.Map.{IsAreas, heap_length, max_depth, page_words, rest_words}
-use Rattle.heap_words.specs.Contents.{InLimits}
+use Rattle.heap_words.specs.Contents.{InLimits, zero_contents}
 use Rattle.heap_words.proofs.Zero.{map-replicate}
 use Rattle.epoch_lattice.specs.declared.Space.{Space}
 use Rattle.epoch_lattice.specs.declared.Space.TheVariants.{Control, Region}
@@ -26,6 +26,8 @@ use Rattle.yak_model.specs.Graph.{Fields, Thread, standard_limits}
 use Rattle.yak_model.specs.Spaces.{content_at, home_of, opening_spaces}
 use Rattle.yak_model.proofs.Names.{get-same, get-other, same_or_other}
 use Rattle.yak_model.specs.State.{State, Thing, IsDatum, IsClosed, object_of, thing_of, view}
+use Rattle.yak_model.specs.Chains.{AreChains, IsRegionOf, chain_of, head_word}
+use Rattle.yak_model.proofs.Chains.{chain-is, contains-none, sets-stand}
 use Rattle.yak_model.specs.Stands.{SpacesOpen, NamesMade, RestsZero, PoolStands, CurrentsStand, SetsStand, RegionsDense, IsWhole, StandsAs, Stands, pages_of}
 use Rattle.yak_model.specs.Placed.{Places, names_of, datum_word, space_word, used_mark, size_by, IsAt, Tiles, ObjectAt, HeapStands}
 use Rattle.yak_model.specs.declared.TheConstants.{ROOT_FIELDS}
@@ -257,12 +259,26 @@ currents_stand n k pool = record {
       (omega (arith, p.0, q.0), p.1 ∙ sym q.1);
 }
 
-sets_stand : (n k : ℕ) (pool : List ℕ) → SetsStand (opening_map n k) (opened (opening_map n k) pool).heads (opened (opening_map n k) pool).sets
-sets_stand n k pool = record {
-  within = omega arith;
-  listed = λ i h. absurd (omega arith);
-  placed = λ a h ne. absurd (ne (let words : ℕ = heap_length (opening_map n k) in get_or-replicate {A = ℕ} (2 * words) (words + a) 0 0 (omega arith)));
+-- the chains are empty
+no_head : (m : Areas) (x : Space) → head_word (zero_contents m).firsts x ≡ 0
+no_head m Control = refl
+no_head m (Region t d) = zero_rows (max_depth m) m.threads (t - 1) (d - 1)
+
+no_chains : (m : Areas) → AreChains m (zero_contents m).firsts (zero_contents m).sets (λ x. [])
+no_chains m = record {
+  heads = λ x r. no_head m x;
+  linked = λ x r. tt;
+  within = λ x r. All-nil (λ a. a < heap_length m);
+  free = λ a lt none. (zeros (2 * heap_length m) (2 * a), zeros (2 * heap_length m) (2 * a + 1));
+  once = λ x r i j d lt within. absurd (omega (arith, within));
+  apart = λ x y a r s in_x. absurd (contains-none a in_x);
 }
+
+pub empty_chain : (m : Areas) (x : Space) → IsRegionOf m x → chain_of m (zero_contents m).firsts (zero_contents m).sets x ≡ []
+empty_chain m = chain-is m (zero_contents m).firsts (zero_contents m).sets (λ x. []) (no_chains m)
+
+sets_stand : (m : Areas) → SetsStand m (zero_contents m).firsts (zero_contents m).sets
+sets_stand m = sets-stand m (zero_contents m).firsts (zero_contents m).sets (λ x. []) (no_chains m)
 
 filter-none : (f : List ℕ → Bool) (n : ℕ) (r : List ℕ) → f r ≡ false → filter f (replicate n r) ≡ []
 filter-none f zero r h = refl
@@ -282,7 +298,7 @@ regions_dense n k currents t d ht hk hd hg some = absurd (omega (arith, no_pages
 -- the words that have no use yet
 rests_zero : (n k : ℕ) (pool : List ℕ) → RestsZero (opened (opening_map n k) pool).heads (opened (opening_map n k) pool).rests
 rests_zero n k pool = record {
-  heads = All-replicate (λ w. w ≡ 0) 4 0 refl;
+  heads = All-replicate (λ w. w ≡ 0) 5 0 refl;
   blocks = All-replicate (All (λ w. w ≡ 0)) (suc k) (replicate (rest_words (opening_map n k)) 0) (All-replicate (λ w. w ≡ 0) (rest_words (opening_map n k)) 0 refl);
 }
 
@@ -301,7 +317,8 @@ opening_as n k pool long counts = record {
   zero = rests_zero n k pool;
   pool = pool_stands n k pool long counts;
   currents = currents_stand n k pool;
-  sets = sets_stand n k pool;
+  sets = sets_stand (opening_map n k);
+  heads_closed = λ u d region closed. no_head (opening_map n k) (Region u d);
   dense = regions_dense n k (opened (opening_map n k) pool).currents;
 }
 

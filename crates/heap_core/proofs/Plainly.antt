@@ -103,7 +103,7 @@ record Parts (m : Areas) (was now : Contents) (t : ℕ) (asked : Call) (said : R
   pub ended : EndsSo m was now t asked (plain said)
   pub counts : TellsPages was asked said
   pub packed : (s : SpaceState) (h : Stands m now s) → PacksControl m now s h asked
-  pub records : (s : SpaceState) (h : Stands m was s) → Records m s h.places.at was now t asked said → StepRecords m s h.places.at was now t asked said false
+  pub records : (s : SpaceState) (h : Stands m was s) → Records m s h.places.at was now t asked said → StepRecords m was now s h t asked said false
   pub room : TakesRoom m was now t asked said → StepRoom m was now t asked said false
 
 parts : (m : Areas) (was now : Contents) (t : ℕ) (asked : Call) (said : Reply) → IsPlain asked → Parts m was now t asked said

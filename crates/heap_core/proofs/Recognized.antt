@@ -13,6 +13,7 @@ use Rattle.object_layout.specs.Layout.{name_word}
 use Rattle.heap_words.specs.declared.map.Areas.{Areas}
 use Rattle.heap_words.specs.Map.{page_words}
 use Rattle.heap_words.specs.Contents.{Contents, stack_of}
+use Rattle.epoch_lattice.specs.declared.Space.{Space}
 use Rattle.epoch_lattice.specs.declared.Space.TheVariants.{Region}
 use Rattle.epoch_lattice.specs.declared.TheConstants.{MAX_DEPTH}
 use Rattle.epoch_lattice.specs.Lattice.{IsValid, space_index}
@@ -23,14 +24,15 @@ use Rattle.yak_model.specs.Graph.{Limits}
 use Rattle.yak_model.specs.Spaces.{SpaceState}
 use Rattle.yak_model.specs.State.{IsDatum, State, Thing, depth, object_of, stack, view}
 use Rattle.yak_model.specs.Placed.{IsAt, Places, datum_word, names_of, size_by}
-use Rattle.yak_model.specs.Stands.{Stands, StandsAs, set_entries}
-use Rattle.yak_model.specs.Recorded.{Enters, IsField, IsReader, IsRecorded, Recorded, RecordedAs}
+use Rattle.yak_model.specs.Chains.{chain_of}
+use Rattle.yak_model.specs.Stands.{Stands, StandsAs}
+use Rattle.yak_model.specs.Recorded.{Enters, IsField, IsReader, IsRecordedFor, Recorded, RecordedAs}
+use Rattle.yak_model.proofs.Chains.{contains-or}
 use Rattle.yak_model.proofs.Data.{same-datum, some-of}
 use Rattle.yak_model.proofs.Stacks.{all-at, get_or-map_all, stack-stands}
 use Rattle.relocation.proofs.SlidLawful.{name_at, stands-at}
 use Rattle.yak_model.specs.Recorded.{SomeRecorded}
 use Rattle.standing_calls.proofs.Homes.{home-shown}
-use Rattle.standing_calls.proofs.Told.{find_in}
 
 -- a header tells its fields and its space, and a name's word the name
 same_header : (f g a b : ℕ) → f ≤ MAX_FIELDS → g ≤ MAX_FIELDS → HEADER_BASE + SPACE_UNIT * a + f ≡ HEADER_BASE + SPACE_UNIT * b + g → (f ≡ g) × (a ≡ b)
@@ -184,14 +186,14 @@ module _ (m : Areas) (c : Contents) (s s' : State) (l l' : Places) (h : StandsAs
         let k = known m c s s' l l' h h' n o e in
         number-own k.object.home o.home (valid' n k.object k.present) (valid n o e) k.space
 
-    crossing-known : (n x : Name) (o p : Thing) (f : ℕ) → RecordedAs m c s' l'.at → s.objects n ≡ Some o → f < length o.fields → get_or o.fields f Null ≡ Object x → s.objects x ≡ Some p → Enters o.home p.home → IsRecorded c.heads c.sets c.buffers (l.at n + OBJECT_WORDS + f)
+    crossing-known : (n x : Name) (o p : Thing) (f : ℕ) → RecordedAs m c s' l'.at → s.objects n ≡ Some o → f < length o.fields → get_or o.fields f Null ≡ Object x → s.objects x ≡ Some p → Enters o.home p.home → IsRecordedFor m c.firsts c.sets c.buffers p.home (l.at n + OBJECT_WORDS + f)
     crossing-known n x o p f r e lt refers ex enters =
         let k = known m c s s' l l' h h' n o e in
         let j = known m c s s' l l' h h' x p ex in
         let from = home-known n o e in
         let to = home-known x p ex in
         let enters' : Enters k.object.home j.object.home = ((λ q. enters.0 (sym to ∙ q)), (λ q. enters.1 (sym to ∙ q ∙ from))) in
-        subst (λ a. IsRecorded c.heads c.sets c.buffers (a + OBJECT_WORDS + f)) k.place (r.crossing n x k.object j.object f k.present (omega (arith, lt, k.count)) (field-known m c s s' l l' h h' n o f e lt ∙ refers) j.present enters')
+        subst (λ (y : Space). IsRecordedFor m c.firsts c.sets c.buffers y (l.at n + OBJECT_WORDS + f)) to (subst (λ a. IsRecordedFor m c.firsts c.sets c.buffers j.object.home (a + OBJECT_WORDS + f)) k.place (r.crossing n x k.object j.object f k.present (omega (arith, lt, k.count)) (field-known m c s s' l l' h h' n o f e lt ∙ refers) j.present enters'))
 
     read-known : (t u d k : ℕ) (x : Name) (p : Thing) → RecordedAs m c s' l'.at → 1 ≤ t → t ≤ m.threads → k < length (stack s t) → get_or (stack s t) k Null ≡ Object x → s.objects x ≡ Some p → p.home ≡ Region u d → u ≢ t → IsReader c.readers t u d
     read-known t u d k x p r ht hm lt e ex home ne =
@@ -263,18 +265,18 @@ module _ (m : Areas) (c : Contents) (s : State) (l : Places) (h : StandsAs m c s
       none at.0 hp (hp, (at.1, (f.1, f.2, at.2.place, ap s.objects same ∙ f.3, f.4, f.5 ∙ ap (λ (x : Name). l.at x + OBJECT_WORDS + f.2) (sym same))))))
       (search_below (λ p. (p < m.pages) × ((k : ℕ) × FieldAt s l a p k)) (find_page a) m.pages)
 
--- whether a slot is recorded
-find_recorded : (heads sets : List ℕ) (buffers : List (List ℕ)) (a : ℕ) → IsRecorded heads sets buffers a ⊎ (IsRecorded heads sets buffers a → ⊥)
-find_recorded heads sets buffers a =
-    let filed : List ℕ = take (set_entries heads) sets in
-    let logged : List ℕ = flat_map (λ (b : List ℕ). b) buffers in
+-- whether a slot is recorded for a region
+find_recorded : (m : Areas) (c : Contents) (x : Space) (a : ℕ) → IsRecordedFor m c.firsts c.sets c.buffers x a ⊎ (IsRecordedFor m c.firsts c.sets c.buffers x a → ⊥)
+find_recorded m c x a =
+    let filed : List ℕ = chain_of m c.firsts c.sets x in
+    let logged : List ℕ = flat_map (λ (b : List ℕ). b) c.buffers in
     ⊎_elim
     (λ (y : Contains filed a). inl (inl y))
     (λ (no : Contains filed a → ⊥). ⊎_elim
     (λ (y : Contains logged a). inl (inr y))
     (λ (none : Contains logged a → ⊥). inr (λ r. ⊎_elim (λ (y : Contains filed a). no y) (λ (y : Contains logged a). none y) r))
-    (find_in logged a))
-    (find_in filed a)
+    (contains-or a logged))
+    (contains-or a filed)
 
 -- the homes of present objects are valid
 homes_valid : (m : Areas) (c : Contents) (s : SpaceState) → Stands m c s → (n : Name) (o : Thing) → object_of s n ≡ Some o → IsValid MAX_DEPTH o.home
@@ -283,10 +285,10 @@ homes_valid m c s h n o e = subst (λ (x : Limits). IsValid x.depth o.home) h.wh
 pub recorded-told : (m : Areas) (c : Contents) → SomeRecorded m c → (s : SpaceState) (h : Stands m c s) → Recorded m c s h
 recorded-told m c some s h = record {
   crossing = λ n x o p f e lt refers ex enters. ⊎_elim
-      (λ (y : IsRecorded c.heads c.sets c.buffers (h.places.at n + OBJECT_WORDS + f)). y)
-      (λ (no : IsRecorded c.heads c.sets c.buffers (h.places.at n + OBJECT_WORDS + f) → ⊥). absurd (∥∥₁_elim some (hlevel props) (λ q.
+      (λ (y : IsRecordedFor m c.firsts c.sets c.buffers p.home (h.places.at n + OBJECT_WORDS + f)). y)
+      (λ (no : IsRecordedFor m c.firsts c.sets c.buffers p.home (h.places.at n + OBJECT_WORDS + f) → ⊥). absurd (∥∥₁_elim some (hlevel props) (λ q.
       no (crossing-known m c (view s) (view q.0) h.places q.1.places h.stands q.1.stands (homes_valid m c s h) (homes_valid m c q.0 q.1) n x o p f q.2 e lt refers ex enters))))
-      (find_recorded c.heads c.sets c.buffers (h.places.at n + OBJECT_WORDS + f));
+      (find_recorded m c p.home (h.places.at n + OBJECT_WORDS + f));
   fields = λ a r. ⊎_elim
       (λ (y : IsField h.places.at (view s) a). y)
       (λ (no : IsField h.places.at (view s) a → ⊥). absurd (∥∥₁_elim some (hlevel props) (λ q.

@@ -17,7 +17,10 @@ use Rattle.yak_model.specs.declared.history.Entry.{Entry}
 use Rattle.yak_model.specs.declared.history.Entry.TheVariants.{Said, Collected}
 use Rattle.yak_model.specs.Lawful.{HasWords, open_regions, present_words}
 use Rattle.yak_model.specs.Spaces.{Collects, Escapes, SpaceState, innermost}
+use Rattle.yak_model.specs.State.{object_of}
+use Rattle.yak_model.specs.Placed.{Places}
 use Rattle.yak_model.specs.Stands.{Stands}
+use Rattle.mark_compact.specs.Collected.{SlotsCollected, StateCollected}
 use Rattle.yak_model.specs.Recorded.{Recorded}
 use Rattle.escape_closure.specs.Ends.{RegionEnded, RegionShort}
 use Rattle.heap_core.specs.declared.owned.Stepped.{Stepped}
@@ -33,6 +36,7 @@ use Rattle.standing_calls.proofs.Begins.{depth_words}
 use Rattle.heap_core.proofs.Gathered.{kept-threads}
 use Rattle.standing_calls.proofs.Recorded.{same_records}
 use Rattle.standing_calls.proofs.Steps.{beyond, not-idle, same_room, thread_in}
+use Rattle.heap_core.proofs.FiledSlots.{collected-before, ended-before, innermost-region}
 use Rattle.heap_core.proofs.StepsMade.{only-collected}
 
 -- the three ways in which an end goes
@@ -80,7 +84,7 @@ pub record Ending (m : Areas) (was now : Contents) (s : SpaceState) (h : Stands 
   pub lawful : (before : List Entry) → AreLawful m.pages before s (ending t said collected)
   pub makes : CollectsForEnd m was s h t said collected
   pub tells : TellsShortage m was s h t said shortage
-  pub records : RecordsEnd m s was now t said collected
+  pub records : RecordsEnd m was now s h t said collected
   pub no_fault : said ≢ reply.OutOfHeap
   pub not_refused : (why : Refusal) → said ≢ reply.Refused why
 
@@ -91,6 +95,10 @@ closed-readers m was between tried now s h t after collects later first then dee
     last
     ∙ ap (λ i. row_set tried.readers (t - 1) (i - 1) 0) (deep ∙ depth)
     ∙ ap (λ (rs : List (List ℕ)). row_set rs (t - 1) (depth_of was t - 1) 0) (then ∙ first)
+
+-- the slots that a collection leaves behind an end that found the free pages too few
+slots-after : (m : Areas) (was first between : Contents) (s : SpaceState) (h : Stands m was s) (t : ℕ) (found : Shortage) (short : RegionShort m was first s h t found) (x : StateCollected m first between s short.later) → SlotsCollected m was between (object_of s) (object_of x.after) h.places.at x.stands.places.at
+slots-after m was first between s h t found short x = collected-before m was first between (object_of s) (object_of x.after) h.places.at short.later.places.at x.stands.places.at short.records short.filed (ap (λ (l : Places). l.at) short.places) x.slots
 
 ended-once : (m : Areas) (was now : Contents) (s : SpaceState) (h : Stands m was s) (t moved : ℕ) → HasThread m t → RegionEnded m was now s h t moved → Ending m was now s h t (reply.Ended moved false) false None
 ended-once m was now s h t moved ht e = record {
@@ -112,7 +120,18 @@ ended-after m was first now s h t moved ht found short e = record {
   lawful = λ before. (inr (moved, false, [], refl), λ mid turned. (tt, λ last more. tt));
   makes = (found, short.short);
   tells = λ other same. cc;
-  records = record { filed = e.ended.state.filed; readers = closed-readers m was e.between e.between now s h t e.state.after e.state.collects e.state.stands (e.room.readers ∙ ap (λ (x : Contents). x.readers) short.frame) refl refl (ap (λ (x : Contents). x.readers) e.ended.rest.frame) };
+  records = (
+    record { filed = e.ended.state.filed; readers = closed-readers m was e.between e.between now s h t e.state.after e.state.collects e.state.stands (e.room.readers ∙ ap (λ (x : Contents). x.readers) short.frame) refl refl (ap (λ (x : Contents). x.readers) e.ended.rest.frame) },
+    record {
+      between = e.between;
+      after = e.state.after;
+      collects = e.state.collects;
+      later = e.state.stands;
+      emptied = e.room.filed;
+      slots = slots-after m was first e.between s h t found short e.state;
+      escaped = record { after = e.ended.state.after; ends = e.ended.state.ends; stands = e.ended.state.stands; filed = e.ended.rest.filed };
+    },
+  );
   no_fault = λ same. cc;
   not_refused = λ why same. cc;
 }
@@ -129,7 +148,26 @@ tight-after m was first now s h t moved shortage areas ht found short e = record
   );
   makes = (found, short.short);
   tells = ((moved, refl), e.short.short.more, record { first = first; found = found; tried = short; between = e.between; room = e.room; state = e.state; short = e.short.short });
-  records = record { filed = e.ended.state.filed; readers = closed-readers m was e.between e.tried now s h t e.state.after e.state.collects e.state.stands (e.room.readers ∙ ap (λ (x : Contents). x.readers) short.frame) (ap (λ (x : Contents). x.readers) e.short.frame) (ap (λ (x : Contents). depth_of x t) e.short.frame) (ap (λ (x : Contents). x.readers) e.ended.rest.frame) };
+  records = (
+    record { filed = e.ended.state.filed; readers = closed-readers m was e.between e.tried now s h t e.state.after e.state.collects e.state.stands (e.room.readers ∙ ap (λ (x : Contents). x.readers) short.frame) (ap (λ (x : Contents). x.readers) e.short.frame) (ap (λ (x : Contents). depth_of x t) e.short.frame) (ap (λ (x : Contents). x.readers) e.ended.rest.frame) },
+    record {
+      between = e.between;
+      after = e.state.after;
+      collects = e.state.collects;
+      later = e.state.stands;
+      emptied = e.room.filed;
+      slots = slots-after m was first e.between s h t found short e.state;
+      escaped =
+          let ended = e.ended.state in
+          let region = innermost-region m e.between e.state.after e.state.stands t ht ended.ends.open_epoch in
+          record {
+            after = ended.after;
+            ends = ended.ends;
+            stands = ended.stands;
+            filed = ended-before m e.between e.tried now e.state.after t (object_of ended.after) ended.stands.places.at region e.short.records e.short.filed (ap (λ (x : Contents). x.table) e.short.frame) e.ended.rest.filed;
+          };
+    },
+  );
   no_fault = λ same. cc;
   not_refused = λ why same. cc;
 }

@@ -18,9 +18,9 @@ use Rattle.region_pages.specs.Placement.{IsPlacedInCurrent, IsPlacedOnClaimed, d
 use Rattle.mark_compact.specs.Collected.{StateCollected}
 use Rattle.heap_core.specs.declared.owned.Stepped.{Stepped}
 use Rattle.heap_core.specs.Collecting.{IsCollected, counted}
-use Rattle.heap_core.specs.Done.{Done}
+use Rattle.heap_core.specs.Done.{Done, RecordsCollected}
 use Rattle.heap_core.specs.Makings.{FullAfter, IsMade, MadeAfter, MadeAtOnce}
-use Rattle.yak_model.specs.Recorded.{SomeRecorded}
+use Rattle.yak_model.specs.Recorded.{Recorded, SomeRecorded}
 use Rattle.standing_calls.specs.Room.{HasNoRoom, TakesPlace}
 use Rattle.standing_calls.specs.Turned.{Turned}
 use Rattle.heap_core.specs.Steps.{plain}
@@ -108,12 +108,31 @@ done-after m was now t k said ht short h = record {
       let x = h.collected.state s stands r in
       let same = h.turned.records x.after x.stands in
       record {
-        filed = rw same.buffers h.collected.room.filed;
-        readers = same.readers ∙ h.collected.room.readers;
+        files = record { filed = rw same.buffers h.collected.room.filed; readers = same.readers ∙ h.collected.room.readers };
+        between = h.between;
+        after = x.after;
+        collects = x.collects;
+        later = x.stands;
+        slots = x.slots;
+        same = same;
       };
   room = record { short = short; between = h.between; collected = h.collected; then = h.turned.room };
   idle = λ i. absurd (not-idle (call.New k) reply.Ok (λ no. no) (λ why q. cc) i);
 }
+
+-- nothing more than the collection
+records-collected : (m : Areas) (was now : Contents) (t : ℕ) → IsCollected m was now t → (s : SpaceState) (h : Stands m was s) → Recorded m was s h → RecordsCollected m was now s h
+records-collected m was now t collected s h r =
+    let x = collected.state s h r in
+    record {
+      files = record { filed = collected.room.filed; readers = collected.room.readers };
+      between = now;
+      after = x.after;
+      collects = x.collects;
+      later = x.stands;
+      slots = x.slots;
+      same = same_records now;
+    }
 
 -- no room after a collection either
 done-full : (m : Areas) (was now : Contents) (t k : ℕ) (said : Stepped) → IsAreas m → HasThread m t → length now.table ≡ m.pages → SomeRecorded m was → HasNoRoom m was t (k + OBJECT_WORDS) → (h : FullAfter m was now t k said) → Done m was now t (call.New k) (record { reply = reply.OutOfHeap; collected = true; full = Some h.pages; shortage = None })
@@ -137,7 +156,7 @@ done-full m was now t k said areas ht rows some short h =
       ended = tt;
       counts = tt;
       packed = λ s stands. tt;
-      records = λ s stands r. record { filed = h.collected.room.filed; readers = h.collected.room.readers };
+      records = λ s stands r. records-collected m was now t h.collected s stands r;
       room = record { short = short; between = now; collected = h.collected; then = (h.none, same_room now) };
       idle = λ i. absurd (not-idle (call.New k) reply.OutOfHeap (λ no. no) (λ why q. cc) i);
     }
@@ -163,7 +182,7 @@ done-collected m was now t ht rows some h = record {
   ended = tt;
   counts = tt;
   packed = packed-after m was now t some h rows;
-  records = λ s stands r. record { filed = h.room.filed; readers = h.room.readers };
+  records = λ s stands r. records-collected m was now t h s stands r;
   room = h;
   idle = λ i. absurd (not-idle call.Collect reply.Ok (λ no. no) (λ why q. cc) i);
 }

@@ -11,7 +11,7 @@ use Rattle.heap_words.specs.declared.map.Areas.{Areas}
 use Rattle.heap_words.specs.Contents.{Contents, depth_of, made_of, stack_of}
 use Rattle.yak_model.specs.declared.datum.Datum.{Datum}
 use Rattle.yak_model.specs.declared.datum.Datum.TheVariants.{Null, Int, Object}
-use Rattle.yak_model.specs.Graph.{Thread, thread_of}
+use Rattle.yak_model.specs.Graph.{thread_of}
 use Rattle.yak_model.specs.Graph as graph
 use Rattle.yak_model.specs.Spaces.{SpaceState}
 use Rattle.yak_model.specs.State.{IsDatum, Thing, object_of, view}

@@ -1,6 +1,5 @@
 -- What a step of a thread does and says.
 use Rattle.std.specs.Prelude.{◌≡◌, ◌≢◌, ◌↔◌, ℕ, ◌+◌, ◌<◌, Bool, true, false, List, Option, IsTrue, MatchBool, MatchOption}
-use Rattle.object_layout.specs.declared.names.Name.{Name}
 use Rattle.object_layout.specs.declared.calls.Call.{Call}
 use Rattle.object_layout.specs.declared.calls.Call.TheVariants.{New, End, Collect, Census}
 use Rattle.object_layout.specs.declared.replies.Reply.{Reply}
@@ -13,13 +12,13 @@ use Rattle.heap_words.specs.Map.{HasRegion}
 use Rattle.heap_words.specs.Contents.{Contents, depth_of, with_readers}
 use Rattle.epoch_lattice.specs.declared.Space.TheVariants.{Region}
 use Rattle.yak_model.specs.declared.history.Entry.{Entry}
-use Rattle.yak_model.specs.Spaces.{EndsEpoch, SpaceState}
+use Rattle.yak_model.specs.Spaces.{Collects, EndsEpoch, SpaceState}
 use Rattle.yak_model.specs.State.{object_of}
 use Rattle.yak_model.specs.Stands.{Stands}
 use Rattle.yak_model.specs.Recorded.{Recorded}
 use Rattle.yak_model.specs.Packed.{IsFull, IsPacked}
 use Rattle.yak_model.specs.Continued.{PacksControl}
-use Rattle.mark_compact.specs.Collected.{RoomCollected, StateCollected}
+use Rattle.mark_compact.specs.Collected.{RoomCollected, SlotsCollected, StateCollected}
 use Rattle.forwarding.specs.Crossing.{AreFiled}
 use Rattle.escape_closure.specs.Ends.{FallsShort, HasEnough, RegionShort}
 use Rattle.escape_closure.specs.Leaves.{FilesEnded}
@@ -90,36 +89,60 @@ pub record Files (was now : Contents) : Type 0 where
   pub filed : AreFiled now.buffers
   pub readers : now.readers ≡ was.readers
 
--- A collection files what the buffers hold, and then nothing is recorded.
-abbrev pub RecordsNew : Contents → Contents → Bool → Type 0
-RecordsNew was now false = SameRecords was now
-RecordsNew was now true = Files was now
+-- A collection led to words between, and then nothing is recorded. In the words between, the chain of each region holds exactly
+-- the slots that filing the store buffers puts there, in that order, without the fields of the objects that are gone, and each
+-- field of an object that is kept at its new place.
+pub record RecordsCollected (m : Areas) (was now : Contents) (s : SpaceState) (stands : Stands m was s) : Type 0 where
+  pub files : Files was now
+  pub between : Contents
+  pub after : SpaceState
+  pub collects : Collects s after
+  pub later : Stands m between after
+  pub slots : SlotsCollected m was between (object_of s) (object_of after) stands.places.at later.places.at
+  pub same : SameRecords between now
+
+-- A call that makes an object records nothing, but for the collection that it may make.
+abbrev pub RecordsNew : (m : Areas) (was now : Contents) (s : SpaceState) → Stands m was s → Bool → Type 0
+RecordsNew m was now s stands false = SameRecords was now
+RecordsNew m was now s stands true = RecordsCollected m was now s stands
 
 -- All store buffers are empty, the region that ended has no readers, and the readers of all others are as they were.
 pub record FilesAtEnd (was now : Contents) (t : ℕ) : Type 0 where
   pub filed : AreFiled now.buffers
   pub readers : now.readers ≡ (with_readers was t (depth_of was t) 0).readers
 
--- In the state after the end exactly these slots are recorded: those that were recorded before and don't lie in the region, and
--- the fields of the objects that escaped whose references enter a region other than the object's new space.
-pub record RecordsEscaped (m : Areas) (was now : Contents) (s : SpaceState) (t moved : ℕ) : Type 0 where
+-- In the state after the end no slot is recorded for the region that ended, and for each other region exactly these are: those
+-- that were, and those of the ended region whose references enter this one now, but for those that lie in the ended region; and
+-- the fields of the objects that escaped whose references enter it from another space.
+pub record RecordsEscaped (m : Areas) (was now : Contents) (s : SpaceState) (t moved : ℕ) (tight : Bool) : Type 0 where
   pub after : SpaceState
-  pub ends : EndsEpoch s t moved false after
+  pub ends : EndsEpoch s t moved tight after
   pub stands : Stands m now after
   pub filed : FilesEnded m was now s t (object_of after) stands.places.at
 
--- An end files what the buffers hold. What is recorded after a collection is told with how the end goes.
-abbrev pub RecordsEnd : Areas → SpaceState → Contents → Contents → ℕ → Reply → Bool → Type 0
-RecordsEnd m s was now t (Ended moved tight) false = FilesAtEnd was now t × RecordsEscaped m was now s t moved
-RecordsEnd m s was now t (Ended moved tight) true = FilesAtEnd was now t
-RecordsEnd m s was now t said collected = SameRecords was now
+-- A collection led to words between, in which no buffer holds anything and the chains hold exactly the slots of the objects that
+-- are kept, as after any collection. From there the end recorded.
+pub record RecordsAfter (m : Areas) (was now : Contents) (s : SpaceState) (stands : Stands m was s) (t moved : ℕ) (tight : Bool) : Type 0 where
+  pub between : Contents
+  pub after : SpaceState
+  pub collects : Collects s after
+  pub later : Stands m between after
+  pub emptied : AreFiled between.buffers
+  pub slots : SlotsCollected m was between (object_of s) (object_of after) stands.places.at later.places.at
+  pub escaped : RecordsEscaped m between now after t moved tight
 
--- What a step records, where `at` gives the address of each name. No call but a store makes a buffer longer.
-abbrev pub StepRecords : Areas → SpaceState → (Name → ℕ) → Contents → Contents → ℕ → Call → Reply → Bool → Type 0
-StepRecords m s at was now t (New k) said collected = RecordsNew was now collected
-StepRecords m s at was now t End said collected = RecordsEnd m s was now t said collected
-StepRecords m s at was now t Collect said collected = Files was now
-StepRecords m s at was now t asked said collected = Records m s at was now t asked said
+-- An end files what the buffers hold, and records the slots that are told above, after a collection where it made one.
+abbrev pub RecordsEnd : (m : Areas) (was now : Contents) (s : SpaceState) → Stands m was s → ℕ → Reply → Bool → Type 0
+RecordsEnd m was now s stands t (Ended moved tight) false = FilesAtEnd was now t × RecordsEscaped m was now s t moved false
+RecordsEnd m was now s stands t (Ended moved tight) true = FilesAtEnd was now t × RecordsAfter m was now s stands t moved tight
+RecordsEnd m was now s stands t said collected = SameRecords was now
+
+-- What a step records. No call but a store makes a buffer longer.
+abbrev pub StepRecords : (m : Areas) (was now : Contents) (s : SpaceState) → Stands m was s → ℕ → Call → Reply → Bool → Type 0
+StepRecords m was now s stands t (New k) said collected = RecordsNew m was now s stands collected
+StepRecords m was now s stands t End said collected = RecordsEnd m was now s stands t said collected
+StepRecords m was now s stands t Collect said collected = RecordsCollected m was now s stands
+StepRecords m was now s stands t asked said collected = Records m s stands.places.at was now t asked said
 
 -- An object had no room, a collection was made, and more holds of the contents that it left.
 pub record MakesRoom (m : Areas) (was : Contents) (t size : ℕ) (more : Contents → Type 0) : Type 0 where
@@ -162,6 +185,6 @@ pub record Done (m : Areas) (was now : Contents) (t : ℕ) (asked : Call) (said 
   pub ended : EndsSo m was now t asked said
   pub counts : TellsPages was asked said.reply
   pub packed : (s : SpaceState) (h : Stands m now s) → PacksControl m now s h asked
-  pub records : (s : SpaceState) (h : Stands m was s) → Recorded m was s h → StepRecords m s h.places.at was now t asked said.reply said.collected
+  pub records : (s : SpaceState) (h : Stands m was s) → Recorded m was s h → StepRecords m was now s h t asked said.reply said.collected
   pub room : StepRoom m was now t asked said.reply said.collected
   pub idle : IsIdle asked said.reply → now ≡ was

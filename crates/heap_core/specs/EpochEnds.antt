@@ -76,11 +76,11 @@ IsEnd m was now t said =
 
 -- ---- how much an end reads
 
--- The most reads of an end that makes no collection: the words of the region, the recorded slots and the slots of the thread's
--- stack count, and no other object does.
+-- The most reads of an end that makes no collection: the words of the region, the slots of its chain and of the store buffers,
+-- and the slots of the thread's stack count. No other object does, and no slot that is recorded for another region.
 abbrev pub end_reads : (m : Areas) (c : Contents) (s : SpaceState) → Stands m c s → ℕ → ℕ
 end_reads m c s stands t =
-    100 * (words_of stands.places.pages (object_of s) (innermost s.graph t) + records_of c + length (stack_of c t) + 72) + 4 * m.pages
+    100 * (words_of stands.places.pages (object_of s) (innermost s.graph t) + records_of m c (innermost s.graph t) + length (stack_of c t) + 72) + 4 * m.pages
 
 -- A call that ends an open epoch without a collection reads no more.
 abbrev pub ReadsFew : (m : Areas) (c : Contents) (s : SpaceState) → Stands m c s → ℕ → Call → Stepped → ℕ → ℕ → Type 0

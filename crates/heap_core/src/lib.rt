@@ -19,21 +19,30 @@ pub use owned::{Core, Stepped};
 #[cfg(test)]
 mod tests {
     use super::*;
-    use heap_words::{Image, buffer_length};
-    use object_layout::{Call, Census, Refusal, Reply, Shortage};
-    use remember_sets::entries;
+    use epoch_lattice::Space;
+    use heap_words::Image;
+    use object_layout::{Addr, Call, Census, Refusal, Reply, Shortage};
+    use remember_sets::{file_logs, first_slot, next_slot};
     use std::test::Fail;
 
-    // How many slots are recorded, where thread 1 makes all the calls.
-    fn recorded_slots(core: Core<Image>) -> usize {
+    // The first two slots of the chain of thread 1's region of depth 1, once the store buffers are filed.
+    fn recorded_slots(core: Core<Image>) -> (Option<Addr>, Option<Addr>) {
         let mut image = core.into_words();
         let map = image.map();
-        entries(&mut image, map) as usize + buffer_length(&mut image, map, 1)
+        file_logs(&mut image, map);
+        let region = Space::Region {
+            thread: 1,
+            depth: 1,
+        };
+        match first_slot(&mut image, map, region) {
+            Some(first) => (Some(first), next_slot(&mut image, map, first)),
+            None => (None, None),
+        }
     }
 
     #[test]
-    fn a_slot_that_crosses_is_recorded(rt: HostRuntime) -> Result<(), Fail> {
-        for into_control in [false, true] {
+    fn a_slot_that_crosses_is_recorded_once(rt: HostRuntime) -> Result<(), Fail> {
+        for again in [false, true] {
             let mut core = match Core::new(rt.alloc(), 4, 1) {
                 Ok(core) => core,
                 Err(error) => panic!(rt; "no heap: {error}"),
@@ -41,10 +50,11 @@ mod tests {
             assert_eq!(rt; core.step(1, Call::Begin).reply, Reply::Ok);
             assert_eq!(rt; core.step(1, Call::New(0)).reply, Reply::Ok);
             assert_eq!(rt; core.step(1, Call::Store(0, 0, 1)).reply, Reply::Ok);
-            if into_control {
-                assert_eq!(rt; core.step(1, Call::Store(0, 1, 0)).reply, Reply::Ok);
+            assert_eq!(rt; core.step(1, Call::Store(0, 1, 0)).reply, Reply::Ok);
+            if again {
+                assert_eq!(rt; core.step(1, Call::Store(0, 0, 1)).reply, Reply::Ok);
             }
-            assert_eq!(rt; recorded_slots(core), 1);
+            assert_eq!(rt; recorded_slots(core), (Some(Addr(3)), None));
         }
         Ok(())
     }

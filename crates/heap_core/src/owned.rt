@@ -107,7 +107,7 @@ impl<W: Words> Core<W> {
         ensures census { TellsPages (contents self.old.map (W.words self.old.words)) call result.reply }
         ensures packed { call ≡ Call.Collect → (s : SpaceState) (h : Stands self.new.map (contents self.new.map (W.words self.new.words)) s) → IsPacked self.new.map (contents self.new.map (W.words self.new.words)) s h Control }
         ensures regions { RegionsPacked self.new.map (contents self.new.map (W.words self.new.words)) }
-        ensures records { (s : SpaceState) (h : Stands self.old.map (contents self.old.map (W.words self.old.words)) s) → StepRecords self.old.map s h.places.at (contents self.old.map (W.words self.old.words)) (contents self.new.map (W.words self.new.words)) thread call result.reply result.collected }
+        ensures records { (s : SpaceState) (h : Stands self.old.map (contents self.old.map (W.words self.old.words)) s) → StepRecords self.old.map (contents self.old.map (W.words self.old.words)) (contents self.new.map (W.words self.new.words)) s h thread call result.reply result.collected }
         ensures idle { IsIdle call result.reply → contents self.new.map (W.words self.new.words) ≡ contents self.old.map (W.words self.old.words) }
         ensures room { StepRoom self.old.map (contents self.old.map (W.words self.old.words)) (contents self.new.map (W.words self.new.words)) thread call result.reply result.collected }
         ensures reads { (s : SpaceState) (h : Stands self.old.map (contents self.old.map (W.words self.old.words)) s) → ReadsFew self.old.map (contents self.old.map (W.words self.old.words)) s h thread call result (W.reads self.old.words) (W.reads self.new.words) }
@@ -164,5 +164,40 @@ impl<W: Words> Core<W> {
         ensures base { W.base self.new.words ≡ W.base self.old.words }
     {
         words_in_use(&mut self.words, self.map)
+    }
+}
+
+#[cfg(test)]
+mod tests {
+    use super::*;
+    use std::test::Fail;
+
+    // The slots that are recorded are 200 fields of an object of Control that refer into the region of thread 2.
+    #[test]
+    fn an_end_reads_no_slot_of_another_region(rt: HostRuntime) -> Result<(), Fail> {
+        let mut core = match Core::new(rt.alloc(), 64, 2) {
+            Ok(core) => core,
+            Err(error) => panic!(rt; "no heap: {error}"),
+        };
+        assert_eq!(rt; core.step(2, Call::Begin).reply, Reply::Ok);
+        assert_eq!(rt; core.step(2, Call::New(0)).reply, Reply::Ok);
+        assert_eq!(rt; core.step(2, Call::Store(0, 0, 1)).reply, Reply::Ok);
+        assert_eq!(rt; core.step(1, Call::Load(0, 0)).reply, Reply::Ok);
+        assert_eq!(rt; core.step(1, Call::New(200)).reply, Reply::Ok);
+        for field in 0..200 {
+            assert_eq!(rt; core.step(1, Call::Store(2, field, 1)).reply, Reply::Ok);
+        }
+        assert_eq!(rt; core.step(1, Call::Begin).reply, Reply::Ok);
+        assert_eq!(rt; core.step(1, Call::New(0)).reply, Reply::Ok);
+        let before = core.words.reads();
+        assert_eq!(rt;
+            core.step(1, Call::End).reply,
+            Reply::Ended {
+                moved: 1,
+                tight: false
+            }
+        );
+        assert!(rt; core.words.reads() <= before.saturating_add(8956));
+        Ok(())
     }
 }

@@ -2,7 +2,7 @@ use Rattle.std.proofs.Common.{◌≡◌, ℕ, ◌+◌, ◌-◌, ◌≤◌, ◌<�
 use Rattle.std.proofs.lemmas.List.{set-set, take_more_set, take-take, drop-set-add}
 use Rattle.heap_words.specs.declared.map.Areas.{Areas}
 use Rattle.heap_words.specs.declared.TheConstants.{DEPTH_WORD, MADE_WORD, STACK_LENGTH, BUFFER_LENGTH, CURRENT_PAGES, STACK_SLOTS, BUFFER_ENTRIES}
-use Rattle.heap_words.specs.Map.{max_depth, block_words, stack_start, buffer_start, block_rest, rest_words, HasThread, block_at}
+use Rattle.heap_words.specs.Map.{max_depth, block_words, stack_start, buffer_start, chains_start, block_rest, rest_words, HasThread, block_at, total_of}
 use Rattle.heap_words.specs.Cells.{part, Block, block_of, raw_block, block, with_block, cells, SoundBlocks}
 use Rattle.heap_words.proofs.Rows.{part-set_before, part-set_past, part-set_at, part-get}
 use Rattle.heap_words.proofs.Cells.{cells-block, cells-set_block, raw_block-set, raw_block-get, length-raw_block}
@@ -44,7 +44,9 @@ block-grow_stack m b n w h e lt fits =
       part-set_before c (buffer_start m) (get_or b BUFFER_LENGTH 0) STACK_LENGTH (n + 1) (omega arith),
       part-set_before b (buffer_start m) (get_or b BUFFER_LENGTH 0) ((stack_start m) + n) w (omega arith),
       part-set_before c (block_rest m) (rest_words m) STACK_LENGTH (n + 1) (omega arith),
+      part-set_before c (chains_start m) (max_depth m) STACK_LENGTH (n + 1) (omega arith),
       part-set_before b (block_rest m) (rest_words m) ((stack_start m) + n) w (omega arith),
+      part-set_before b (chains_start m) (max_depth m) ((stack_start m) + n) w (omega arith),
       part-set_before c CURRENT_PAGES (max_depth m + 1) STACK_LENGTH (n + 1) (omega arith),
       part-set_past b CURRENT_PAGES (max_depth m + 1) ((stack_start m) + n) w (omega arith),
     )
@@ -63,6 +65,7 @@ block-shrink_stack m b n h le =
       take-take n (get_or b STACK_LENGTH 0) (drop (stack_start m) b) le,
       part-set_before b (buffer_start m) (get_or b BUFFER_LENGTH 0) STACK_LENGTH n (omega arith),
       part-set_before b (block_rest m) (rest_words m) STACK_LENGTH n (omega arith),
+      part-set_before b (chains_start m) (max_depth m) STACK_LENGTH n (omega arith),
       part-set_before b CURRENT_PAGES (max_depth m + 1) STACK_LENGTH n (omega arith),
     )
 
@@ -94,7 +97,9 @@ block-grow_buffer m b n w h e lt fits =
       part-set_before c (stack_start m) (get_or b STACK_LENGTH 0) BUFFER_LENGTH (n + 1) (omega arith),
       part-set_past b (stack_start m) (get_or b STACK_LENGTH 0) ((buffer_start m) + n) w (omega arith),
       part-set_before c (block_rest m) (rest_words m) BUFFER_LENGTH (n + 1) (omega arith),
+      part-set_before c (chains_start m) (max_depth m) BUFFER_LENGTH (n + 1) (omega arith),
       part-set_before b (block_rest m) (rest_words m) ((buffer_start m) + n) w (omega arith),
+      part-set_before b (chains_start m) (max_depth m) ((buffer_start m) + n) w (omega arith),
       part-set_before c CURRENT_PAGES (max_depth m + 1) BUFFER_LENGTH (n + 1) (omega arith),
       part-set_past b CURRENT_PAGES (max_depth m + 1) ((buffer_start m) + n) w (omega arith),
     )
@@ -113,6 +118,7 @@ block-shrink_buffer m b n h le =
       take-take n (get_or b BUFFER_LENGTH 0) (drop (buffer_start m) b) le,
       part-set_before b (stack_start m) (get_or b STACK_LENGTH 0) BUFFER_LENGTH n (omega arith),
       part-set_before b (block_rest m) (rest_words m) BUFFER_LENGTH n (omega arith),
+      part-set_before b (chains_start m) (max_depth m) BUFFER_LENGTH n (omega arith),
       part-set_before b CURRENT_PAGES (max_depth m + 1) BUFFER_LENGTH n (omega arith),
     )
 
@@ -128,6 +134,7 @@ block-set_stack m b k w h fits lt =
       part-set_at b (stack_start m) (get_or b STACK_LENGTH 0) ((stack_start m) + k) k w refl lt,
       part-set_before b (buffer_start m) (get_or b BUFFER_LENGTH 0) ((stack_start m) + k) w (omega arith),
       part-set_before b (block_rest m) (rest_words m) ((stack_start m) + k) w (omega arith),
+      part-set_before b (chains_start m) (max_depth m) ((stack_start m) + k) w (omega arith),
       part-set_past b CURRENT_PAGES (max_depth m + 1) ((stack_start m) + k) w (omega arith),
     )
 
@@ -144,6 +151,7 @@ block-set_depth m b d h =
       part-set_before b (stack_start m) (get_or b STACK_LENGTH 0) DEPTH_WORD d (omega arith),
       part-set_before b (buffer_start m) (get_or b BUFFER_LENGTH 0) DEPTH_WORD d (omega arith),
       part-set_before b (block_rest m) (rest_words m) DEPTH_WORD d (omega arith),
+      part-set_before b (chains_start m) (max_depth m) DEPTH_WORD d (omega arith),
       part-set_before b CURRENT_PAGES (max_depth m + 1) DEPTH_WORD d (omega arith),
     )
 
@@ -160,6 +168,7 @@ block-set_made m b d h =
       part-set_before b (stack_start m) (get_or b STACK_LENGTH 0) MADE_WORD d (omega arith),
       part-set_before b (buffer_start m) (get_or b BUFFER_LENGTH 0) MADE_WORD d (omega arith),
       part-set_before b (block_rest m) (rest_words m) MADE_WORD d (omega arith),
+      part-set_before b (chains_start m) (max_depth m) MADE_WORD d (omega arith),
       part-set_before b CURRENT_PAGES (max_depth m + 1) MADE_WORD d (omega arith),
     )
 
@@ -175,7 +184,24 @@ block-set_current m b k p h lt =
       part-set_before b (stack_start m) (get_or b STACK_LENGTH 0) (CURRENT_PAGES + k) p (omega arith),
       part-set_before b (buffer_start m) (get_or b BUFFER_LENGTH 0) (CURRENT_PAGES + k) p (omega arith),
       part-set_before b (block_rest m) (rest_words m) (CURRENT_PAGES + k) p (omega arith),
+      part-set_before b (chains_start m) (max_depth m) (CURRENT_PAGES + k) p (omega arith),
       part-set_at b CURRENT_PAGES (max_depth m + 1) (CURRENT_PAGES + k) k p refl lt,
+    )
+
+-- the first slot of a chain changed
+pub block-set_first : (m : Areas) (b : List ℕ) (k p : ℕ) → length b ≡ block_words m → get_or b STACK_LENGTH 0 ≤ STACK_SLOTS → get_or b BUFFER_LENGTH 0 ≤ BUFFER_ENTRIES → k < max_depth m → block_of m (set b (chains_start m + k) p) ≡ (let o = block_of m b in record o { firsts = set o.firsts k p })
+unfolding block_of
+block-set_first m b k p h fits other lt =
+    rw (
+      get-set_other b (chains_start m + k) DEPTH_WORD p (omega arith),
+      get-set_other b (chains_start m + k) MADE_WORD p (omega arith),
+      get-set_other b (chains_start m + k) STACK_LENGTH p (omega arith),
+      get-set_other b (chains_start m + k) BUFFER_LENGTH p (omega arith),
+      part-set_past b (stack_start m) (get_or b STACK_LENGTH 0) (chains_start m + k) p (omega arith),
+      part-set_past b (buffer_start m) (get_or b BUFFER_LENGTH 0) (chains_start m + k) p (omega arith),
+      part-set_before b (block_rest m) (rest_words m) (chains_start m + k) p (omega arith),
+      part-set_past b CURRENT_PAGES (max_depth m + 1) (chains_start m + k) p (omega arith),
+      part-set_at b (chains_start m) (max_depth m) (chains_start m + k) k p refl lt,
     )
 
 -- the same of the words of a heap
@@ -349,6 +375,33 @@ pub current-word : (m : Areas) (ws : List ℕ) (t k : ℕ) → HasThread m t →
 current-word m ws t k ht lt =
     let b : List ℕ = raw_block m ws t in
     raw_block-get m ws t (CURRENT_PAGES + k) (omega arith) ∙ sym (part-get b CURRENT_PAGES (max_depth m + 1) k 0 lt) ∙ ap (λ (xs : List ℕ). get_or xs k 0) (sym (current_is m b)) ∙ ap (λ (x : Block). get_or x.current k 0) (sym (cells-block m ws t ht))
+
+-- the first slot of a chain changed, and read
+pub cells-set_first : (m : Areas) (ws : List ℕ) (t k p : ℕ) → HasThread m t → SoundBlocks m ws → k < max_depth m → cells m (set ws (block_at m t + (chains_start m + k)) p) ≡ (let o = block (cells m ws) t in with_block (cells m ws) t (record o { firsts = set o.firsts k p }))
+cells-set_first m ws t k p ht sound lt =
+    let b : List ℕ = raw_block m ws t in
+    let at : block (cells m ws) t ≡ block_of m b = cells-block m ws t ht in
+    let long : length b ≡ block_words m = length-raw_block m ws t ht sound.whole in
+    let fits : length (block_of m b).stack ≤ STACK_SLOTS = subst (λ (x : Block). length x.stack ≤ STACK_SLOTS) at (sound.limits t ht).1 in
+    let other_fits : length (block_of m b).buffer ≤ BUFFER_ENTRIES = subst (λ (x : Block). length x.buffer ≤ BUFFER_ENTRIES) at (sound.limits t ht).2 in
+    let stack_fits : get_or b STACK_LENGTH 0 ≤ STACK_SLOTS = rw (stack_word m b long fits) fits in
+    let buffer_fits : get_or b BUFFER_LENGTH 0 ≤ BUFFER_ENTRIES = rw (buffer_word m b long other_fits) other_fits in
+    rw (cells-set_block m ws t (chains_start m + k) p ht (omega arith), block-set_first m b k p long stack_fits buffer_fits lt, at)
+
+pub firsts_is : (m : Areas) (b : List ℕ) → (block_of m b).firsts ≡ part (chains_start m) (max_depth m) b
+unfolding block_of
+firsts_is m b = refl
+
+pub length-block_firsts : (m : Areas) (ws : List ℕ) (t : ℕ) → HasThread m t → length ws ≡ total_of m → length (block (cells m ws) t).firsts ≡ max_depth m
+length-block_firsts m ws t ht whole =
+    let b : List ℕ = raw_block m ws t in
+    let long : length b ≡ block_words m = length-raw_block m ws t ht whole in
+    rw (cells-block m ws t ht, firsts_is m b) (omega (arith, length-take (max_depth m) (drop (chains_start m) b), length-drop (chains_start m) b, long))
+
+pub first-word : (m : Areas) (ws : List ℕ) (t k : ℕ) → HasThread m t → k < max_depth m → get_or ws (block_at m t + (chains_start m + k)) 0 ≡ get_or (block (cells m ws) t).firsts k 0
+first-word m ws t k ht lt =
+    let b : List ℕ = raw_block m ws t in
+    raw_block-get m ws t (chains_start m + k) (omega arith) ∙ sym (part-get b (chains_start m) (max_depth m) k 0 lt) ∙ ap (λ (xs : List ℕ). get_or xs k 0) (sym (firsts_is m b)) ∙ ap (λ (x : Block). get_or x.firsts k 0) (sym (cells-block m ws t ht))
 
 rest_is : (m : Areas) (b : List ℕ) → (block_of m b).rest ≡ part (block_rest m) (rest_words m) b
 unfolding block_of

@@ -1,15 +1,16 @@
-use Rattle.std.proofs.Common.{◌≡◌, ℕ, ◌+◌, ◌-◌, ◌*◌, ◌≤◌, ◌<◌, List, [], ◌∷◌, ◌++◌, take, length, get_or, set, map, refl, sym, ap, subst, ◌∙◌, arith, length-take, length-drop, length-append, length-set}
+use Rattle.std.proofs.Common.{◌≡◌, ℕ, ◌+◌, ◌-◌, ◌*◌, ◌≤◌, ◌<◌, List, [], ◌∷◌, ◌++◌, take, drop, length, get_or, set, refl, sym, ap, subst, ◌∙◌, arith, length-take, length-drop, length-append, length-set}
 use Rattle.std.proofs.Math.Seq.{map-set_same}
 use Rattle.std.proofs.Props.{props}
 use Rattle.std.proofs.lemmas.List.{map-set, get_or-map, length-map}
 use Rattle.std.proofs.lemmas.List.Elements.{All-set, All-get_or}
 use Rattle.heap_words.specs.declared.map.Areas.{Areas}
 use Rattle.heap_words.specs.declared.TheConstants.{STACK_LENGTH, BUFFER_LENGTH, DEPTH_WORD, MADE_WORD, CURRENT_PAGES, HEAD_WORDS, STACK_SLOTS, BUFFER_ENTRIES}
-use Rattle.heap_words.specs.Map.{max_depth, stack_start, buffer_start, block_rest, rest_words, HasThread, HasPage, HasRegion, readers_at, sets_at, block_at, page_at, pool_at, scratch_at, heap_at, heap_length, scratch_length, total_of}
+use Rattle.heap_words.specs.Map.{max_depth, stack_start, buffer_start, chains_start, block_rest, rest_words, HasThread, HasPage, HasRegion, readers_at, sets_at, block_at, table_at, page_at, pool_at, scratch_at, heap_at, heap_length, scratch_length, total_of}
 use Rattle.heap_words.specs.Cells.{Block, Cells, cells, no_block, block, with_block, row, SoundBlocks}
-use Rattle.heap_words.specs.Contents.{spread, contents, stack_of, buffer_of, depth_of, made_of, currents_of, readers_of, with_stack, with_buffer, with_depth, with_made, with_current, with_head, with_page, with_pool, with_readers, with_set, with_heap, with_scratch, InLimits, Sound}
+use Rattle.heap_words.specs.Contents.{spread, contents, stack_of, buffer_of, depth_of, made_of, currents_of, first_of, readers_of, with_stack, with_buffer, with_depth, with_made, with_current, with_first, with_head, with_page, with_pool, with_readers, with_set, with_heap, with_scratch, InLimits, Sound}
+use Rattle.heap_words.proofs.Rows.{length-rows}
 use Rattle.heap_words.proofs.Cells.{length-blocks, cells-set_head, cells-get_head, cells-set_page, cells-get_page, cells-set_pool, cells-get_pool, cells-set_readers, cells-get_readers, cells-set_sets, cells-get_sets, cells-set_scratch, cells-get_scratch, cells-set_heap, cells-get_heap}
-use Rattle.heap_words.proofs.Blocks.{cells-grow_stack, cells-shrink_stack, cells-set_stack, cells-grow_buffer, cells-shrink_buffer, cells-set_depth, cells-set_made, cells-set_current, stack_length-word, stack-word, buffer_length-word, buffer-word, depth-word, made-word, current-word, rest-word}
+use Rattle.heap_words.proofs.Blocks.{cells-grow_stack, cells-shrink_stack, cells-set_stack, cells-grow_buffer, cells-shrink_buffer, cells-set_depth, cells-set_made, cells-set_current, cells-set_first, first-word, length-block_firsts, stack_length-word, stack-word, buffer_length-word, buffer-word, depth-word, made-word, current-word, rest-word}
 
 in_blocks : (m : Areas) (ws : List ℕ) (t : ℕ) → HasThread m t → t - 1 < length (cells m ws).blocks
 in_blocks m ws t ht = rw (length-blocks m ws) (omega arith)
@@ -36,6 +37,10 @@ pub current-of_block : (m : Areas) (ws : List ℕ) (t : ℕ) → HasThread m t �
 unfolding contents
 current-of_block m ws t ht = get_or-map (λ (b : Block). b.current) (cells m ws).blocks (t - 1) no_block [] (in_blocks m ws t ht)
 
+pub firsts-of_block : (m : Areas) (ws : List ℕ) (t : ℕ) → HasThread m t → row (contents m ws).firsts (t - 1) ≡ (block (cells m ws) t).firsts
+unfolding contents
+firsts-of_block m ws t ht = get_or-map (λ (b : Block). b.firsts) (cells m ws).blocks (t - 1) no_block [] (in_blocks m ws t ht)
+
 pub rest-of_block : (m : Areas) (ws : List ℕ) (t : ℕ) → HasThread m t → row (contents m ws).rests (t - 1) ≡ (block (cells m ws) t).rest
 unfolding contents
 rest-of_block m ws t ht = get_or-map (λ (b : Block). b.rest) (cells m ws).blocks (t - 1) no_block [] (in_blocks m ws t ht)
@@ -51,6 +56,7 @@ spread-depth c t y =
       map-set_same (λ (b : Block). b.buffer) c.blocks (t - 1) x no_block refl,
       map-set_same (λ (b : Block). b.current) c.blocks (t - 1) x no_block refl,
       map-set_same (λ (b : Block). b.rest) c.blocks (t - 1) x no_block refl,
+      map-set_same (λ (b : Block). b.firsts) c.blocks (t - 1) x no_block refl,
       map-set (λ (b : Block). b.depth) c.blocks (t - 1) x,
     )
 
@@ -67,6 +73,7 @@ spread-made c t y =
       map-set_same (λ (b : Block). b.buffer) c.blocks (t - 1) x no_block refl,
       map-set_same (λ (b : Block). b.current) c.blocks (t - 1) x no_block refl,
       map-set_same (λ (b : Block). b.rest) c.blocks (t - 1) x no_block refl,
+      map-set_same (λ (b : Block). b.firsts) c.blocks (t - 1) x no_block refl,
       map-set (λ (b : Block). b.made) c.blocks (t - 1) x,
     )
 
@@ -83,6 +90,7 @@ spread-stack c t y =
       map-set_same (λ (b : Block). b.buffer) c.blocks (t - 1) x no_block refl,
       map-set_same (λ (b : Block). b.current) c.blocks (t - 1) x no_block refl,
       map-set_same (λ (b : Block). b.rest) c.blocks (t - 1) x no_block refl,
+      map-set_same (λ (b : Block). b.firsts) c.blocks (t - 1) x no_block refl,
       map-set (λ (b : Block). b.stack) c.blocks (t - 1) x,
     )
 
@@ -99,6 +107,7 @@ spread-buffer c t y =
       map-set_same (λ (b : Block). b.stack) c.blocks (t - 1) x no_block refl,
       map-set_same (λ (b : Block). b.current) c.blocks (t - 1) x no_block refl,
       map-set_same (λ (b : Block). b.rest) c.blocks (t - 1) x no_block refl,
+      map-set_same (λ (b : Block). b.firsts) c.blocks (t - 1) x no_block refl,
       map-set (λ (b : Block). b.buffer) c.blocks (t - 1) x,
     )
 
@@ -115,8 +124,23 @@ spread-current c t k p lt =
       map-set_same (λ (b : Block). b.stack) c.blocks (t - 1) x no_block refl,
       map-set_same (λ (b : Block). b.buffer) c.blocks (t - 1) x no_block refl,
       map-set_same (λ (b : Block). b.rest) c.blocks (t - 1) x no_block refl,
+      map-set_same (λ (b : Block). b.firsts) c.blocks (t - 1) x no_block refl,
       map-set (λ (b : Block). b.current) c.blocks (t - 1) x,
       get_or-map (λ (b : Block). b.current) c.blocks (t - 1) no_block [] lt,
+    )
+
+spread-first : (c : Cells) (t k p : ℕ) → t - 1 < length c.blocks → spread (with_block c t (let b = block c t in record b { firsts = set b.firsts (k - 1) p })) ≡ with_first (spread c) t k p
+spread-first c t k p lt =
+    let x : Block = (let b = block c t in record b { firsts = set b.firsts (k - 1) p }) in
+    rw (
+      map-set_same (λ (b : Block). b.depth) c.blocks (t - 1) x no_block refl,
+      map-set_same (λ (b : Block). b.made) c.blocks (t - 1) x no_block refl,
+      map-set_same (λ (b : Block). b.stack) c.blocks (t - 1) x no_block refl,
+      map-set_same (λ (b : Block). b.buffer) c.blocks (t - 1) x no_block refl,
+      map-set_same (λ (b : Block). b.current) c.blocks (t - 1) x no_block refl,
+      map-set_same (λ (b : Block). b.rest) c.blocks (t - 1) x no_block refl,
+      map-set (λ (b : Block). b.firsts) c.blocks (t - 1) x,
+      get_or-map (λ (b : Block). b.firsts) c.blocks (t - 1) no_block [] lt,
     )
 
 sound_blocks : (m : Areas) (ws : List ℕ) → Sound m ws → SoundBlocks m ws
@@ -154,6 +178,11 @@ made_of-word m ws t ht = made-word m ws t ht ∙ sym (made-of_block m ws t ht)
 
 pub currents_of-word : (m : Areas) (ws : List ℕ) (t k : ℕ) → HasThread m t → k < max_depth m + 1 → get_or ws (block_at m t + (CURRENT_PAGES + k)) 0 ≡ get_or (currents_of (contents m ws) t) k 0
 currents_of-word m ws t k ht h = current-word m ws t k ht h ∙ ap (λ (xs : List ℕ). get_or xs k 0) (sym (current-of_block m ws t ht))
+
+pub first_of-word : (m : Areas) (ws : List ℕ) (t d : ℕ) → HasRegion m t d → get_or ws (block_at m t + (chains_start m + (d - 1))) 0 ≡ first_of (contents m ws) t d
+first_of-word m ws t d hr =
+    let ht : HasThread m t = (hr.0, hr.1) in
+    first-word m ws t (d - 1) ht (omega arith) ∙ ap (λ (xs : List ℕ). get_or xs (d - 1) 0) (sym (firsts-of_block m ws t ht))
 
 pub rests-word : (m : Areas) (ws : List ℕ) (t k : ℕ) → HasThread m t → k < rest_words m → get_or ws (block_at m t + (block_rest m + k)) 0 ≡ get_or (row (contents m ws).rests (t - 1)) k 0
 rests-word m ws t k ht h = rest-word m ws t k ht h ∙ ap (λ (xs : List ℕ). get_or xs k 0) (sym (rest-of_block m ws t ht))
@@ -291,6 +320,12 @@ pub contents-set_current : (m : Areas) (ws : List ℕ) (t k p : ℕ) → HasThre
 unfolding contents
 contents-set_current m ws t k p ht s h = ap spread (cells-set_current m ws t k p ht (sound_blocks m ws s) h) ∙ spread-current (cells m ws) t k p (in_blocks m ws t ht)
 
+pub contents-set_first : (m : Areas) (ws : List ℕ) (t d p : ℕ) → HasRegion m t d → Sound m ws → contents m (set ws (block_at m t + (chains_start m + (d - 1))) p) ≡ with_first (contents m ws) t d p
+unfolding contents
+contents-set_first m ws t d p hr s =
+    let ht : HasThread m t = (hr.0, hr.1) in
+    ap spread (cells-set_first m ws t (d - 1) p ht (sound_blocks m ws s) (omega arith)) ∙ spread-first (cells m ws) t d p (in_blocks m ws t ht)
+
 -- a change of other areas keeps the words sound
 pub sound-elsewhere : (m : Areas) (ws vs : List ℕ) → Sound m ws → length vs ≡ total_of m → (contents m vs).depths ≡ (contents m ws).depths → (contents m vs).stacks ≡ (contents m ws).stacks → (contents m vs).buffers ≡ (contents m ws).buffers → Sound m vs
 sound-elsewhere m ws vs s whole d st b = record {
@@ -397,12 +432,23 @@ pub length-currents : (m : Areas) (ws : List ℕ) → length (contents m ws).cur
 unfolding contents
 length-currents m ws = simp length-map (length-blocks m ws)
 
+pub length-firsts : (m : Areas) (ws : List ℕ) → length (contents m ws).firsts ≡ m.threads
+unfolding contents
+length-firsts m ws = simp length-map (length-blocks m ws)
+
+pub length-firsts_row : (m : Areas) (ws : List ℕ) (t : ℕ) → HasThread m t → length ws ≡ total_of m → length (row (contents m ws).firsts (t - 1)) ≡ max_depth m
+length-firsts_row m ws t ht whole = ap (λ (xs : List ℕ). length xs) (firsts-of_block m ws t ht) ∙ length-block_firsts m ws t ht whole
+
+pub length-table : (m : Areas) (ws : List ℕ) → length (contents m ws).table ≡ m.pages
+unfolding contents cells
+length-table m ws = length-rows m.pages 2 (drop (table_at m) ws)
+
 -- what a write leaves and what a read meets, for searches
-pub ruleset writes = (contents-set_head, contents-set_page, contents-set_pool, contents-set_readers, contents-set_set, contents-set_heap, contents-set_scratch, contents-set_current, contents-set_made, length-set)
+pub ruleset writes = (contents-set_head, contents-set_page, contents-set_pool, contents-set_readers, contents-set_set, contents-set_heap, contents-set_scratch, contents-set_current, contents-set_first, contents-set_made, length-set)
 
 pub ruleset reads = (contents-get_heap, contents-get_scratch, contents-get_page, contents-get_pool, contents-get_head, contents-get_set, contents-get_readers)
 
 -- the same of the words of a block
 pub ruleset block_writes = (contents-set_depth, contents-set_stack, contents-grow_stack, contents-shrink_stack, contents-grow_buffer, contents-clear_buffer, sound-set_depth, sound-set_stack, sound-grow_stack, sound-shrink_stack, sound-grow_buffer, sound-clear_buffer)
 
-pub ruleset block_reads = (depth_of-word, made_of-word, stack_of-length_word, buffer_of-length_word, stack_of-word, buffer_of-word, currents_of-word, rests-word, depth_of-fits, stack_of-fits, buffer_of-fits)
+pub ruleset block_reads = (depth_of-word, made_of-word, stack_of-length_word, buffer_of-length_word, stack_of-word, buffer_of-word, currents_of-word, first_of-word, rests-word, depth_of-fits, stack_of-fits, buffer_of-fits)

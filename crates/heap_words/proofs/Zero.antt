@@ -37,6 +37,7 @@ contents-zero m =
       map-replicate (λ (b : Block). b.stack) m.threads (block_of m (replicate (block_words m) 0)),
       map-replicate (λ (b : Block). b.buffer) m.threads (block_of m (replicate (block_words m) 0)),
       map-replicate (λ (b : Block). b.current) m.threads (block_of m (replicate (block_words m) 0)),
+      map-replicate (λ (b : Block). b.firsts) m.threads (block_of m (replicate (block_words m) 0)),
       map-replicate (λ (b : Block). b.rest) m.threads (block_of m (replicate (block_words m) 0)),
       drop-replicate {X = ℕ} (table_at m) N 0,
       rows-replicate m.pages 2 (N - table_at m) 0 (omega arith),

@@ -1,7 +1,7 @@
 use Rattle.std.specs.Prelude.{◌≡◌, ℕ, ◌+◌, ◌-◌, ◌*◌, ◌≤◌, List, [], ◌∷◌, take, drop, length, slice_index_or, slice_index, slice_set, zero, suc, map}
 use Rattle.heap_words.specs.declared.map.Areas.{Areas}
 use Rattle.heap_words.specs.declared.TheConstants.{HEAD_WORDS, DEPTH_WORD, MADE_WORD, STACK_LENGTH, BUFFER_LENGTH, CURRENT_PAGES, STACK_SLOTS, BUFFER_ENTRIES}
-use Rattle.heap_words.specs.Map.{IsAreas, HasThread, block_words, stack_start, buffer_start, block_rest, rest_words, max_depth, scratch_length, total_of, blocks_at, block_at, table_at, pool_at, all_readers_at, sets_at, scratch_at, heap_at, heap_length}
+use Rattle.heap_words.specs.Map.{IsAreas, HasThread, block_words, stack_start, buffer_start, chains_start, block_rest, rest_words, max_depth, scratch_length, total_of, blocks_at, block_at, table_at, pool_at, all_readers_at, sets_at, scratch_at, heap_at, heap_length}
 
 -- the part of a list that begins at a place
 abbrev pub part : ℕ → ℕ → List ℕ → List ℕ
@@ -30,6 +30,8 @@ pub record Block : Type 0 where
   pub buffer : List ℕ
   -- the current pages, each plus 1 or 0: of Control, then of the region of each depth
   pub current : List ℕ
+  -- the first slots of the chains of the thread's regions by depth, each plus 1, or 0
+  pub firsts : List ℕ
   pub rest : List ℕ
 
 -- what the words of a block hold
@@ -41,6 +43,7 @@ block_of m ws =
       stack = part (stack_start m) (slice_index ws STACK_LENGTH) ws;
       buffer = part (buffer_start m) (slice_index ws BUFFER_LENGTH) ws;
       current = part CURRENT_PAGES (max_depth m + 1) ws;
+      firsts = part (chains_start m) (max_depth m) ws;
       rest = part (block_rest m) (rest_words m) ws;
     }
 
@@ -75,7 +78,7 @@ cells m ws =
 
 -- what stands where there is no block
 unfoldable pub no_block : Block
-no_block = record { depth = 0; made = 0; stack = []; buffer = []; current = []; rest = [] }
+no_block = record { depth = 0; made = 0; stack = []; buffer = []; current = []; firsts = []; rest = [] }
 
 -- the block of a thread, and the cells with another
 abbrev pub block : Cells → ℕ → Block

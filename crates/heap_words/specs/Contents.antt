@@ -16,11 +16,14 @@ pub record Contents : Type 0 where
   pub buffers : List (List ℕ)
   -- the current pages, each plus 1 or 0: of Control, then of the region of each depth
   pub currents : List (List ℕ)
+  -- the first slots of the chains of the threads' regions by depth, each plus 1, or 0
+  pub firsts : List (List ℕ)
   pub rests : List (List ℕ)
   -- by page: the space's index plus 1 or 0, and the used mark
   pub table : List (List ℕ)
   pub pool : List ℕ
   pub readers : List (List ℕ)
+  -- two words for each word of the pages, which link it to the next and to the former slot of its chain
   pub sets : List ℕ
   -- the scratch area, which has no meaning between calls
   pub scratch : List ℕ
@@ -36,6 +39,7 @@ spread c =
       stacks = map (λ (b : Block). b.stack) c.blocks;
       buffers = map (λ (b : Block). b.buffer) c.blocks;
       currents = map (λ (b : Block). b.current) c.blocks;
+      firsts = map (λ (b : Block). b.firsts) c.blocks;
       rests = map (λ (b : Block). b.rest) c.blocks;
       table = c.table;
       pool = c.pool;
@@ -65,7 +69,10 @@ buffer_of c t = row c.buffers (t - 1)
 abbrev pub currents_of : Contents → ℕ → List ℕ
 currents_of c t = row c.currents (t - 1)
 
--- a region's readers word
+-- the word of the first slot of a region's chain, and a region's readers word
+abbrev pub first_of : Contents → ℕ → ℕ → ℕ
+first_of c t d = slice_index (row c.firsts (t - 1)) (d - 1)
+
 abbrev pub readers_of : Contents → ℕ → ℕ → ℕ
 readers_of c t d = slice_index (row c.readers (t - 1)) (d - 1)
 
@@ -85,6 +92,9 @@ with_buffer c t es = record c { buffers = slice_set c.buffers (t - 1) es }
 -- the contents with one word of an area changed
 abbrev pub with_current : Contents → ℕ → ℕ → ℕ → Contents
 with_current c t d p = record c { currents = row_set c.currents (t - 1) d p }
+
+abbrev pub with_first : Contents → ℕ → ℕ → ℕ → Contents
+with_first c t d v = record c { firsts = row_set c.firsts (t - 1) (d - 1) v }
 
 abbrev pub with_head : Contents → ℕ → ℕ → Contents
 with_head c i v = record c { heads = slice_set c.heads i v }
@@ -129,6 +139,7 @@ zero_contents m =
       stacks = replicate m.threads [];
       buffers = replicate m.threads [];
       currents = replicate m.threads (replicate (max_depth m + 1) 0);
+      firsts = replicate m.threads (replicate (max_depth m) 0);
       rests = replicate m.threads (replicate (rest_words m) 0);
       table = replicate m.pages (replicate 2 0);
       pool = replicate m.pages 0;

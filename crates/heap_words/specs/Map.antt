@@ -1,6 +1,6 @@
 use Rattle.std.specs.Prelude.{ℕ, ◌+◌, ◌-◌, ◌*◌, ◌≤◌, ◌<◌, ◌≡◌, List, [], ◌∷◌}
 use Rattle.heap_words.specs.declared.map.Areas.{Areas}
-use Rattle.heap_words.specs.declared.TheConstants.{PAGE_WORDS, MAX_DEPTH, MAX_PAGES, MAX_THREADS, HEAD_WORDS, CURRENT_PAGES, STACK_SLOTS, BUFFER_ENTRIES, SCRATCH_MARGIN}
+use Rattle.heap_words.specs.declared.TheConstants.{PAGE_WORDS, MAX_DEPTH, MAX_PAGES, MAX_THREADS, HEAD_WORDS, CURRENT_PAGES, STACK_SLOTS, BUFFER_ENTRIES, REST_WORDS, SCRATCH_MARGIN}
 
 -- a map within the limits
 abbrev pub IsAreas : Areas → Type 0
@@ -24,18 +24,21 @@ abbrev pub HasRegion : Areas → ℕ → ℕ → Type 0
 HasRegion m thread depth = (1 ≤ thread) × (thread ≤ m.threads) × (1 ≤ depth) × (depth ≤ max_depth m)
 
 -- a thread's block: depth, number made and two lengths, the current pages, the stack's slots,
--- the store buffer's entries, and a rest
+-- the store buffer's entries, the heads of the chains of the thread's regions, and a rest
 abbrev pub stack_start : Areas → ℕ
 stack_start m = CURRENT_PAGES + 1 + max_depth m
 
 abbrev pub buffer_start : Areas → ℕ
 buffer_start m = stack_start m + STACK_SLOTS
 
+abbrev pub chains_start : Areas → ℕ
+chains_start m = buffer_start m + BUFFER_ENTRIES
+
 abbrev pub block_rest : Areas → ℕ
-block_rest m = buffer_start m + BUFFER_ENTRIES
+block_rest m = chains_start m + max_depth m
 
 abbrev pub rest_words : Areas → ℕ
-rest_words m = max_depth m + 3
+rest_words m = REST_WORDS
 
 abbrev pub block_words : Areas → ℕ
 block_words m = block_rest m + rest_words m

@@ -7,7 +7,7 @@ ghost use Rattle.heap_words.specs.Contents.{contents, readers_of, with_head, wit
 
 use crate::{Areas, HEAD_WORDS, Words};
 
-/// A word of the heads: the claim counter at 1, the pool's length at 2, the number of set entries at 3.
+/// A word of the heads: the claim counter at 1, the pool's length at 2.
 #[tactic(auto, using(crate::proofs::Contents::reads))]
 pub fn get_head<W: Words>(words: &mut W, map: Areas, i: usize) -> u64
     requires sound { Sound map (W.words words.old) }
@@ -115,7 +115,7 @@ pub fn set_readers<W: Words>(words: &mut W, map: Areas, thread: u8, depth: u8, w
     words.set(map.readers(thread, depth), word);
 }
 
-/// A word of the sets: first the recorded slots, then for each word of the pages its place among them plus 1, or 0.
+/// A word of the sets, which have two for each word of the pages: by way of them the recorded slots are linked into chains.
 #[tactic(auto, using(crate::proofs::Contents::reads))]
 pub fn get_set<W: Words>(words: &mut W, map: Areas, k: usize) -> u64
     requires sound { Sound map (W.words words.old) }

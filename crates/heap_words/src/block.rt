@@ -1,9 +1,9 @@
-//! The words of a thread's block: its depth, number of objects made, stack, store buffer and current pages.
+//! The words of a thread's block: its depth, number of objects made, stack, store buffer, current pages and heads of chains.
 
 ghost use Rattle.std.specs.Prelude.{◌≡◌, ◌≤◌, ◌<◌, ◌+◌, ◌-◌, ◌*◌, ◌^◌, ℕ, List, [], ◌∷◌, ◌++◌, take, length, slice_index, slice_set};
-ghost use Rattle.heap_words.specs.Map.{HasThread, max_depth, rest_words};
+ghost use Rattle.heap_words.specs.Map.{HasThread, HasRegion, max_depth, rest_words};
 ghost use Rattle.heap_words.specs.Cells.{row};
-ghost use Rattle.heap_words.specs.Contents.{contents, depth_of, made_of, stack_of, buffer_of, currents_of, with_depth, with_made, with_stack, with_buffer, with_current, Sound};
+ghost use Rattle.heap_words.specs.Contents.{contents, depth_of, made_of, stack_of, buffer_of, currents_of, first_of, with_depth, with_made, with_stack, with_buffer, with_current, with_first, Sound};
 
 use crate::{
     Areas, BUFFER_ENTRIES, BUFFER_LENGTH, CURRENT_PAGES, DEPTH_WORD, MADE_WORD, STACK_LENGTH,
@@ -222,6 +222,35 @@ pub fn set_current<W: Words>(words: &mut W, map: Areas, thread: u8, depth: u8, w
     ensures base { W.base words.new ≡ W.base words.old }
 {
     words.set(map.block(thread) + (CURRENT_PAGES + depth as usize), word);
+}
+
+/// The word of the first slot of a region's chain: the slot plus 1, or 0 where the chain is empty.
+#[tactic(auto, using(crate::proofs::Contents::block_reads))]
+pub fn get_first<W: Words>(words: &mut W, map: Areas, thread: u8, depth: u8) -> u64
+    requires sound { Sound map (W.words words.old) }
+    requires region { HasRegion map thread depth }
+    ensures value { result ≡ first_of (contents map (W.words words.old)) thread depth }
+    ensures words { W.words words.new ≡ W.words words.old }
+    ensures reads { W.reads words.new ≤ W.reads words.old + 1 }
+    ensures base { W.base words.new ≡ W.base words.old }
+{
+    words.get(map.block(thread) + (map.chains_start() + (depth as usize - 1)))
+}
+
+/// Sets the word of the first slot of a region's chain.
+#[tactic(auto, using(crate::proofs::Contents::writes))]
+pub fn set_first<W: Words>(words: &mut W, map: Areas, thread: u8, depth: u8, word: u64)
+    requires sound { Sound map (W.words words.old) }
+    requires region { HasRegion map thread depth }
+    ensures set { contents map (W.words words.new) ≡ with_first (contents map (W.words words.old)) thread depth word }
+    ensures sound { Sound map (W.words words.new) }
+    ensures reads { W.reads words.new ≡ W.reads words.old }
+    ensures base { W.base words.new ≡ W.base words.old }
+{
+    words.set(
+        map.block(thread) + (map.chains_start() + (depth as usize - 1)),
+        word,
+    );
 }
 
 /// An unused word of a thread's block.

@@ -13,9 +13,9 @@ pub use areas::{
     set_page, set_pool, set_readers, set_scratch, set_set,
 };
 pub use block::{
-    buffer_length, clear_buffer, get_buffer, get_current, get_depth, get_made, get_rest, get_stack,
-    grow_buffer, grow_stack, set_current, set_depth, set_made, set_stack, shrink_stack,
-    stack_length,
+    buffer_length, clear_buffer, get_buffer, get_current, get_depth, get_first, get_made, get_rest,
+    get_stack, grow_buffer, grow_stack, set_current, set_depth, set_first, set_made, set_stack,
+    shrink_stack, stack_length,
 };
 pub use map::{Areas, areas_fill};
 pub use memory::{Image, MakeError};
@@ -34,6 +34,8 @@ pub const HEAD_WORDS: usize = 8;
 pub const STACK_SLOTS: usize = 64;
 /// The entries of a store buffer.
 pub const BUFFER_ENTRIES: usize = 64;
+/// The words of a block that have no use.
+pub const REST_WORDS: usize = 3;
 /// The words of the scratch area besides one for each word of the pages.
 pub const SCRATCH_MARGIN: usize = 192;
 /// Where the depth stands in a block.

@@ -1,10 +1,11 @@
 //! The map of the words: where each area of a heap's words stands.
 
 ghost use Rattle.std.specs.Prelude.{◌≡◌, ◌≤◌, ◌<◌, ◌+◌, ◌-◌, ◌*◌, ℕ, [], ◌∷◌};
-ghost use Rattle.heap_words.specs.Map.{IsAreas, HasThread, HasPage, HasRegion, page_words, max_depth, block_words, heap_length, scratch_length, blocks_at, block_at, table_at, page_at, pool_at, all_readers_at, readers_at, sets_at, scratch_at, heap_at, total_of, Tile, stack_start, buffer_start, block_rest};
+ghost use Rattle.heap_words.specs.Map.{IsAreas, HasThread, HasPage, HasRegion, page_words, max_depth, block_words, heap_length, scratch_length, blocks_at, block_at, table_at, page_at, pool_at, all_readers_at, readers_at, sets_at, scratch_at, heap_at, total_of, Tile, stack_start, buffer_start, chains_start, block_rest};
 
 use crate::{
-    BUFFER_ENTRIES, CURRENT_PAGES, HEAD_WORDS, MAX_DEPTH, PAGE_WORDS, SCRATCH_MARGIN, STACK_SLOTS,
+    BUFFER_ENTRIES, CURRENT_PAGES, HEAD_WORDS, MAX_DEPTH, PAGE_WORDS, REST_WORDS, SCRATCH_MARGIN,
+    STACK_SLOTS,
 };
 
 /// The map of the words of a heap of these pages and threads.
@@ -51,18 +52,25 @@ impl Areas {
         self.stack_start() + STACK_SLOTS
     }
 
+    /// Where the heads of the chains of a block begin.
+    pub(crate) fn chains_start(self) -> usize
+        ensures { result ≡ chains_start self }
+    {
+        self.buffer_start() + BUFFER_ENTRIES
+    }
+
     /// Where the unused words of a block begin.
     pub(crate) fn block_rest(self) -> usize
         ensures { result ≡ block_rest self }
     {
-        self.buffer_start() + BUFFER_ENTRIES
+        self.chains_start() + self.max_depth() as usize
     }
 
     /// The words of a thread's block.
     fn block_words(self) -> usize
         ensures { result ≡ block_words self }
     {
-        self.block_rest() + self.max_depth() as usize + 3
+        self.block_rest() + REST_WORDS
     }
 
     /// Where a thread's block begins.
@@ -111,7 +119,7 @@ impl Areas {
             + (depth as usize - 1)
     }
 
-    /// Where the recorded slots begin.
+    /// Where the words begin that link the recorded slots.
     pub fn sets(self) -> usize
         requires { IsAreas self }
         ensures { result ≡ sets_at self }

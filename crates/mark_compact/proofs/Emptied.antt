@@ -14,8 +14,7 @@ use Rattle.heap_words.specs.Contents.{Contents}
 use Rattle.region_pages.specs.declared.TheConstants.{CLAIM_COUNTER, POOL_LENGTH}
 use Rattle.region_pages.specs.Freeing.{free_below, pool_with, with_pool_rebuilt}
 use Rattle.yak_model.specs.Placed.{space_word}
-use Rattle.yak_model.specs.Stands.{current, set_entries}
-use Rattle.remember_sets.specs.declared.TheConstants.{SET_ENTRIES}
+use Rattle.yak_model.specs.Stands.{current}
 use Rattle.remember_sets.specs.Filed.{with_sets}
 use Rattle.relocation.specs.Slide.{IsPageOf}
 use Rattle.forwarding.specs.Pool.{PoolAnew}
@@ -99,7 +98,7 @@ module _ (m : Areas) (c0 c1 c2 c3 c4 : Contents) (t last : ℕ) (ht : HasThread 
   free4 : free_below c2.table (length c2.table) ≡ free_below c4.table m.pages
   free4 = ap (free_below c2.table) long ∙ ap (λ (tb : List (List ℕ)). free_below tb m.pages) (sym table4)
 
-  heads1 : c1.heads ≡ set c0.heads SET_ENTRIES (set_entries c1.heads)
+  heads1 : c1.heads ≡ c0.heads
   heads1 = ap (λ (x : Contents). x.heads) cleared.others
 
   heads2 : c2.heads ≡ c1.heads
@@ -108,12 +107,12 @@ module _ (m : Areas) (c0 c1 c2 c3 c4 : Contents) (t last : ℕ) (ht : HasThread 
   pool2 : c2.pool ≡ c1.pool
   pool2 = ∥∥₁_elim some (hlevel props) (λ f. ap (λ (x : Contents). x.pool) f.frame)
 
-  heads4 : c4.heads ≡ set (set (set c1.heads CLAIM_COUNTER 0) POOL_LENGTH (length (free_below c4.table m.pages))) SET_ENTRIES (set_entries c4.heads)
+  heads4 : c4.heads ≡ set (set c1.heads CLAIM_COUNTER 0) POOL_LENGTH (length (free_below c4.table m.pages))
   heads4 =
       ap (λ (x : Contents). x.heads) others
-      ∙ ap (λ (x : Contents). set x.heads SET_ENTRIES (set_entries c4.heads)) pages.frame
-      ∙ ap (λ (hs : List ℕ). set (set (set hs CLAIM_COUNTER 0) POOL_LENGTH (length (free_below c2.table (length c2.table)))) SET_ENTRIES (set_entries c4.heads)) heads2
-      ∙ ap (λ (ps : List ℕ). set (set (set c1.heads CLAIM_COUNTER 0) POOL_LENGTH (length ps)) SET_ENTRIES (set_entries c4.heads)) free4
+      ∙ ap (λ (x : Contents). x.heads) pages.frame
+      ∙ ap (λ (hs : List ℕ). set (set hs CLAIM_COUNTER 0) POOL_LENGTH (length (free_below c2.table (length c2.table)))) heads2
+      ∙ ap (λ (ps : List ℕ). set (set c1.heads CLAIM_COUNTER 0) POOL_LENGTH (length ps)) free4
 
   pool4 : c4.pool ≡ pool_with (free_below c4.table m.pages) c1.pool
   pool4 =
@@ -123,7 +122,7 @@ module _ (m : Areas) (c0 c1 c2 c3 c4 : Contents) (t last : ℕ) (ht : HasThread 
       ∙ ap (pool_with (free_below c4.table m.pages)) pool2
 
   pub pool-collected : PoolAnew m c0 c4
-  pool-collected = pool_anew m c0 c4 c0.heads c1.heads c1.pool (set_entries c1.heads) refl heads (ap (λ (x : Contents). x.pool) cleared.others) heads1 heads4 pool4
+  pool-collected = pool_anew m c0 c4 c1.heads c1.pool (ap (λ (hs : List ℕ). set hs CLAIM_COUNTER 0) heads1) (ap (λ (hs : List ℕ). length hs) heads1 ∙ heads) (ap (λ (x : Contents). x.pool) cleared.others) heads4 pool4
 
   pub room-collected : RoomCollected m c0 c4 t
   room-collected =

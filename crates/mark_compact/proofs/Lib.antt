@@ -14,5 +14,7 @@ pub mod Lies
 pub mod Currents
 pub mod Logged
 pub mod Rooms
+pub mod Keeps
 pub mod After
 pub mod Emptied
+mod Goes

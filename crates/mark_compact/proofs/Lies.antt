@@ -326,8 +326,13 @@ module _ (m : Areas) (was : Contents) (s : SpaceState) (h : Stands m was s) (d :
             inr (ap (λ (r : List ℕ). get_or r 0 0) same ∙ free.0, ap (λ (r : List ℕ). get_or r 1 0) same ∙ free.1))
             (cases_lt q (Slides.slid m was s h d count moves p areas).next);
         still = still;
-        moved = λ n o e control. let y = Slides.found m was s h d count moves p areas n o e control in (y.0, y.1, brought-to n y.0 y.1 (sym y.2));
+        moved = λ n o e control. let y = Slides.found m was s h d count moves p areas n o e control in (y.0, y.1, brought-to n y.0 y.1 (sym y.2), sym y.2);
         slid = are-slid;
         are_moved = λ k lt. let x = Slides.object m was s h d count moves p areas k lt in (x.0, x.1, x.2, brought-to x.0 k lt x.4, Slides.moved-home m was s h d count moves p areas k lt ∙ sym ((Slides.slid m was s h d count moves p areas).sliding.control k lt).0);
+        from = λ k lt. (let x = moved-one k lt in (x.0, x.1, x.2.0, brought-to x.0 k lt x.3, x.3, x.2.1));
+        within = λ k lt. (let w = (movable.each k lt).old in omega (arith, w, (moved-header m c.heap heap count moves movable done k lt).1));
+        behind = λ j k lt lk. (let w = (Slides.slid m was s h d count moves p areas).sliding.apart j k lt lk in omega (arith, w, size-new j (omega (arith, lt, lk))));
+        spread = λ j k lt lk. (let w = (Slides.slid m was s h d count moves p areas).sliding.spread j k lt lk in omega (arith, w, size-new j (omega (arith, lt, lk))));
+        front = λ k lt. (Slides.slid m was s h d count moves p areas).sliding.down k lt;
         room = room;
       }

@@ -1,5 +1,5 @@
 -- What a collection of the control space leaves.
-use Rattle.std.specs.Prelude.{◌≡◌, ◌≢◌, ◌⊎◌, ℕ, ◌+◌, ◌-◌, ◌*◌, ◌≤◌, ◌<◌, List, length, Option, Some}
+use Rattle.std.specs.Prelude.{◌≡◌, ◌≢◌, ◌⊎◌, ℕ, ◌+◌, ◌-◌, ◌*◌, ◌≤◌, ◌<◌, Bool, List, map, length, Option, Some, is_some}
 use Rattle.object_layout.specs.declared.names.Name.{Name}
 use Rattle.object_layout.specs.declared.TheConstants.{OBJECT_WORDS}
 use Rattle.heap_words.specs.declared.map.Areas.{Areas}
@@ -7,6 +7,10 @@ use Rattle.heap_words.specs.Map.{page_words}
 use Rattle.heap_words.specs.Cells.{row}
 use Rattle.heap_words.specs.Contents.{Contents}
 use Rattle.epoch_lattice.specs.declared.Space.TheVariants.{Control}
+use Rattle.std.specs.List.{filter}
+use Rattle.epoch_lattice.specs.declared.Space.{Space}
+use Rattle.yak_model.specs.Chains.{IsRegionOf}
+use Rattle.remember_sets.specs.Filed.{all_filed, chain, logged}
 use Rattle.yak_model.specs.Spaces.{Collects, SpaceState}
 use Rattle.yak_model.specs.State.{Thing, object_of}
 use Rattle.yak_model.specs.Placed.{space_word, used_mark}
@@ -36,8 +40,17 @@ pub record AreSlid (m : Areas) (table : List (List ℕ)) (at : Name → ℕ) (ob
       → GoesBehind m (at_now a) (length o.fields + OBJECT_WORDS) (at_now b) (length p.fields + OBJECT_WORDS) ⊎ GoesOn m CONTROL_WORD table (at_now a) (length o.fields + OBJECT_WORDS) (at_now b) (length p.fields + OBJECT_WORDS)
   pub still : (n : Name) (o : Thing) → objects n ≡ Some o → o.home ≢ Control → at_now n ≡ at n
 
+-- The recorded slots after the collection: each region's chain is the one that filing the store buffers made, without the
+-- fields of the objects that are gone, and with each field of an object that is kept at its new place.
+pub record SlotsCollected (m : Areas) (was now : Contents) (before after : Name → Option Thing) (at at_now : Name → ℕ) : Type 0 where
+  pub stays : ℕ → Bool
+  pub goes : ℕ → ℕ
+  pub kept : (n : Name) (o : Thing) (f : ℕ) → before n ≡ Some o → f < length o.fields → stays (at n + OBJECT_WORDS + f) ≡ is_some (after n)
+  pub moved : (n : Name) (o : Thing) (f : ℕ) → after n ≡ Some o → f < length o.fields → goes (at n + OBJECT_WORDS + f) ≡ at_now n + OBJECT_WORDS + f
+  pub chains : (x : Space) → IsRegionOf m x → chain m now x ≡ map goes (filter stays (all_filed m was x (logged was) (chain m was x)))
+
 -- The words stand for the state after the collection, in which Control is packed and the crossing references are recorded.
--- The objects that are kept have slid.
+-- The objects that are kept have slid, and their recorded slots with them.
 pub record StateCollected (m : Areas) (was now : Contents) (s : SpaceState) (h : Stands m was s) : Type 0 where
   pub after : SpaceState
   pub collects : Collects s after
@@ -45,6 +58,7 @@ pub record StateCollected (m : Areas) (was now : Contents) (s : SpaceState) (h :
   pub recorded : Recorded m now after stands
   pub packed : IsPacked m now after stands Control
   pub slid : AreSlid m was.table h.places.at (object_of after) stands.places.at
+  pub slots : SlotsCollected m was now (object_of s) (object_of after) h.places.at stands.places.at
 
 -- The current control page of the thread is the last control page, where there is one, and no other thread has one.
 pub record CurrentsCollected (was now : Contents) (t : ℕ) : Type 0 where

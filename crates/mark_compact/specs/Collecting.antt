@@ -1,5 +1,5 @@
 -- How the words stand between the steps of a collection.
-use Rattle.std.specs.Prelude.{◌≡◌, ◌≢◌, ◌↔◌, ℕ, ◌+◌, ◌-◌, ◌*◌, ◌≤◌, ◌<◌, Bool, true, false, List, map, length, slice_index, Some}
+use Rattle.std.specs.Prelude.{◌≡◌, ◌≢◌, ℕ, ◌+◌, ◌-◌, ◌*◌, ◌≤◌, ◌<◌, Bool, true, false, List, map, length, slice_index, Some}
 use Rattle.object_layout.specs.declared.names.Name.{Name}
 use Rattle.heap_words.specs.declared.map.Areas.{Areas}
 use Rattle.heap_words.specs.Map.{heap_length}
@@ -13,19 +13,19 @@ use Rattle.yak_model.specs.Placed.{HeapStands, Holds, Places, datum_word, space_
 use Rattle.yak_model.specs.Plans.{IsLawfulPlan, Move, forward, forwarded, without}
 use Rattle.yak_model.specs.Packed.{PackedAs}
 use Rattle.yak_model.specs.Stands.{current}
-use Rattle.yak_model.specs.Recorded.{IsRecorded}
-use Rattle.remember_sets.specs.Filed.{IsFiled, LiesIn, SetsHold, with_no_logs, with_sets}
+use Rattle.remember_sets.specs.Filed.{ChainsBecome, SetsHold, all_filed, logged, with_no_logs, with_sets}
 use Rattle.relocation.specs.Slide.{Drops, IsPageOf, Runs}
 use Rattle.relocation.specs.declared.plans.TheConstants.{MOVE_WORDS}
 use Rattle.forwarding.specs.Corrected.{corrected_stacks}
 use Rattle.forwarding.specs.Crossing.{AreMoved}
+use Rattle.relocation.specs.Moves.{size_at}
 use Rattle.mark_compact.specs.Collected.{AreSlid, IsFilledOrFree}
 use Rattle.mark_compact.specs.Given.{IsSlid}
 use Rattle.mark_compact.specs.declared.sliding.TheConstants.{CONTROL_WORD}
 
--- All recorded slots are filed but those in control pages, and the store buffers are empty.
+-- All recorded slots are filed, and the store buffers are empty.
 pub record Cleared (m : Areas) (was now : Contents) : Type 0 where
-  pub filed : (a : ℕ) → IsFiled now a ↔ (IsRecorded was.heads was.sets was.buffers a × (LiesIn m was Control a → ⊥))
+  pub filed : ChainsBecome m was now (λ x slots. all_filed m was x (logged was) slots)
   pub sets : SetsHold m now
   pub others : now ≡ with_no_logs m (with_sets was now)
 
@@ -68,9 +68,15 @@ pub record Lain (m : Areas) (was : Contents) (s : SpaceState) (l : Places) (now 
   pub others : (p : ℕ) → (IsPageOf CONTROL_WORD was.table p → ⊥) → row now.table p ≡ row was.table p
   pub control : (p : ℕ) → p < m.pages → IsPageOf CONTROL_WORD was.table p → IsFilledOrFree now.table p
   pub still : (n : Name) (o : Thing) → object_of s n ≡ Some o → o.home ≢ Control → places.at n ≡ l.at n
-  pub moved : (n : Name) (o : Thing) → (without (view s) dropped).objects n ≡ Some o → o.home ≡ Control → (k : ℕ) × (k < count) × (places.at n ≡ (moves k).new)
+  pub moved : (n : Name) (o : Thing) → (without (view s) dropped).objects n ≡ Some o → o.home ≡ Control → (k : ℕ) × (k < count) × (places.at n ≡ (moves k).new) × (l.at n ≡ (moves k).old)
   pub slid : AreSlid m was.table l.at (without (view s) dropped).objects places.at
   pub are_moved : AreMoved (without (view s) dropped).objects places.at count moves
+  pub from : (k : ℕ) → k < count → (n : Name) × (o : Thing) × ((without (view s) dropped).objects n ≡ Some o) × (places.at n ≡ (moves k).new) × (l.at n ≡ (moves k).old) × (o.home ≡ Control)
+  -- old and new places lie one behind another, and no new place is past its old place
+  pub within : (k : ℕ) → k < count → (moves k).old + size_at now.heap (moves k).new ≤ heap_length m
+  pub behind : (j k : ℕ) → j < k → k < count → (moves j).old + size_at now.heap (moves j).new ≤ (moves k).old
+  pub spread : (j k : ℕ) → j < k → k < count → (moves j).new + size_at now.heap (moves j).new ≤ (moves k).new
+  pub front : (k : ℕ) → k < count → (moves k).new ≤ (moves k).old
   pub room : MOVE_WORDS * count ≤ heap_length m
 
 -- The last control page below some page, plus 1, or 0 where there is none.

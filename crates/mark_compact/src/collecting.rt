@@ -8,16 +8,16 @@ ghost use Rattle.yak_model.specs.Stands.{Stands};
 ghost use Rattle.yak_model.specs.Recorded.{Recorded};
 ghost use Rattle.mark_compact.specs.Collected.{RoomCollected, StateCollected};
 
-use crate::clearing::clear_slots;
 use crate::moving::slide;
 use crate::resetting::reset_pages;
-use forwarding::record_moved;
+use forwarding::{drop_others, follow_moves};
 use heap_words::{Areas, Words};
+use remember_sets::file_logs;
 
 /// Collects the control space. The control objects to which no walk leads from a stack or from an object of a region are
 /// dropped; the others slide to the front of the control pages, and all references follow them. Pages that stay empty are
 /// given back, the last of the others is the thread's current control page, and no other thread keeps one. Objects of regions
-/// stay where they are.
+/// stay where they are. The recorded slots of the objects that are gone are dropped, and those of the others follow them.
 pub fn collect<W: Words>(words: &mut W, map: Areas, thread: u8)
     requires sound { Sound map (W.words words.old) }
     requires thread { HasThread map thread }
@@ -27,8 +27,9 @@ pub fn collect<W: Words>(words: &mut W, map: Areas, thread: u8)
     ensures sound { Sound map (W.words words.new) }
     ensures base { W.base words.new ≡ W.base words.old }
 {
-    clear_slots(words, map);
+    file_logs(words, map);
     let plan = slide(words, map);
     reset_pages(words, map, thread);
-    record_moved(words, map, &plan);
+    drop_others(words, map, &plan);
+    follow_moves(words, map, &plan);
 }

@@ -1,7 +1,6 @@
 //! The collection of the control space: which of its objects are kept, where a slide puts them, and what follows them.
 #![tactic(auto)]
 
-mod clearing;
 mod collecting;
 mod marking;
 mod moving;

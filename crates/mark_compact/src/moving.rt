@@ -1,12 +1,12 @@
 //! The slide of a collection: the marking, the plan, the references that follow it, and the moves.
 
-ghost use Rattle.std.specs.Prelude.{◌≡◌, ◌*◌, ◌≤◌, ℕ};
+ghost use Rattle.std.specs.Prelude.{◌≡◌, ◌+◌, ◌*◌, ◌≤◌, ◌<◌, ℕ};
 ghost use Rattle.heap_words.specs.Map.{heap_length};
 ghost use Rattle.heap_words.specs.Contents.{Contents, Sound, contents};
 ghost use Rattle.yak_model.specs.Spaces.{SpaceState};
 ghost use Rattle.yak_model.specs.State.{view};
 ghost use Rattle.yak_model.specs.Stands.{Stands};
-ghost use Rattle.relocation.specs.Moves.{Numbered, move_at};
+ghost use Rattle.relocation.specs.Moves.{HasHeader, Numbered, move_at, size_at};
 ghost use Rattle.mark_compact.specs.Collecting.{Lain, Led, Planned};
 
 use crate::marking::mark;
@@ -47,6 +47,7 @@ fn move_objects<W: Words>(words: &mut W, map: Areas, plan: Plan)
     requires sound { Sound map (W.words words.old) }
     requires led { (let c = contents map (W.words words.old) in ∥ ((was : Contents) × (planned : Contents) × (s : SpaceState) × (h : Stands map was s) × (p : Planned map was s h.places planned plan.count (move_at c.scratch)) × Led map (view s) h.places p.dropped planned c plan.count (move_at c.scratch)) ∥₁) }
     ensures lain { (let c = contents map (W.words words.old) in let d = contents map (W.words words.new) in (was planned : Contents) (s : SpaceState) (h : Stands map was s) (p : Planned map was s h.places planned plan.count (move_at c.scratch)) → Led map (view s) h.places p.dropped planned c plan.count (move_at c.scratch) → Lain map was s h.places d plan.count (move_at d.scratch)) }
+    ensures headers { (let d = contents map (W.words words.new) in let moves = move_at d.scratch in (k : ℕ) → k < plan.count → HasHeader d.heap (moves k).new × ((moves k).new + size_at d.heap (moves k).new ≤ heap_length map)) }
     ensures sound { Sound map (W.words words.new) }
     ensures base { W.base words.new ≡ W.base words.old }
 {
@@ -59,6 +60,7 @@ pub(crate) fn slide<W: Words>(words: &mut W, map: Areas) -> Plan
     requires sound { Sound map (W.words words.old) }
     requires stands { ∥ ((s : SpaceState) × Stands map (contents map (W.words words.old)) s) ∥₁ }
     ensures lain { (let c = contents map (W.words words.old) in let d = contents map (W.words words.new) in (s : SpaceState) (h : Stands map c s) → Lain map c s h.places d result.count (move_at d.scratch)) }
+    ensures headers { (let d = contents map (W.words words.new) in let moves = move_at d.scratch in (k : ℕ) → k < result.count → HasHeader d.heap (moves k).new × ((moves k).new + size_at d.heap (moves k).new ≤ heap_length map)) }
     ensures sound { Sound map (W.words words.new) }
     ensures base { W.base words.new ≡ W.base words.old }
 {

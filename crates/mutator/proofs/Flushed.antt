@@ -1,16 +1,14 @@
 -- Store buffers that are filed behind the closed gate.
 use Rattle.std.proofs.Common.{◌≡◌, ℕ, ◌-◌, List, [], length, sym, ap, ◌∙◌, subst, arith, None}
-use Rattle.std.specs.Prelude.{◌↔◌, ◌⊎◌}
-use Rattle.std.specs.List.{Contains}
 use Rattle.std.proofs.lemmas.List.{get_or-replicate}
 use Rattle.epoch_lattice.specs.declared.Space.TheVariants.{Control}
 use Rattle.heap_words.specs.declared.map.Areas.{Areas}
-use Rattle.heap_words.specs.Map.{HasThread}
+use Rattle.heap_words.specs.Map.{HasThread, IsAreas}
 use Rattle.heap_words.specs.Contents.{Contents, InLimits, buffer_of, contents}
 use Rattle.yak_model.specs.Continued.{Explains, StandsStill}
 use Rattle.yak_model.specs.Packed.{PackedAs}
 use Rattle.yak_model.specs.State.{object_of}
-use Rattle.remember_sets.specs.Filed.{IsFiled, SetsHold, logged, with_no_logs, with_sets}
+use Rattle.remember_sets.specs.Filed.{ChainsBecome, SetsHold, all_filed, logged, with_no_logs, with_sets}
 use Rattle.escape_closure.proofs.Filing.{filed_recorded, filed_stands}
 use Rattle.safepoint_gate.specs.declared.rule.Place.TheVariants.{Inside}
 use Rattle.safepoint_gate.specs.declared.rule.View.{View}
@@ -18,12 +16,12 @@ use Rattle.safepoint_gate.specs.Steps.{IsClosing, KeepBuffers, MayOpen, at_gate,
 use Rattle.mutator.specs.Calls.{FlushesBuffers}
 use Rattle.mutator.proofs.Stepped.{closing_explains, stepped_view}
 
-module _ (m : Areas) (was now : Contents) (filed : (a : ℕ) → IsFiled now a ↔ (IsFiled was a ⊎ Contains (logged was) a)) (sets : SetsHold m now) (others : now ≡ with_no_logs m (with_sets was now)) (limits : InLimits m now) where
+module _ (m : Areas) (was now : Contents) (areas : IsAreas m) (filed : ChainsBecome m was now (λ x slots. all_filed m was x (logged was) slots)) (sets : SetsHold m now) (others : now ≡ with_no_logs m (with_sets was now)) (limits : InLimits m now) where
   -- the words stand for the same state
   pub files_still : StandsStill m was now
   files_still = record {
-    stands = λ s h r. filed_stands m was now s h r filed sets others limits;
-    recorded = λ s h r. filed_recorded m was now s h r filed sets others limits;
+    stands = λ s h r. filed_stands m was now s h r areas filed sets others limits;
+    recorded = λ s h r. filed_recorded m was now s h r areas filed sets others limits;
     packed = λ s h r packed. subst (λ (x : Contents). PackedAs m x.table h.places.pages (object_of s) Control) (sym others) packed;
   }
 

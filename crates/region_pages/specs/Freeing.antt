@@ -1,19 +1,12 @@
 -- The pool made anew, and the pages of a region given back.
 use Rattle.std.specs.Prelude.{ℕ, ◌+◌, ◌==◌, cond, List, [], ◌∷◌, ◌++◌, length, map, drop, slice_index}
 use Rattle.std.specs.List.{filter, range_with_len}
-use Rattle.heap_words.specs.declared.map.Areas.{Areas}
-use Rattle.heap_words.specs.Map.{HasRegion}
 use Rattle.heap_words.specs.Contents.{Contents, with_head, with_current}
 use Rattle.epoch_lattice.specs.declared.Space.{Space}
 use Rattle.epoch_lattice.specs.declared.Space.TheVariants.{Control, Region}
 use Rattle.epoch_lattice.specs.Lattice.{space_index}
 use Rattle.yak_model.specs.Placed.{space_word}
 use Rattle.region_pages.specs.declared.TheConstants.{CLAIM_COUNTER, POOL_LENGTH}
-
--- A region of one of the threads of this heap.
-abbrev pub IsRegionOf : Areas → Space → Type 0
-IsRegionOf m Control = ⊥
-IsRegionOf m (Region t d) = HasRegion m t d
 
 -- The free ones of the first pages, in ascending order.
 abbrev pub free_below : List (List ℕ) → ℕ → List ℕ

@@ -6,11 +6,12 @@ ghost use Rattle.epoch_lattice.specs.Lattice.{space_index};
 ghost use Rattle.heap_words.specs.Cells.{row};
 ghost use Rattle.heap_words.specs.Map.{HasPage};
 ghost use Rattle.heap_words.specs.Contents.{contents, Sound, with_head};
+ghost use Rattle.yak_model.specs.Chains.{IsRegionOf};
 ghost use Rattle.yak_model.specs.Placed.{space_word};
 ghost use Rattle.yak_model.specs.Stands.{CurrentsStand, PoolStands, free_pages};
 ghost use Rattle.region_pages.specs.declared.TheConstants.{CLAIM_COUNTER, POOL_LENGTH};
 ghost use Rattle.region_pages.specs.Pages.{TableFits};
-ghost use Rattle.region_pages.specs.Freeing.{IsRegionOf, free_below, freed, freed_table, pool_with, with_pool_rebuilt, with_released};
+ghost use Rattle.region_pages.specs.Freeing.{free_below, freed, freed_table, pool_with, with_pool_rebuilt, with_released};
 
 use crate::claim::set_entry;
 use crate::{CLAIM_COUNTER, POOL_LENGTH, SPACE_WORD};

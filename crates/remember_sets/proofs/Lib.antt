@@ -1,4 +1,8 @@
-pub mod Sets
-pub mod Drops
-pub mod Frames
-pub mod Logs
+pub mod Slots
+pub mod Edits
+pub mod Linked
+pub mod Steps
+pub mod Entering
+pub mod Folded
+pub mod Outside
+pub mod Filtered

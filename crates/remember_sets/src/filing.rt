@@ -1,79 +1,66 @@
-//! Recorded slots: each stands once in a list, and its place in the list beside it.
+//! Slots that are filed: each goes into the chain of the region that its reference enters.
 
-ghost use Rattle.std.specs.Prelude.{◌≡◌, ◌≢◌, ◌≤◌, ◌<◌, ◌+◌, ◌-◌, ◌*◌, ◌^◌, ◌↔◌, ◌⊎◌, ℕ, List, length, slice_index};
-ghost use Rattle.std.specs.List.{AllPairs};
+ghost use Rattle.std.specs.Prelude.{◌≡◌, ◌≤◌, ◌<◌, ◌+◌, ◌-◌, ◌*◌, ◌/◌, ◌^◌, ℕ, Bool, true, false, MatchOption};
 ghost use Rattle.heap_words.specs.Map.{heap_length};
 ghost use Rattle.heap_words.specs.Contents.{contents, Sound};
-ghost use Rattle.yak_model.specs.Stands.{set_entries};
-ghost use Rattle.remember_sets.specs.Filed.{filed, IsFiled, SetsHold, with_sets};
+ghost use Rattle.epoch_lattice.specs.declared.Space.{Space};
+ghost use Rattle.yak_model.specs.Chains.{IsRegionOf};
+ghost use Rattle.remember_sets.specs.Filed.{ChainsBecome, IsSlot, PagesKnown, SetsHold, enters, filed, page_word, with_sets};
 
-use crate::SET_ENTRIES;
-use heap_words::{Areas, Words, get_head, get_set, set_head, set_set};
-use object_layout::Addr;
+use crate::chains::{drop_slot, put_first};
+use epoch_lattice::{Space, space_at};
+use heap_words::{Areas, Words, get_heap, get_page};
+use object_layout::{Addr, address};
 
-/// How many slots are filed.
-pub fn entries<W: Words>(words: &mut W, map: Areas) -> u32
+/// The word in the page table of the page in which a word of the heap lies: the number of its space plus 1, or 0.
+pub(crate) fn page_word<W: Words>(words: &mut W, map: Areas, a: usize) -> u64
     requires sound { Sound map (W.words words.old) }
-    requires sets { SetsHold map (contents map (W.words words.old)) }
-    ensures entries { result ≡ set_entries (contents map (W.words words.old)).heads }
-    ensures count { result ≡ length (filed (contents map (W.words words.old))) }
-    ensures once { AllPairs (λ (a b : ℕ). a ≢ b) (filed (contents map (W.words words.old))) }
-    ensures at_most { result ≤ heap_length map }
+    requires within { a < heap_length map }
+    ensures word { result ≡ page_word map (contents map (W.words words.old)) a }
     ensures words { W.words words.new ≡ W.words words.old }
     ensures reads { W.reads words.new ≤ W.reads words.old + 1 }
     ensures base { W.base words.new ≡ W.base words.old }
 {
-    get_head(words, map, SET_ENTRIES) as u32
+    get_page(words, map, (a / map.page_words() as usize) as u32, 0)
 }
 
-/// The filed slot at a place of the list.
-pub fn entry<W: Words>(words: &mut W, map: Areas, i: u32) -> Addr
+/// The region that the reference in a slot enters from a page of another space.
+fn entered<W: Words>(words: &mut W, map: Areas, slot: usize) -> Option<Space>
     requires sound { Sound map (W.words words.old) }
-    requires sets { SetsHold map (contents map (W.words words.old)) }
-    requires within { i < set_entries (contents map (W.words words.old)).heads }
-    ensures entry { result.0 ≡ slice_index (filed (contents map (W.words words.old))) i }
-    ensures filed { IsFiled (contents map (W.words words.old)) result.0 }
-    ensures in_heap { result.0 < heap_length map }
+    requires slot { IsSlot map (contents map (W.words words.old)) slot }
+    requires pages { PagesKnown map (contents map (W.words words.old)) }
+    ensures entered { MatchOption result ((x : Space) → IsRegionOf map x → enters map (contents map (W.words words.old)) x slot ≡ false) (λ y. IsRegionOf map y × (enters map (contents map (W.words words.old)) y slot ≡ true)) }
     ensures words { W.words words.new ≡ W.words words.old }
-    ensures reads { W.reads words.new ≤ W.reads words.old + 1 }
+    ensures reads { W.reads words.new ≤ W.reads words.old + 3 }
     ensures base { W.base words.new ≡ W.base words.old }
 {
-    Addr(get_set(words, map, i as usize) as u32)
+    let goal = address(get_heap(words, map, slot))?;
+    let space = page_word(words, map, goal);
+    if space < 2 {
+        return None;
+    }
+    if space == page_word(words, map, slot) {
+        return None;
+    }
+    space_at((space - 1) as u8)
 }
 
-/// Files a slot that isn't filed: puts it behind the others, and its place beside the list.
-fn append_slot<W: Words>(words: &mut W, map: Areas, slot: usize)
-    requires sound { Sound map (W.words words.old) }
-    requires sets { SetsHold map (contents map (W.words words.old)) }
-    requires within { slot < heap_length map }
-    requires new { slice_index (contents map (W.words words.old)).sets (heap_length map + slot) ≡ 0 }
-    ensures filed { (a : ℕ) → IsFiled (contents map (W.words words.new)) a ↔ (IsFiled (contents map (W.words words.old)) a ⊎ (a ≡ slot)) }
-    ensures sets { SetsHold map (contents map (W.words words.new)) }
-    ensures others { contents map (W.words words.new) ≡ with_sets (contents map (W.words words.old)) (contents map (W.words words.new)) }
-    ensures sound { Sound map (W.words words.new) }
-    ensures reads { W.reads words.new ≤ W.reads words.old + 1 }
-    ensures base { W.base words.new ≡ W.base words.old }
-{
-    let count = get_head(words, map, SET_ENTRIES);
-    set_set(words, map, count as usize, slot as u64);
-    set_set(words, map, map.heap_length() + slot, count + 1);
-    set_head(words, map, SET_ENTRIES, count + 1);
-}
-
-/// Files a slot. A slot that is filed already stays as it is.
+/// Files a slot: takes it out of its chain, and puts it to the front of the chain of the region that its reference enters
+/// from a page of another space, if it enters one.
 pub fn add_slot<W: Words>(words: &mut W, map: Areas, slot: Addr)
     requires sound { Sound map (W.words words.old) }
     requires sets { SetsHold map (contents map (W.words words.old)) }
-    requires within { slot.0 < heap_length map }
-    ensures filed { (a : ℕ) → IsFiled (contents map (W.words words.new)) a ↔ (IsFiled (contents map (W.words words.old)) a ⊎ (a ≡ slot.0)) }
+    requires slot { IsSlot map (contents map (W.words words.old)) slot.0 }
+    requires pages { PagesKnown map (contents map (W.words words.old)) }
+    ensures filed { (let c = contents map (W.words words.old) in ChainsBecome map c (contents map (W.words words.new)) (λ x slots. filed map c x slot.0 slots)) }
     ensures sets { SetsHold map (contents map (W.words words.new)) }
     ensures others { contents map (W.words words.new) ≡ with_sets (contents map (W.words words.old)) (contents map (W.words words.new)) }
     ensures sound { Sound map (W.words words.new) }
-    ensures reads { W.reads words.new ≤ W.reads words.old + 2 }
+    ensures reads { W.reads words.new ≤ W.reads words.old + 6 }
     ensures base { W.base words.new ≡ W.base words.old }
 {
-    let place = get_set(words, map, map.heap_length() + slot.0 as usize);
-    if place == 0 {
-        append_slot(words, map, slot.0 as usize);
+    drop_slot(words, map, slot);
+    if let Some(region) = entered(words, map, slot.0 as usize) {
+        put_first(words, map, slot, region);
     }
 }

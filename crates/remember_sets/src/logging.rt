@@ -1,10 +1,10 @@
 //! The store buffers of the threads, and how they are filed.
 
-ghost use Rattle.std.specs.Prelude.{◌≡◌, ◌≢◌, ◌≤◌, ◌<◌, ◌+◌, ◌-◌, ◌*◌, ◌^◌, ◌↔◌, ◌⊎◌, ℕ, List, [], ◌∷◌, ◌++◌, length, slice_index, MatchResult};
-ghost use Rattle.std.specs.List.{All, Contains};
+ghost use Rattle.std.specs.Prelude.{◌≡◌, ◌≤◌, ◌<◌, ◌+◌, ◌-◌, ◌*◌, ◌^◌, ℕ, List, [], ◌∷◌, ◌++◌, length, slice_index, MatchResult};
+ghost use Rattle.std.specs.List.{All};
 ghost use Rattle.heap_words.specs.Map.{HasThread, heap_length};
 ghost use Rattle.heap_words.specs.Contents.{contents, buffer_of, with_buffer, Sound};
-ghost use Rattle.remember_sets.specs.Filed.{BuffersHold, IsFiled, SetsHold, logged, with_no_logs, with_sets};
+ghost use Rattle.remember_sets.specs.Filed.{BuffersHold, ChainsBecome, IsSlot, PagesKnown, SetsHold, all_filed, logged, with_no_logs, with_sets};
 
 use crate::add_slot;
 use heap_words::{
@@ -30,17 +30,18 @@ pub fn log<W: Words>(words: &mut W, map: Areas, thread: u8, slot: Addr) -> Resul
     Ok(())
 }
 
-/// Files the entries of a thread's store buffer and empties it.
+/// Files the entries of a thread's store buffer, from the first one on, and empties it.
 fn file_buffer<W: Words>(words: &mut W, map: Areas, thread: u8)
     requires sound { Sound map (W.words words.old) }
     requires sets { SetsHold map (contents map (W.words words.old)) }
     requires thread { HasThread map thread }
-    requires buffer { All (λ a. a < heap_length map) (buffer_of (contents map (W.words words.old)) thread) }
-    ensures filed { let c = contents map (W.words words.old) in (a : ℕ) → IsFiled (contents map (W.words words.new)) a ↔ (IsFiled c a ⊎ Contains (buffer_of c thread) a) }
+    requires buffer { (let c = contents map (W.words words.old) in All (IsSlot map c) (buffer_of c thread)) }
+    requires pages { PagesKnown map (contents map (W.words words.old)) }
+    ensures filed { (let c = contents map (W.words words.old) in ChainsBecome map c (contents map (W.words words.new)) (λ x slots. all_filed map c x (buffer_of c thread) slots)) }
     ensures sets { SetsHold map (contents map (W.words words.new)) }
     ensures others { contents map (W.words words.new) ≡ with_buffer (with_sets (contents map (W.words words.old)) (contents map (W.words words.new))) thread [] }
     ensures sound { Sound map (W.words words.new) }
-    ensures reads { W.reads words.new ≤ W.reads words.old + 1 + 3 * length (buffer_of (contents map (W.words words.old)) thread) }
+    ensures reads { W.reads words.new ≤ W.reads words.old + 1 + 7 * length (buffer_of (contents map (W.words words.old)) thread) }
     ensures base { W.base words.new ≡ W.base words.old }
 {
     let count = buffer_length(words, map, thread);
@@ -51,16 +52,18 @@ fn file_buffer<W: Words>(words: &mut W, map: Areas, thread: u8)
     clear_buffer(words, map, thread);
 }
 
-/// Files the entries of all store buffers and empties them.
+/// Files the entries of all store buffers, from the first one of thread 1 on, and empties them. Each slot of a buffer stands
+/// afterwards in the chain of the region that its reference enters, and in none where it enters no region from outside.
 pub fn file_logs<W: Words>(words: &mut W, map: Areas)
     requires sound { Sound map (W.words words.old) }
     requires sets { SetsHold map (contents map (W.words words.old)) }
     requires buffers { BuffersHold map (contents map (W.words words.old)) }
-    ensures filed { let c = contents map (W.words words.old) in (a : ℕ) → IsFiled (contents map (W.words words.new)) a ↔ (IsFiled c a ⊎ Contains (logged c) a) }
+    requires pages { PagesKnown map (contents map (W.words words.old)) }
+    ensures filed { (let c = contents map (W.words words.old) in ChainsBecome map c (contents map (W.words words.new)) (λ x slots. all_filed map c x (logged c) slots)) }
     ensures sets { SetsHold map (contents map (W.words words.new)) }
     ensures others { contents map (W.words words.new) ≡ with_no_logs map (with_sets (contents map (W.words words.old)) (contents map (W.words words.new))) }
     ensures sound { Sound map (W.words words.new) }
-    ensures reads { W.reads words.new ≤ W.reads words.old + map.threads + 3 * length (logged (contents map (W.words words.old))) }
+    ensures reads { W.reads words.new ≤ W.reads words.old + map.threads + 7 * length (logged (contents map (W.words words.old))) }
     ensures base { W.base words.new ≡ W.base words.old }
 {
     for t in 0..map.threads {

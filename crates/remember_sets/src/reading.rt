@@ -4,7 +4,8 @@ ghost use Rattle.std.specs.Prelude.{◌≡◌, ◌≢◌, ◌≤◌, ◌<◌, �
 ghost use Rattle.std.specs.Int.{IsBitSet};
 ghost use Rattle.heap_words.specs.Map.{HasThread};
 ghost use Rattle.heap_words.specs.Contents.{contents, Sound};
-ghost use Rattle.remember_sets.specs.Filed.{IsRegionOf, readers_word, with_readers_word};
+ghost use Rattle.yak_model.specs.Chains.{IsRegionOf};
+ghost use Rattle.remember_sets.specs.Filed.{readers_word, with_readers_word};
 
 use epoch_lattice::Space;
 use heap_words::{Areas, Words, get_readers, set_readers};

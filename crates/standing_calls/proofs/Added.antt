@@ -20,7 +20,7 @@ use Rattle.yak_model.specs.declared.datum.Datum.{Datum}
 use Rattle.yak_model.specs.declared.datum.Datum.TheVariants.{Null, Int, Object}
 use Rattle.yak_model.specs.State.{IsClosed, IsDatum, IsOpen, State, Thing, stack}
 use Rattle.yak_model.specs.Placed.{IsAt, Places, same_name, space_word, used_mark, with_object}
-use Rattle.yak_model.specs.Stands.{CurrentsStand, NamesMade, PoolStands, RegionsDense, SpacesOpen, current, pages_of, set_entries, unused_heads, words_in, words_of}
+use Rattle.yak_model.specs.Stands.{CurrentsStand, NamesMade, PoolStands, RegionsDense, SpacesOpen, current, pages_of, unused_heads, words_in, words_of}
 use Rattle.yak_model.proofs.Grown.{grown}
 use Rattle.yak_model.proofs.Placed.{same_name-self}
 use Rattle.yak_model.proofs.Stacks.{all-at}
@@ -37,9 +37,9 @@ pub record Placing (m : Areas) (c c' : Contents) (t d size p used : ℕ) : Type 
   pub few_left : space_word c.table p ≡ 0 → current c.currents t d ≢ 0 → page_words m < used_mark c.table (current c.currents t d - 1) + size
   pub pool : PoolStands m c'.heads c'.pool c'.table
   pub currents : CurrentsStand m c'.currents c'.table
-  pub entries : set_entries c'.heads ≡ set_entries c.heads
   pub unused : unused_heads c'.heads ≡ unused_heads c.heads
   pub slots : (u : ℕ) → HasThread m u → length (row c.currents (u - 1)) ≡ max_depth m + 1
+  pub same_firsts : c'.firsts ≡ c.firsts
   pub same_sets : c'.sets ≡ c.sets
   pub same_rests : c'.rests ≡ c.rests
   pub same_depths : c'.depths ≡ c.depths

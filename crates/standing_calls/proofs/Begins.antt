@@ -82,6 +82,7 @@ stands-deepened m c s l t d h ht most least = record {
   pool = h.pool;
   currents = h.currents;
   sets = h.sets;
+  heads_closed = λ u e r lt. h.heads_closed u e r (omega (arith, lt, no_shallower s.depths (t - 1) d (u - 1) least (omega (arith, ht.0, ht.1, h.threads))));
   dense = h.dense;
 }
 
@@ -103,7 +104,7 @@ depth_room_same : (c d : Contents) (t k : ℕ) → d ≡ with_depth c t k → Sa
 depth_room_same c d t k e = subst (SameRoom c) (sym e) (record { claims = refl; pooled = refl; pool = refl; table = refl; currents = refl })
 
 depth_records_same : (c d : Contents) (t k : ℕ) → d ≡ with_depth c t k → SameRecords c d
-depth_records_same c d t k e = subst (SameRecords c) (sym e) (record { filed = record { entries = refl; sets = refl }; buffers = refl; readers = refl })
+depth_records_same c d t k e = subst (SameRecords c) (sym e) (record { filed = record { firsts = refl; sets = refl }; buffers = refl; readers = refl })
 
 -- a region that isn't open wasn't before
 recorded-deepened : (m : Areas) (c : Contents) (s : State) (at : Name → ℕ) (t d : ℕ) → HasThread m t → get_or s.depths (t - 1) 0 ≤ d → length s.depths ≡ m.threads → RecordedAs m c s at → RecordedAs m c (deepened s t d) at

@@ -1,5 +1,5 @@
 -- The space of an object, as its header tells it.
-use Rattle.std.proofs.Common.{◌≡◌, ℕ, ◌+◌, ◌-◌, ◌*◌, ◌≤◌, ◌<◌, Option, Some, None, length, get_or, refl, sym, ap, subst, ◌∙◌, arith}
+use Rattle.std.proofs.Common.{◌≡◌, ◌≢◌, ℕ, ◌+◌, ◌-◌, ◌*◌, ◌≤◌, ◌<◌, Option, Some, None, length, get_or, refl, sym, ap, subst, ◌∙◌, arith}
 use Rattle.std.specs.Prelude.{IfSome}
 use Rattle.std.proofs.Props.{props}
 use Rattle.std.proofs.lemmas.List.{get_or_past}
@@ -12,6 +12,7 @@ use Rattle.heap_words.specs.declared.map.Areas.{Areas}
 use Rattle.heap_words.specs.Map.{IsAreas, heap_length, max_depth}
 use Rattle.heap_words.specs.Contents.{Contents, stack_of}
 use Rattle.epoch_lattice.specs.declared.Space.{Space}
+use Rattle.epoch_lattice.specs.declared.Space.TheVariants.{Control, Region}
 use Rattle.epoch_lattice.specs.declared.TheConstants.{MAX_DEPTH}
 use Rattle.epoch_lattice.specs.Lattice.{IsValid, space_index, space_of}
 use Rattle.epoch_lattice.proofs.Numbers.{number-own, number-reads_back}
@@ -24,6 +25,7 @@ use Rattle.yak_model.specs.State.{IsOpen, Thing, object_of, thing_of, view}
 use Rattle.yak_model.specs.Placed.{space_word}
 use Rattle.yak_model.specs.Stands.{Stands}
 use Rattle.yak_model.specs.Packed.{IsSpaceOf}
+use Rattle.yak_model.specs.Chains.{IsRegionOf}
 use Rattle.yak_model.proofs.Data.{home-index, in_heap, no_reference, refers}
 use Rattle.yak_model.proofs.Stacks.{all-at, slot-fits, slot-word, stack_length}
 use Rattle.standing_calls.specs.Records.{IsWordOf, home_at}
@@ -41,6 +43,10 @@ home-shown s n o e = shown_home (home_of s n) (content_at s.graph n) o e
 one_thing : (a b : Thing) → Some a ≡ Some b → a ≡ b
 one_thing a b e = cc
 
+-- the space of an object is valid
+pub home-valid : (m : Areas) (c : Contents) (s : SpaceState) → Stands m c s → (n : Name) (o : Thing) → object_of s n ≡ Some o → IsValid MAX_DEPTH o.home
+home-valid m c s h n o e = subst (λ (l : Limits). IsValid l.depth o.home) h.whole.limits (h.whole.homes n o.home (home-shown s n o e))
+
 -- the space of an object is an open one of the heap
 pub home-open : (m : Areas) (c : Contents) (s : SpaceState) (h : Stands m c s) (n : Name) (o : Thing) → IsAreas m → object_of s n ≡ Some o → IsOpen (view s).depths o.home × IsSpaceOf m o.home
 home-open m c s h n o areas e =
@@ -50,7 +56,7 @@ home-open m c s h n o areas e =
     let word : space_word c.table at.0 ≡ space_index o.home + 1 = w.2 ∙ ap (λ (x : Space). space_index x + 1) same in
     let lt : at.0 < m.pages = omega (arith, at.2.page, h.stands.heap.count) in
     let deep : (t : ℕ) → get_or (view s).depths (t - 1) 0 ≤ max_depth m = λ t. rw (← h.stands.depths) (all-at (λ i. i ≤ max_depth m) c.depths (t - 1) 0 (omega arith) h.stands.limits.depths) in
-    let valid : IsValid MAX_DEPTH o.home = subst (λ (l : Limits). IsValid l.depth o.home) h.whole.limits (h.whole.homes n o.home (home-shown s n o e)) in
+    let valid : IsValid MAX_DEPTH o.home = home-valid m c s h n o e in
     ⊎_elim
     (λ (z : space_word c.table at.0 ≡ 0). absurd (omega (arith, z, word)))
     (λ (p : (x : Space) × (space_word c.table at.0 ≡ space_index x + 1) × IsOpen (view s).depths x).
@@ -58,6 +64,14 @@ home-open m c s h n o areas e =
     let one : p.0 ≡ o.home = number-own p.0 o.home (space-valid m p.0 areas here) valid (omega (arith, word, p.1)) in
     (subst (IsOpen (view s).depths) one p.2, subst (IsSpaceOf m) one here))
     (h.stands.open_spaces at.0 lt)
+
+-- and a region of the heap where it isn't Control
+pub region-of-heap : (m : Areas) (x : Space) → IsSpaceOf m x → x ≢ Control → IsRegionOf m x
+region-of-heap m Control own ne = absurd (ne refl)
+region-of-heap m (Region t d) own ne = own
+
+pub home-region : (m : Areas) (c : Contents) (s : SpaceState) (h : Stands m c s) (n : Name) (o : Thing) → IsAreas m → object_of s n ≡ Some o → o.home ≢ Control → IsRegionOf m o.home
+home-region m c s h n o areas e ne = region-of-heap m o.home (home-open m c s h n o areas e).1 ne
 
 -- a word that isn't a reference has no space
 not_home : (s : SpaceState) (d : Datum) → ((n : Name) → d ≡ datum.Object n → ⊥) → home_at s d ≡ None

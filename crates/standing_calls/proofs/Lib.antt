@@ -1,4 +1,6 @@
+pub mod FieldSlots
 pub mod Logs
+pub mod Closed
 pub mod Steps
 pub mod Recorded
 pub mod Loads

@@ -23,7 +23,7 @@ use Rattle.yak_model.specs.Packed.{IsSpaceOf}
 use Rattle.yak_model.specs.Spaces.{SpaceState}
 use Rattle.yak_model.specs.State.{IsDatum, IsOpen, Thing, object_of, view}
 use Rattle.yak_model.specs.Placed.{datum_word}
-use Rattle.yak_model.specs.Stands.{Stands, set_entries}
+use Rattle.yak_model.specs.Stands.{Stands}
 use Rattle.yak_model.specs.Recorded.{IsReader, RecordedAs}
 use Rattle.yak_model.proofs.Data.{object_fields, some-of}
 use Rattle.yak_model.proofs.Stacks.{stack_length}
@@ -122,7 +122,7 @@ load_room m c d t k f a w ht areas fit room field is changed reader = record {
   room = subst (SameRoom c) (sym changed) (record { claims = refl; pooled = refl; pool = refl; table = refl; currents = refl });
   records = λ s h.
       record {
-        filed = record { entries = ap (λ (x : Contents). set_entries x.heads) changed; sets = ap (λ (x : Contents). x.sets) changed };
+        filed = record { firsts = ap (λ (x : Contents). x.firsts) changed; sets = ap (λ (x : Contents). x.sets) changed };
         buffers = ap (λ (x : Contents). x.buffers) changed;
         reader = reader s h (field_word m c s h t k f a w (field s h) is);
       };

@@ -1,23 +1,27 @@
--- The filed slots and the store buffers of words that stand, and words with other ones in their place.
-use Rattle.std.proofs.Common.{◌≡◌, ℕ, ◌≤◌, ◌<◌, List, [], ◌∷◌, length, get_or, replicate, set, zero, suc, refl, sym, subst, arith, inr, get_or-set_other}
+-- The chains and the store buffers of words that stand, and words with other ones in their place.
+use Rattle.std.proofs.Common.{◌≡◌, ℕ, ◌+◌, ◌-◌, ◌*◌, ◌≤◌, ◌<◌, List, [], ◌∷◌, length, get_or, replicate, zero, suc, sym, ap, subst, arith, inr}
 use Rattle.std.proofs.Props.{props}
-use Rattle.std.proofs.Math.Logic.{∥∥₁_elim}
-use Rattle.std.proofs.lemmas.List.{get_or_default, drop-set-lt}
+use Rattle.std.proofs.Math.Logic.{∥∥₁_elim, ⊎_elim}
+use Rattle.std.proofs.lemmas.List.{get_or_default}
 use Rattle.std.proofs.lemmas.List.Elements.{Contains-append_left, Contains-append_right}
 use Rattle.std.specs.List.{All, Contains, flat_map}
 use Rattle.heap_words.specs.declared.map.Areas.{Areas}
 use Rattle.heap_words.specs.declared.TheConstants.{BUFFER_ENTRIES}
-use Rattle.heap_words.specs.Map.{heap_length}
+use Rattle.heap_words.specs.Map.{IsAreas, max_depth}
 use Rattle.heap_words.specs.Contents.{Contents}
+use Rattle.epoch_lattice.specs.declared.Space.{Space}
+use Rattle.epoch_lattice.specs.declared.Space.TheVariants.{Control, Region}
+use Rattle.epoch_lattice.specs.Lattice.{space_index}
 use Rattle.yak_model.specs.Spaces.{SpaceState}
-use Rattle.yak_model.specs.State.{State, view}
-use Rattle.yak_model.specs.Placed.{Places}
-use Rattle.yak_model.specs.Stands.{PoolStands, SetsStand, Stands, StandsAs, claim_counter, free_pages, pool_length, unused_heads}
-use Rattle.yak_model.specs.Recorded.{Recorded}
-use Rattle.yak_model.proofs.Data.{in_heap}
-use Rattle.region_pages.specs.declared.TheConstants.{CLAIM_COUNTER, POOL_LENGTH}
-use Rattle.remember_sets.specs.declared.TheConstants.{SET_ENTRIES}
-use Rattle.remember_sets.specs.Filed.{BuffersHold, SetsHold}
+use Rattle.yak_model.specs.State.{IsOpen, State, view}
+use Rattle.yak_model.specs.Placed.{Places, space_word}
+use Rattle.yak_model.specs.Stands.{HeadsClosed, SetsStand, Stands, StandsAs}
+use Rattle.yak_model.specs.Recorded.{Recorded, SomeRecorded}
+use Rattle.yak_model.specs.Chains.{chain_of}
+use Rattle.yak_model.proofs.Stacks.{all-at}
+use Rattle.yak_model.proofs.Chains.{linked-prop, region-own}
+use Rattle.remember_sets.specs.Filed.{BuffersHold, IsSlot, PagesKnown, SetsHold}
+use Rattle.standing_calls.proofs.FieldSlots.{field-slot}
 
 -- ---- entries of buffers
 
@@ -38,65 +42,68 @@ entry_among (b ∷ bs) (suc k) j d lt lj = Contains-append_right b (entries_of b
 
 -- ---- what words that stand for some state show of the slots
 
--- the words stand for some state whose crossing references are recorded
-abbrev pub SomeRecorded : Areas → Contents → Type 0
-SomeRecorded m c = ∥ ((s : SpaceState) × (h : Stands m c s) × Recorded m c s h) ∥₁
-
-pub sets-told : (m : Areas) (c : Contents) → SomeRecorded m c → SetsHold m c
-sets-told m c some = record {
-  within = ∥∥₁_elim some (hlevel props) (λ q. q.1.stands.sets.within);
-  listed = λ k lt. ∥∥₁_elim some (hlevel props) (λ q. q.1.stands.sets.listed k lt);
-  placed = λ a lt ne. ∥∥₁_elim some (hlevel props) (λ q. q.1.stands.sets.placed a lt ne);
+pub sets-told : (m : Areas) (c : Contents) → IsAreas m → SomeRecorded m c → SetsHold m c
+sets-told m c areas some = record {
+  heads = λ x r. ∥∥₁_elim some (hlevel props) (λ q. q.1.stands.sets.heads x r);
+  linked = λ x r. ∥∥₁_elim some (linked-prop c.sets (space_index x) (chain_of m c.firsts c.sets x)) (λ q. q.1.stands.sets.linked x r);
+  within = λ x r k d lt. ∥∥₁_elim some (hlevel props) (λ q. q.1.stands.sets.within x r k d lt);
+  free = λ a lt none. ∥∥₁_elim some (hlevel props) (λ q. q.1.stands.sets.free a lt none);
+  once = λ x r i j d lt in_list. ∥∥₁_elim some (hlevel props) (λ q. q.1.stands.sets.once x r i j d lt in_list);
+  apart = λ x y a r t i j. region-own m x y areas r t (∥∥₁_elim some (hlevel props) (λ q. ap space_index (q.1.stands.sets.apart x y a r t i j)));
 }
 
 pub buffers-told : (m : Areas) (c : Contents) → SomeRecorded m c → BuffersHold m c
-buffers-told m c some k es lk j d lj = ∥∥₁_elim some (hlevel props) (λ q.
+buffers-told m c some k es lk j d lj =
     let here : get_or c.buffers k es ≡ get_or c.buffers k [] = get_or_default c.buffers k es [] lk in
     let lj' : j < length (get_or c.buffers k []) = subst (λ (l : List ℕ). j < length l) here lj in
-    let f = q.2.fields (get_or (get_or c.buffers k []) j d) (inr (entry_among c.buffers k j d lk lj')) in
-    let a : get_or (get_or c.buffers k []) j d < heap_length m = omega (arith, f.4, f.5, in_heap m c (view q.0) q.1.places f.0 f.1 q.1.stands f.3) in
-    subst (λ (l : List ℕ). get_or l j d < heap_length m) (sym here) a)
+    let a : ℕ = get_or (get_or c.buffers k []) j d in
+    let slot : IsSlot m c a = (
+      ∥∥₁_elim some (hlevel props) (λ q. (told m c q.0 q.1 q.2 a (entry_among c.buffers k j d lk lj')).0),
+      λ b word. ∥∥₁_elim some (hlevel props) (λ q. (told m c q.0 q.1 q.2 a (entry_among c.buffers k j d lk lj')).1 b word),
+    ) in
+    subst (λ (l : List ℕ). IsSlot m c (get_or l j d)) (sym here) slot
+  where
+    told : (m : Areas) (c : Contents) (s : SpaceState) (h : Stands m c s) → Recorded m c s h → (a : ℕ) → Contains (entries_of c.buffers) a → IsSlot m c a
+    told m c s h r a i =
+        let f = r.fields a (inr i) in
+        subst (IsSlot m c) (sym f.5) (field-slot m c (view s).objects h.places (λ _. 0) f.0 f.1 f.2 h.stands.heap (λ n o e. (h.stands.closed.fields n o e).0) f.3 f.4)
+
+pub depths-fit : (m : Areas) (c : Contents) (s : State) (l : Places) → StandsAs m c s l → (t : ℕ) → get_or s.depths (t - 1) 0 ≤ max_depth m
+depths-fit m c s l h t = all-at (λ d. d ≤ max_depth m) s.depths (t - 1) 0 (omega arith) (subst (All (λ d. d ≤ max_depth m)) h.depths h.limits.depths)
+
+-- the number of an open space
+pub open-number : (m : Areas) (depths : List ℕ) (x : Space) → length depths ≡ m.threads → ((t : ℕ) → get_or depths (t - 1) 0 ≤ max_depth m) → IsOpen depths x → space_index x ≤ max_depth m * m.threads
+open-number m depths Control long deep h = omega arith
+open-number m depths (Region t d) long deep h = omega (arith, h.0, h.1, h.2, h.3, long, deep t)
+
+pub pages-known : (m : Areas) (c : Contents) (s : State) (l : Places) → StandsAs m c s l → PagesKnown m c
+pages-known m c s l h p lt =
+    ⊎_elim (λ (z : space_word c.table p ≡ 0). omega (arith, z))
+    (λ (x : (x : Space) × (space_word c.table p ≡ space_index x + 1) × IsOpen s.depths x). omega (arith, x.1, open-number m s.depths x.0 h.threads (depths-fit m c s l h) x.2))
+    (h.open_spaces p lt)
+
+pub pages-told : (m : Areas) (c : Contents) → SomeRecorded m c → PagesKnown m c
+pages-told m c some p lt = ∥∥₁_elim some (hlevel props) (λ q. pages-known m c (view q.0) q.1.places q.1.stands p lt)
 
 -- ---- the words
 
--- the pool depends on the heads by two words alone
-pub free_beside : (heads pool : List ℕ) (e : ℕ) → free_pages (set heads SET_ENTRIES e) pool ≡ free_pages heads pool
-free_beside heads pool e =
-    let claims : claim_counter (set heads SET_ENTRIES e) ≡ claim_counter heads = get_or-set_other heads SET_ENTRIES 1 e 0 (omega arith) in
-    let count : pool_length (set heads SET_ENTRIES e) ≡ pool_length heads = get_or-set_other heads SET_ENTRIES 2 e 0 (omega arith) in
-    rw (claims, count) refl
-
--- the pool under another number of recorded slots
-pub pool-with_entries : (m : Areas) (heads pool : List ℕ) (table : List (List ℕ)) (n : ℕ) → PoolStands m heads pool table → PoolStands m (set heads SET_ENTRIES n) pool table
-pool-with_entries m heads pool table n h =
-    let claims : claim_counter (set heads SET_ENTRIES n) ≡ claim_counter heads = get_or-set_other heads SET_ENTRIES CLAIM_COUNTER n 0 (λ e. omega (arith, e)) in
-    let count : pool_length (set heads SET_ENTRIES n) ≡ pool_length heads = get_or-set_other heads SET_ENTRIES POOL_LENGTH n 0 (λ e. omega (arith, e)) in
-    let free : free_pages (set heads SET_ENTRIES n) pool ≡ free_pages heads pool = free_beside heads pool n in
-    record {
-      within = rw count h.within;
-      passed = rw (claims, count) h.passed;
-      free = rw free h.free;
-      once = rw free h.once;
-    }
-
--- the words with other filed slots and store buffers
-pub stands-with_logs : (m : Areas) (c : Contents) (s : State) (l : Places) (n : ℕ) (sets : List ℕ) (buffers : List (List ℕ)) → StandsAs m c s l → SetsStand m (set c.heads SET_ENTRIES n) sets → All (λ (es : List ℕ). length es ≤ BUFFER_ENTRIES) buffers → (let x : Contents = record c { heads = set c.heads SET_ENTRIES n; sets = sets; buffers = buffers } in StandsAs m x s l)
-stands-with_logs m c s l n sets buffers h stand few =
-    let unused : unused_heads (set c.heads SET_ENTRIES n) ≡ unused_heads c.heads = drop-set-lt 4 c.heads SET_ENTRIES n (omega arith) in
-    record {
-      heap = h.heap;
-      open_spaces = h.open_spaces;
-      closed = h.closed;
-      stacks = h.stacks;
-      depths = h.depths;
-      made = h.made;
-      serials = h.serials;
-      threads = h.threads;
-      names = h.names;
-      limits = record { depths = h.limits.depths; stacks = h.limits.stacks; buffers = few };
-      zero = record { heads = subst (All (λ w. w ≡ 0)) (sym unused) h.zero.heads; blocks = h.zero.blocks };
-      pool = pool-with_entries m c.heads c.pool c.table n h.pool;
-      currents = h.currents;
-      sets = stand;
-      dense = h.dense;
-    }
+-- the words with other chains and store buffers
+pub stands-with_logs : (m : Areas) (c : Contents) (s : State) (l : Places) (firsts : List (List ℕ)) (sets : List ℕ) (buffers : List (List ℕ)) → StandsAs m c s l → SetsStand m firsts sets → HeadsClosed m firsts s.depths → All (λ (es : List ℕ). length es ≤ BUFFER_ENTRIES) buffers → (let x : Contents = record c { firsts = firsts; sets = sets; buffers = buffers } in StandsAs m x s l)
+stands-with_logs m c s l firsts sets buffers h stand closed few = record {
+  heap = h.heap;
+  open_spaces = h.open_spaces;
+  closed = h.closed;
+  stacks = h.stacks;
+  depths = h.depths;
+  made = h.made;
+  serials = h.serials;
+  threads = h.threads;
+  names = h.names;
+  limits = record { depths = h.limits.depths; stacks = h.limits.stacks; buffers = few };
+  zero = h.zero;
+  pool = h.pool;
+  currents = h.currents;
+  sets = stand;
+  heads_closed = closed;
+  dense = h.dense;
+}

@@ -24,14 +24,12 @@ use Rattle.yak_model.specs.Graph as graph
 use Rattle.yak_model.specs.Spaces.{SpaceState, innermost}
 use Rattle.yak_model.specs.State.{IsDatum, State, Thing, view}
 use Rattle.yak_model.specs.Placed.{ObjectAt, datum_word, with_object}
-use Rattle.yak_model.specs.Stands.{CurrentsStand, PoolStands, Stands, StandsAs, claim_counter, pool_length, set_entries}
+use Rattle.yak_model.specs.Stands.{CurrentsStand, PoolStands, Stands, StandsAs, claim_counter, pool_length}
 use Rattle.yak_model.specs.Recorded.{RecordedAs}
 use Rattle.yak_model.proofs.Grown.{grown}
 use Rattle.yak_model.proofs.Placed.{same_name-self}
 use Rattle.yak_model.proofs.Stacks.{all-at, stack_length}
 use Rattle.region_pages.specs.Placement.{IsPlaced, IsPlacedInCurrent, IsPlacedOnClaimed, depth_in, words_left_at}
-use Rattle.region_pages.specs.declared.TheConstants.{CLAIM_COUNTER}
-use Rattle.remember_sets.specs.declared.TheConstants.{SET_ENTRIES}
 use Rattle.standing_calls.specs.Records.{SameRecords}
 use Rattle.standing_calls.specs.Room.{HasNoRoom, TakesPlace}
 use Rattle.standing_calls.proofs.Recorded.{keeps_all, same_records, stacks_shown}
@@ -178,13 +176,13 @@ made_room m c c1 c2 c3 d t k made a first second w placed written hm hd = record
 placed_records : (m : Areas) (c c1 : Contents) (t : ℕ) (x : Space) (size a : ℕ) → IsPlaced m c t x size a c1 → SameRecords c c1
 placed_records m c c1 t x size a placed = ⊎_elim
     (λ (o : IsPlacedInCurrent m c t (depth_in x) size a c1). record {
-      filed = record { entries = ap (λ (y : Contents). set_entries y.heads) o.changed; sets = ap (λ (y : Contents). y.sets) o.changed };
+      filed = record { firsts = ap (λ (y : Contents). y.firsts) o.changed; sets = ap (λ (y : Contents). y.sets) o.changed };
       buffers = ap (λ (y : Contents). y.buffers) o.changed;
       readers = ap (λ (y : Contents). y.readers) o.changed;
     })
     (λ (o : (words_left_at m c t (depth_in x) < size) × IsPlacedOnClaimed m c t x size a c1). record {
       filed = record {
-        entries = ap (λ (y : Contents). set_entries y.heads) o.1.changed ∙ get_or-set_other c.heads CLAIM_COUNTER SET_ENTRIES (claim_counter c.heads + 1) 0 (λ e. omega (arith, e));
+        firsts = ap (λ (y : Contents). y.firsts) o.1.changed;
         sets = ap (λ (y : Contents). y.sets) o.1.changed;
       };
       buffers = ap (λ (y : Contents). y.buffers) o.1.changed;
@@ -197,7 +195,7 @@ made_records m c c1 c2 c3 d t k made a first second w placed written hm hd =
     let p = placed_records m c c1 t (inner_of t (depth_of c t)) (k + OBJECT_WORDS) a placed in
     record {
       filed = record {
-        entries = ap (λ (x : Contents). set_entries x.heads) hd ∙ ap (λ (x : Contents). set_entries x.heads) hm ∙ ap (λ (x : Contents). set_entries x.heads) written.rest ∙ p.filed.entries;
+        firsts = ap (λ (x : Contents). x.firsts) hd ∙ ap (λ (x : Contents). x.firsts) hm ∙ ap (λ (x : Contents). x.firsts) written.rest ∙ p.filed.firsts;
         sets = ap (λ (x : Contents). x.sets) hd ∙ ap (λ (x : Contents). x.sets) hm ∙ ap (λ (x : Contents). x.sets) written.rest ∙ p.filed.sets;
       };
       buffers = ap (λ (x : Contents). x.buffers) hd ∙ ap (λ (x : Contents). x.buffers) hm ∙ ap (λ (x : Contents). x.buffers) written.rest ∙ p.buffers;

@@ -99,6 +99,7 @@ stands-reread m c s l rs h = record {
   pool = h.pool;
   currents = h.currents;
   sets = h.sets;
+  heads_closed = h.heads_closed;
   dense = h.dense;
 }
 

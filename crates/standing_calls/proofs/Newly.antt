@@ -9,7 +9,7 @@ use Rattle.object_layout.specs.declared.names.Name.{Name}
 use Rattle.object_layout.specs.declared.TheConstants.{MAX_FIELDS, MAX_SERIAL, OBJECT_WORDS}
 use Rattle.heap_words.specs.declared.map.Areas.{Areas}
 use Rattle.heap_words.specs.declared.TheConstants.{STACK_SLOTS, BUFFER_ENTRIES}
-use Rattle.heap_words.specs.Map.{HasThread, IsAreas, heap_length, max_depth, page_words}
+use Rattle.heap_words.specs.Map.{HasThread, IsAreas, max_depth, page_words}
 use Rattle.heap_words.specs.Contents.{Contents, stack_of}
 use Rattle.epoch_lattice.specs.declared.Space.{Space}
 use Rattle.epoch_lattice.specs.Lattice.{inner_of, space_index}
@@ -17,7 +17,7 @@ use Rattle.yak_model.specs.declared.datum.Datum.{Datum}
 use Rattle.yak_model.specs.declared.datum.Datum.TheVariants.{Object}
 use Rattle.yak_model.specs.State.{IsDatum, State, Thing, depth, stack}
 use Rattle.yak_model.specs.Placed.{HeapStands, IsAt, ObjectAt, Places, datum_word, names_of, same_name, size_by, space_word, used_mark, with_object}
-use Rattle.yak_model.specs.Stands.{StandsAs}
+use Rattle.yak_model.specs.Stands.{HeadsClosed, SetsStand, StandsAs}
 use Rattle.yak_model.proofs.Grown.{datum-word-kept, grown, heap-new}
 use Rattle.yak_model.proofs.Placed.{same_name-self}
 use Rattle.yak_model.proofs.Stacks.{all-at, stack-stands}
@@ -119,10 +119,7 @@ stands-added m c c' s l heap n o t d size p used a areas ht deep h place is_next
       };
       pool = place.pool;
       currents = place.currents;
-      sets = record {
-        within = rw place.entries h.sets.within;
-        listed = λ i lt. rw place.same_sets (h.sets.listed i (subst (λ j. i < j) place.entries lt));
-        placed = λ i lt ne. rw (place.same_sets, place.entries) (h.sets.placed i lt (subst (λ (xs : List ℕ). get_or xs (heap_length m + i) 0 ≢ 0) place.same_sets ne));
-      };
+      sets = subst (λ (fs : List (List ℕ)). SetsStand m fs c'.sets) (sym place.same_firsts) (subst (SetsStand m c.firsts) (sym place.same_sets) h.sets);
+      heads_closed = subst (λ (fs : List (List ℕ)). HeadsClosed m fs s.depths) (sym place.same_firsts) h.heads_closed;
       dense = dense-added m c c' l s.objects n o t d size p used a areas ht fits place h.currents hp apart home is h.dense;
     }

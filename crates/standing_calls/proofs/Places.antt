@@ -1,5 +1,5 @@
 -- What the placing of an object changes, from the words of the pages, the pool and the current pages.
-use Rattle.std.proofs.Common.{◌≡◌, ◌≢◌, ℕ, ◌+◌, ◌-◌, ◌*◌, ◌≤◌, ◌<◌, List, [], ◌∷◌, length, get_or, set, drop, zero, suc, refl, sym, ap, subst, ◌∙◌, arith, inl, inr, get_or-set_same, get_or-set_other}
+use Rattle.std.proofs.Common.{◌≡◌, ◌≢◌, ℕ, ◌+◌, ◌-◌, ◌*◌, ◌≤◌, ◌<◌, List, [], ◌∷◌, length, get_or, set, drop, zero, suc, refl, sym, ap, subst, ◌∙◌, arith, inl, inr, get_or-set_same}
 use Rattle.std.proofs.lemmas.Bool.{ne_eqb}
 use Rattle.std.proofs.Math.Logic.{⊎_elim}
 use Rattle.heap_words.specs.declared.map.Areas.{Areas}
@@ -34,7 +34,7 @@ set-twice [] i a b = refl
 set-twice (x ∷ xs) zero a b = refl
 set-twice (x ∷ xs) (suc i) a b = ap (λ ys. x ∷ ys) (set-twice xs i a b)
 
-drop-set : (xs : List ℕ) (v : ℕ) → drop 4 (set xs 1 v) ≡ drop 4 xs
+drop-set : (xs : List ℕ) (v : ℕ) → drop 3 (set xs 1 v) ≡ drop 3 xs
 drop-set [] v = refl
 drop-set (x ∷ []) v = refl
 drop-set (x ∷ y ∷ zs) v = refl
@@ -77,9 +77,9 @@ in-current m c c' t d size a shape ht deep least cur pool' cur' h =
         few_left = λ z ne. absurd (omega (arith, z, b.1));
         pool = pool';
         currents = cur';
-        entries = ap (λ (x : Contents). get_or x.heads 3 0) h.changed;
-        unused = ap (λ (x : Contents). drop 4 x.heads) h.changed;
+        unused = ap (λ (x : Contents). drop 3 x.heads) h.changed;
         slots = shape.slots;
+        same_firsts = ap (λ (x : Contents). x.firsts) h.changed;
         same_sets = ap (λ (x : Contents). x.sets) h.changed;
         same_rests = ap (λ (x : Contents). x.rests) h.changed;
         same_depths = ap (λ (x : Contents). x.depths) h.changed;
@@ -120,9 +120,9 @@ on-claimed m c c' s l t d size a shape st ht deep most pool' cur' few h =
         few_left = λ z ne. omega (arith, few, left-in m c t d ne);
         pool = pool';
         currents = cur';
-        entries = ap (λ (y : Contents). get_or y.heads 3 0) h.changed ∙ get_or-set_other c.heads 1 3 (get_or c.heads 1 0 + 1) 0 (omega arith);
-        unused = ap (λ (y : Contents). drop 4 y.heads) h.changed ∙ drop-set c.heads (get_or c.heads 1 0 + 1);
+        unused = ap (λ (y : Contents). drop 3 y.heads) h.changed ∙ drop-set c.heads (get_or c.heads 1 0 + 1);
         slots = shape.slots;
+        same_firsts = ap (λ (y : Contents). y.firsts) h.changed;
         same_sets = ap (λ (y : Contents). y.sets) h.changed;
         same_rests = ap (λ (y : Contents). y.rests) h.changed;
         same_depths = ap (λ (y : Contents). y.depths) h.changed;

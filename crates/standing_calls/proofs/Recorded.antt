@@ -25,7 +25,7 @@ use Rattle.standing_calls.specs.Turned.{KeepsPlaces}
 
 -- nothing is recorded anew
 pub same_records : (c : Contents) → SameRecords c c
-same_records c = record { filed = record { entries = refl; sets = refl }; buffers = refl; readers = refl }
+same_records c = record { filed = record { firsts = refl; sets = refl }; buffers = refl; readers = refl }
 
 -- no object goes or moves where none changes
 pub keeps_all : (s : State) (at : Name → ℕ) → KeepsPlaces s at s at

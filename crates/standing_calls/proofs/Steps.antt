@@ -19,7 +19,7 @@ use Rattle.object_layout.specs.declared.names.Name.{Name}
 use Rattle.heap_words.specs.Contents.{Contents, stack_of, with_heap, with_stack}
 use Rattle.yak_model.specs.declared.datum.Datum.{Datum}
 use Rattle.yak_model.specs.declared.datum.Datum.TheVariants as datum
-use Rattle.yak_model.specs.Graph.{IsThread, drop_top, fields_at, first_refusal, is_bad_slot, is_stack_full, push, shown, slot_of}
+use Rattle.yak_model.specs.Graph.{IsThread, first_refusal, is_bad_slot, is_stack_full, push, shown, slot_of}
 use Rattle.yak_model.specs.Graph as graph
 use Rattle.yak_model.specs.Spaces.{SpaceState}
 use Rattle.yak_model.specs.State.{IsDatum, object_of, view}
@@ -66,7 +66,7 @@ pushed_room c d t w r done = ⊎_elim
 
 -- and what they record
 stack_records_same : (c d : Contents) (t : ℕ) (ws : List ℕ) → d ≡ with_stack c t ws → SameRecords c d
-stack_records_same c d t ws e = subst (SameRecords c) (sym e) (record { filed = record { entries = refl; sets = refl }; buffers = refl; readers = refl })
+stack_records_same c d t ws e = subst (SameRecords c) (sym e) (record { filed = record { firsts = refl; sets = refl }; buffers = refl; readers = refl })
 
 pushed_records : (c d : Contents) (t w : ℕ) (r : Reply) → IsPushed c d t w r → SameRecords c d
 pushed_records c d t w r done = ⊎_elim

@@ -16,7 +16,7 @@ use Rattle.yak_model.specs.declared.datum.Datum.{Datum}
 use Rattle.yak_model.specs.declared.datum.Datum.TheVariants.{Null, Object}
 use Rattle.yak_model.specs.State.{IsClosed, IsDatum, State, Thing, stack}
 use Rattle.yak_model.specs.Placed.{Places, same_name, with_field, with_object}
-use Rattle.yak_model.specs.Recorded.{Enters, IsRecorded, RecordedAs}
+use Rattle.yak_model.specs.Recorded.{Enters, IsRecordedFor, RecordedAs}
 use Rattle.yak_model.proofs.Grown.{grown}
 use Rattle.yak_model.proofs.Placed.{same_name-self, same_name-true}
 use Rattle.yak_model.proofs.Stacks.{all-at}
@@ -58,11 +58,11 @@ keeps-stored s at n o p here home long = record {
 }
 
 -- a field is stored, and where its new value crosses, its slot is recorded
-pub recorded-stored : (m : Areas) (c : Contents) (s : State) (at : Name → ℕ) (n : Name) (o : Thing) (f : ℕ) (v : Datum) → s.objects n ≡ Some o → f < length o.fields → ((x : Name) (p : Thing) → v ≡ Object x → s.objects x ≡ Some p → Enters o.home p.home → IsRecorded c.heads c.sets c.buffers (at n + OBJECT_WORDS + f)) → RecordedAs m c s at → RecordedAs m c (record s { objects = with_object s.objects n (with_field o f v) }) at
+pub recorded-stored : (m : Areas) (c : Contents) (s : State) (at : Name → ℕ) (n : Name) (o : Thing) (f : ℕ) (v : Datum) → s.objects n ≡ Some o → f < length o.fields → ((x : Name) (p : Thing) → v ≡ Object x → s.objects x ≡ Some p → Enters o.home p.home → IsRecordedFor m c.firsts c.sets c.buffers p.home (at n + OBJECT_WORDS + f)) → RecordedAs m c s at → RecordedAs m c (record s { objects = with_object s.objects n (with_field o f v) }) at
 recorded-stored m c s at n o f v here lf new r = record {
   crossing = λ y x q p' j ey lj val ex enters.
       let px = before-after s.objects n o (with_field o f v) here refl x p' ex in
-      ⊎_elim
+      subst (λ (b : Space). IsRecordedFor m c.firsts c.sets c.buffers b (at y + OBJECT_WORDS + j)) px.2 (⊎_elim
       (λ (z : (y ≡ n) × (with_field o f v ≡ q)).
       let home : q.home ≡ o.home = ap (λ (t : Thing). t.home) (sym z.1) in
       let entered : Enters o.home px.0.home = subst (λ (b : Space). Enters o.home b) (sym px.2) (subst (λ (a : Space). Enters a p'.home) home enters) in
@@ -71,14 +71,14 @@ recorded-stored m c s at n o f v here lf new r = record {
       ⊎_elim
       (λ (same : j ≡ f).
       let is : v ≡ Object x = sym (get_or-set_same o.fields f v Null lf) ∙ ap (λ k. get_or (set o.fields f v) k Null) (sym same) ∙ value in
-      subst (λ (a : ℕ). IsRecorded c.heads c.sets c.buffers a) (ap (λ (a : Name). at a + OBJECT_WORDS + f) (sym z.0) ∙ ap (λ k. at y + OBJECT_WORDS + k) (sym same)) (new x px.0 is px.1 entered))
+      subst (IsRecordedFor m c.firsts c.sets c.buffers px.0.home) (ap (λ (a : Name). at a + OBJECT_WORDS + f) (sym z.0) ∙ ap (λ k. at y + OBJECT_WORDS + k) (sym same)) (new x px.0 is px.1 entered))
       (λ (ne : j ≢ f).
       let old : get_or o.fields j Null ≡ Object x = sym (get_or-set_other o.fields f j v Null ne) ∙ value in
       let lj' : j < length o.fields = omega (arith, lj, ap (λ (vs : List Datum). length vs) fields, length-set o.fields f v) in
       r.crossing y x o px.0 j (ap s.objects z.0 ∙ here) lj' old px.1 entered)
       (cases_eq j f))
       (λ (z : s.objects y ≡ Some q). r.crossing y x q px.0 j z lj val px.1 (subst (λ (b : Space). Enters q.home b) (sym px.2) enters))
-      (after_object s.objects n (with_field o f v) y q ey);
+      (after_object s.objects n (with_field o f v) y q ey));
   fields = λ a h.
       let k = r.fields a h in
       let t = still-there s.objects n o (with_field o f v) here (length-set o.fields f v) k.0 k.1 (same_name k.0 n) refl k.3 in
@@ -132,7 +132,7 @@ recorded-added m c s l n o p a made fresh closed null r =
           (λ (z : (y ≡ n) × (o ≡ q)). let e : Null ≡ Object x = sym (null j) ∙ ap (λ (t : Thing). get_or t.fields j Null) z.1 ∙ val in let no : ⊥ = cc in absurd no)
           (λ (z : s.objects y ≡ Some q).
           let old = old-object s.objects n o fresh (get_or q.fields j Null) x p' ((closed.fields y q z).0 j Null lj) val ex in
-          subst (λ (i : ℕ). IsRecorded c.heads c.sets c.buffers (i + OBJECT_WORDS + j)) (sym (kept y q z)) (r.crossing y x q p' j z lj val old enters))
+          subst (λ (i : ℕ). IsRecordedFor m c.firsts c.sets c.buffers p'.home (i + OBJECT_WORDS + j)) (sym (kept y q z)) (r.crossing y x q p' j z lj val old enters))
           (after_object s.objects n o y q ey);
       fields = λ b h.
           let k = r.fields b h in
@@ -159,4 +159,4 @@ recorded-newly m c d s l n o t k p a ht lt fresh closed home null same r =
     absurd (ne (region_of t k u e at))
     in
     let pushed = recorded-stacked m c s1 (grown l p n a).at t [] (stack s t ++ Object n ∷ []) ht.0 lt added (All-push (IsRead c s1 t) (stack s t) (Object n) (stack-read m c s1 (grown l p n a).at t ht added) own) in
-    recorded-same m (with_stack c t []) d (newly s n o t) (grown l p n a).at (record { filed = record { entries = same.filed.entries; sets = same.filed.sets }; buffers = same.buffers; readers = same.readers }) pushed
+    recorded-same m (with_stack c t []) d (newly s n o t) (grown l p n a).at (record { filed = record { firsts = same.filed.firsts; sets = same.filed.sets }; buffers = same.buffers; readers = same.readers }) pushed

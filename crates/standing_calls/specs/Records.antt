@@ -1,6 +1,5 @@
 -- What a call records of the references that cross into regions.
-use Rattle.std.specs.Prelude.{◌≡◌, ◌≢◌, ◌⊎◌, ◌↔◌, ℕ, ◌+◌, ◌-◌, ◌^◌, ◌<◌, [], ◌∷◌, ◌++◌, length, replicate, slice_index_or, slice_set, bit_or, Option, Some, None}
-use Rattle.std.specs.List.{Contains}
+use Rattle.std.specs.Prelude.{◌≡◌, ◌≢◌, ◌⊎◌, ℕ, ◌+◌, ◌-◌, ◌^◌, ◌<◌, [], ◌∷◌, ◌++◌, length, replicate, slice_index_or, slice_set, bit_or, Option, Some, None}
 use Rattle.object_layout.specs.declared.names.Name.{Name}
 use Rattle.object_layout.specs.declared.TheConstants.{OBJECT_WORDS}
 use Rattle.object_layout.specs.declared.calls.Call.{Call}
@@ -20,9 +19,8 @@ use Rattle.yak_model.specs.Graph.{fields_at, slot_of}
 use Rattle.yak_model.specs.Spaces.{SpaceState, home_of}
 use Rattle.yak_model.specs.State.{IsDatum, object_of}
 use Rattle.yak_model.specs.Placed.{datum_word}
-use Rattle.yak_model.specs.Stands.{set_entries}
 use Rattle.yak_model.specs.Recorded.{Enters}
-use Rattle.remember_sets.specs.Filed.{BuffersHold, IsFiled, SetsHold, logged, with_sets}
+use Rattle.remember_sets.specs.Filed.{BuffersHold, ChainsBecome, PagesKnown, SetsHold, all_filed, logged, with_sets}
 
 -- The space of the object to which a value refers, if it refers to one.
 abbrev pub home_at : SpaceState → Datum → Option Space
@@ -30,12 +28,12 @@ home_at s (datum.Object n) = home_of s n
 home_at s datum.Null = None
 home_at s (datum.Int i) = None
 
--- The filed slots are as they were.
+-- The chains of recorded slots are as they were.
 pub record SameFiled (was now : Contents) : Type 0 where
-  pub entries : set_entries now.heads ≡ set_entries was.heads
+  pub firsts : now.firsts ≡ was.firsts
   pub sets : now.sets ≡ was.sets
 
--- The filed slots, the store buffers and the readers of regions are as they were.
+-- The chains, the store buffers and the readers of regions are as they were.
 pub record SameRecords (was now : Contents) : Type 0 where
   pub filed : SameFiled was now
   pub buffers : now.buffers ≡ was.buffers
@@ -78,10 +76,10 @@ pub record LogsInto (was now : Contents) (t slot : ℕ) : Type 0 where
   pub filed : SameFiled was now
   pub buffers : now.buffers ≡ slice_set was.buffers (t - 1) (buffer_of was t ++ slot ∷ [])
 
--- A thread's store buffer is full, the entries of all buffers are filed, and then the slot is the only entry.
+-- A thread's store buffer is full, the entries of all buffers are filed one after another, and then the slot is the only entry.
 pub record FilesBefore (m : Areas) (was now : Contents) (t slot : ℕ) : Type 0 where
   pub full : length (buffer_of was t) ≡ BUFFER_ENTRIES
-  pub filed : (a : ℕ) → IsFiled now a ↔ (IsFiled was a ⊎ Contains (logged was) a)
+  pub filed : ChainsBecome m was now (λ x slots. all_filed m was x (logged was) slots)
   pub buffers : now.buffers ≡ slice_set (replicate m.threads []) (t - 1) (slot ∷ [])
 
 -- A slot becomes an entry of a thread's store buffer.
@@ -116,7 +114,7 @@ IsLoaded was now thread word space said =
     ((length (stack_of was thread) < STACK_SLOTS) × (said ≡ Ok) × (now ≡ record (with_stack was thread (stack_of was thread ++ word ∷ [])) { readers = now.readers }) × MarksReader was now thread space)
     ⊎ ((length (stack_of was thread) ≡ STACK_SLOTS) × (said ≡ Refused StackFull) × (now ≡ was))
 
--- The contents with the filed slots and the store buffers of others.
+-- The contents with the chains and the store buffers of others.
 abbrev pub with_logs : Contents → Contents → Contents
 with_logs c d = record (with_sets c d) { buffers = d.buffers }
 
@@ -126,6 +124,6 @@ pub record IsStored (m : Areas) (was now : Contents) (t slot word : ℕ) (from t
   pub rest : now ≡ with_heap (with_logs was now) slot word
   pub sets : SetsHold m now
 
--- The filed slots and the store buffers are such that slots can be filed.
+-- The chains, the store buffers and the page table are such that slots can be filed.
 abbrev pub LogsHold : Areas → Contents → Type 0
-LogsHold m c = SetsHold m c × BuffersHold m c
+LogsHold m c = SetsHold m c × BuffersHold m c × PagesKnown m c

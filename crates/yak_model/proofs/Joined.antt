@@ -10,7 +10,7 @@ use Rattle.yak_model.proofs.Names.{get-same, get-other, same_or_other}
 use Rattle.heap_words.specs.declared.map.Areas.{Areas}
 use Rattle.heap_words.specs.Contents.{Contents, with_heap}
 use Rattle.yak_model.specs.State.{State, Thing, IsDatum, object_of, thing_of, view}
-use Rattle.yak_model.specs.Placed.{Places, datum_word, same_name, with_field}
+use Rattle.yak_model.specs.Placed.{datum_word, same_name}
 use Rattle.yak_model.specs.Placed as placed
 use Rattle.yak_model.specs.Stands.{Stands, StandsAs}
 use Rattle.yak_model.proofs.Placed.{same_name-true, same_name-self}

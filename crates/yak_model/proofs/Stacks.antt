@@ -63,6 +63,7 @@ stands-stacked m c s l t ws st h e fits le = record {
   pool = h.pool;
   currents = h.currents;
   sets = h.sets;
+  heads_closed = h.heads_closed;
   dense = h.dense;
 }
 

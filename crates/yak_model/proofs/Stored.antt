@@ -102,6 +102,7 @@ stands-store m c s l n o f v h here lt datum within =
       pool = h.pool;
       currents = h.currents;
       sets = h.sets;
+      heads_closed = h.heads_closed;
       dense = λ t d ht hm hd hg some.
           let w = h.dense t d ht hm hd hg some in
           let x : Space = Region t d in

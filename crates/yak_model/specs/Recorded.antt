@@ -1,5 +1,5 @@
 -- The references that cross into a region are recorded.
-use Rattle.std.specs.Prelude.{◌≡◌, ◌≢◌, ℕ, ◌+◌, ◌-◌, ◌≤◌, ◌<◌, ◌⊎◌, List, slice_index, slice_index_or, Some, length, take}
+use Rattle.std.specs.Prelude.{◌≡◌, ◌≢◌, ℕ, ◌+◌, ◌-◌, ◌≤◌, ◌<◌, ◌⊎◌, List, slice_index, slice_index_or, Some, length}
 use Rattle.std.specs.List.{Contains, flat_map}
 use Rattle.std.specs.Int.{IsBitSet}
 use Rattle.object_layout.specs.declared.names.Name.{Name}
@@ -13,15 +13,20 @@ use Rattle.epoch_lattice.specs.declared.Space.TheVariants.{Control, Region}
 use Rattle.yak_model.specs.declared.datum.Datum.TheVariants.{Null, Object}
 use Rattle.yak_model.specs.Spaces.{SpaceState}
 use Rattle.yak_model.specs.State.{Thing, State, stack, depth, view}
-use Rattle.yak_model.specs.Stands.{Stands, set_entries}
+use Rattle.yak_model.specs.Chains.{IsRegionOf, chain_of}
+use Rattle.yak_model.specs.Stands.{Stands}
 
 -- A reference from a place in one space into another one crosses where it enters a region from outside.
 abbrev pub Enters : Space → Space → Type 0
 Enters from to = (to ≢ Control) × (to ≢ from)
 
--- A slot is in the sets or in a store buffer.
-abbrev pub IsRecorded : List ℕ → List ℕ → List (List ℕ) → ℕ → Type 0
-IsRecorded heads sets buffers a = Contains (take (set_entries heads) sets) a ⊎ Contains (flat_map (λ (b : List ℕ). b) buffers) a
+-- A slot is in a region's chain or in a store buffer.
+abbrev pub IsRecordedFor : Areas → List (List ℕ) → List ℕ → List (List ℕ) → Space → ℕ → Type 0
+IsRecordedFor m firsts sets buffers x a = Contains (chain_of m firsts sets x) a ⊎ Contains (flat_map (λ (b : List ℕ). b) buffers) a
+
+-- A slot is in some region's chain or in a store buffer.
+abbrev pub IsRecorded : Areas → List (List ℕ) → List ℕ → List (List ℕ) → ℕ → Type 0
+IsRecorded m firsts sets buffers a = ((x : Space) × IsRegionOf m x × Contains (chain_of m firsts sets x) a) ⊎ Contains (flat_map (λ (b : List ℕ). b) buffers) a
 
 -- A heap word is a field of a present object.
 abbrev pub IsField : (Name → ℕ) → State → ℕ → Type 0
@@ -31,11 +36,11 @@ IsField at s a = (n : Name) × (o : Thing) × (f : ℕ) × (s.objects n ≡ Some
 abbrev pub IsReader : List (List ℕ) → ℕ → ℕ → ℕ → Type 0
 IsReader readers t u d = IsBitSet (slice_index (row readers (u - 1)) (d - 1)) (t - 1)
 
--- Every field whose reference crosses is recorded, and what is recorded is a field; a thread whose stack refers into another
+-- Every field whose reference crosses is recorded for the region that it enters, and what is recorded is a field; a thread whose stack refers into another
 -- one's region is one of its readers, and a region that isn't open has none.
 pub record RecordedAs (m : Areas) (c : Contents) (s : State) (at : Name → ℕ) : Type 0 where
-  pub crossing : (n x : Name) (o p : Thing) (f : ℕ) → s.objects n ≡ Some o → f < length o.fields → slice_index_or o.fields f Null ≡ Object x → s.objects x ≡ Some p → Enters o.home p.home → IsRecorded c.heads c.sets c.buffers (at n + OBJECT_WORDS + f)
-  pub fields : (a : ℕ) → IsRecorded c.heads c.sets c.buffers a → IsField at s a
+  pub crossing : (n x : Name) (o p : Thing) (f : ℕ) → s.objects n ≡ Some o → f < length o.fields → slice_index_or o.fields f Null ≡ Object x → s.objects x ≡ Some p → Enters o.home p.home → IsRecordedFor m c.firsts c.sets c.buffers p.home (at n + OBJECT_WORDS + f)
+  pub fields : (a : ℕ) → IsRecorded m c.firsts c.sets c.buffers a → IsField at s a
   pub read : (t u d k : ℕ) (x : Name) (p : Thing) → 1 ≤ t → t ≤ m.threads → k < length (stack s t) → slice_index_or (stack s t) k Null ≡ Object x → s.objects x ≡ Some p → p.home ≡ Region u d → u ≢ t → IsReader c.readers t u d
   pub closed : (u d : ℕ) → 1 ≤ u → u ≤ m.threads → d ≤ max_depth m → depth s u < d → slice_index (row c.readers (u - 1)) (d - 1) ≡ 0
 

@@ -4,7 +4,7 @@ use Rattle.std.specs.List.{All, AllPairs, Contains}
 use Rattle.object_layout.specs.declared.names.Name.{Name}
 use Rattle.object_layout.specs.declared.TheConstants.{MAX_SERIAL, OBJECT_WORDS}
 use Rattle.heap_words.specs.declared.map.Areas.{Areas}
-use Rattle.heap_words.specs.Map.{page_words, max_depth, heap_length}
+use Rattle.heap_words.specs.Map.{HasRegion, page_words, max_depth}
 use Rattle.heap_words.specs.Cells.{row}
 use Rattle.heap_words.specs.Contents.{Contents, InLimits}
 use Rattle.epoch_lattice.specs.declared.Space.{Space}
@@ -13,6 +13,7 @@ use Rattle.epoch_lattice.specs.Lattice.{IsValid, inner_of, space_index}
 use Rattle.yak_model.specs.Graph.{standard_limits}
 use Rattle.yak_model.specs.Spaces.{SpaceState, home_of, content_at}
 use Rattle.yak_model.specs.State.{view, Thing, State, IsOpen, IsClosed}
+use Rattle.yak_model.specs.Chains.{AreChains, chain_of, head_word}
 use Rattle.yak_model.specs.Placed.{Places, HeapStands, datum_word, space_word, used_mark}
 
 -- Each page is free, or its space is open.
@@ -23,18 +24,15 @@ SpacesOpen m table depths = (p : ℕ) → p < m.pages → (space_word table p �
 abbrev pub NamesMade : (Name → Option Thing) → List ℕ → Type 0
 NamesMade objects made = (n : Name) (o : Thing) → objects n ≡ Some o → ((n.thread ≡ 0) × (n.serial ≡ 0)) ⊎ ((1 ≤ n.thread) × (n.thread ≤ length made) × (1 ≤ n.serial) × (n.serial ≤ slice_index made (n.thread - 1)))
 
--- The first words: the claim counter, the pool's length and the number of recorded slots. The words after them are unused.
+-- The first words: the claim counter and the pool's length. The words after them are unused.
 abbrev pub claim_counter : List ℕ → ℕ
 claim_counter heads = slice_index heads 1
 
 abbrev pub pool_length : List ℕ → ℕ
 pool_length heads = slice_index heads 2
 
-abbrev pub set_entries : List ℕ → ℕ
-set_entries heads = slice_index heads 3
-
 abbrev pub unused_heads : List ℕ → List ℕ
-unused_heads heads = drop 4 heads
+unused_heads heads = drop 3 heads
 
 -- Words that have no use yet are 0: the last of the first words, and the last of each thread's block.
 pub record RestsZero (first : List ℕ) (rests : List (List ℕ)) : Type 0 where
@@ -61,11 +59,13 @@ pub record CurrentsStand (m : Areas) (currents : List (List ℕ)) (table : List 
   pub belong : (t d : ℕ) → 1 ≤ t → t ≤ m.threads → d < length (row currents (t - 1)) → current currents t d ≢ 0 → (current currents t d ≤ m.pages) × (space_word table (current currents t d - 1) ≡ space_index (inner_of t d) + 1)
   pub once : (t d u e : ℕ) → 1 ≤ t → t ≤ m.threads → 1 ≤ u → u ≤ m.threads → current currents t d ≢ 0 → current currents t d ≡ current currents u e → (t ≡ u) × (d ≡ e)
 
--- The recorded slots are a list without repeats, and beside it stands the place of each slot in the list, plus 1.
-pub record SetsStand (m : Areas) (heads sets : List ℕ) : Type 0 where
-  pub within : set_entries heads ≤ heap_length m
-  pub listed : (k : ℕ) → k < set_entries heads → (slice_index sets k < heap_length m) × (slice_index sets (heap_length m + slice_index sets k) ≡ k + 1)
-  pub placed : (a : ℕ) → a < heap_length m → slice_index sets (heap_length m + a) ≢ 0 → (slice_index sets (heap_length m + a) ≤ set_entries heads) × (slice_index sets (slice_index sets (heap_length m + a) - 1) ≡ a)
+-- The recorded slots are in chains, one for each region.
+abbrev pub SetsStand : Areas → List (List ℕ) → List ℕ → Type 0
+SetsStand m firsts sets = AreChains m firsts sets (chain_of m firsts sets)
+
+-- The chain of a region that isn't open is empty.
+abbrev pub HeadsClosed : Areas → List (List ℕ) → List ℕ → Type 0
+HeadsClosed m firsts depths = (u d : ℕ) → HasRegion m u d → slice_index depths (u - 1) < d → head_word firsts (Region u d) ≡ 0
 
 -- The pages of a space.
 abbrev pub pages_of : List (List ℕ) → Space → ℕ
@@ -99,7 +99,8 @@ pub record StandsAs (m : Areas) (c : Contents) (s : State) (l : Places) : Type 0
   pub zero : RestsZero c.heads c.rests
   pub pool : PoolStands m c.heads c.pool c.table
   pub currents : CurrentsStand m c.currents c.table
-  pub sets : SetsStand m c.heads c.sets
+  pub sets : SetsStand m c.firsts c.sets
+  pub heads_closed : HeadsClosed m c.firsts s.depths
   pub dense : RegionsDense m c.table c.currents l.pages s.objects
 
 -- Exactly the objects that have a home have a content, every home is a valid space, and the limits are the heap's.

@@ -3,13 +3,17 @@ use Rattle.std.proofs.Math.Logic.{∥∥₁_elim, ∥∥₁_map}
 use Rattle.std.proofs.Common.{length, ◌≡◌, ℕ, ◌≤◌, List, sym, ap, subst, ◌∙◌, arith}
 use Rattle.heap_words.specs.Contents.{Contents, contents, depth_of, stack_of}
 use Rattle.heap_words.specs.declared.map.Areas.{Areas}
-use Rattle.yak_model.specs.Spaces.{SpaceState}
-use Rattle.yak_model.specs.Stands.{Stands, set_entries}
-use Rattle.remember_sets.specs.Filed.{SetsHold}
+use Rattle.epoch_lattice.specs.declared.Space.{Space}
+use Rattle.epoch_lattice.specs.declared.Space.TheVariants.{Region}
+use Rattle.yak_model.specs.Spaces.{SpaceState, innermost}
+use Rattle.yak_model.specs.Stands.{Stands, pages_of}
+use Rattle.yak_model.proofs.Chains.{linked-prop}
+use Rattle.remember_sets.specs.Filed.{SetsHold, chain}
 use Rattle.relocation.specs.Moves.{move_at, words_moved}
 use Rattle.escape_closure.specs.Ends.{PlanReady, References}
 use Rattle.escape_closure.proofs.Costs.{few_words, words_mid}
 use Rattle.escape_closure.proofs.Carries.{carried, carry_ready}
+use Rattle.escape_closure.proofs.Written.{region_is}
 use Rattle.escape_closure.proofs.carrying.carry_out.Goals as goal
 
 pub correct_references-requires-clause-ready : goal.correct_references-requires-clause-ready
@@ -29,7 +33,7 @@ drop_slots_in-requires-clause-sets g c =
     let mid = contents m (g.W.Words.words c.correct_references.new.words) in
     let same : start ≡ old = ap (contents m) c.depth-innermost.ensures.words in
     let told = refer m old start mid t count same c.correct_references.ensures.references in
-    ∥∥₁_elim c.requires.ready (hlevel props) (λ q. subst (SetsHold m) (sym (told q.0 q.1 q.2 q.4.ready).frame) q.4.sets)
+    ∥∥₁_elim c.requires.ready (hlevel (props, linked-prop)) (λ q. subst (SetsHold m) (sym (told q.0 q.1 q.2 q.4.ready).frame) q.4.sets)
 
 pub move_all-requires-clause-lawful : goal.move_all-requires-clause-lawful
 move_all-requires-clause-lawful g c =
@@ -61,7 +65,7 @@ returns-clause-carried g c before s stands tight r =
     let refs = refer m old start mid t count same c.correct_references.ensures.references before s stands r.ready in
     let from : depth_of old t ≡ depth_of before t = ap (λ (x : Contents). depth_of x t) r.ready.frame in
     let low : 1 ≤ depth_of before t = omega (arith, c.requires.depth, from) in
-    carried m before old s stands t count tight c.requires.sound.areas c.requires.thread low r mid next last c.depth-innermost.result (c.depth-innermost.ensures.depth ∙ from) refs c.drop_slots_in.ensures.filed c.drop_slots_in.ensures.sets c.drop_slots_in.ensures.others c.move_all.ensures.objects c.move_all.ensures.only_heap
+    carried m before old s stands t count tight c.requires.sound.areas c.requires.thread low r mid next last c.depth-innermost.result (c.depth-innermost.ensures.depth ∙ from) refs c.drop_slots_in.ensures.dropped c.drop_slots_in.ensures.sets c.drop_slots_in.ensures.others c.move_all.ensures.objects c.move_all.ensures.only_heap
 
 pub returns-clause-reads : goal.returns-clause-reads
 returns-clause-reads g c before s stands tight r =
@@ -80,10 +84,12 @@ returns-clause-reads g c before s stands tight r =
     let ready = subst (λ (x : Contents). PlanReady m before x s stands t count) (sym same) r.ready in
     let first = c.correct_references.ensures.reads before s stands ready in
     let stack = ap (λ (x : Contents). length (stack_of x t)) same in
-    let entries = ap (λ (x : Contents). set_entries x.heads) same in
-    let mid_entries = ap (λ (x : Contents). set_entries x.heads) refs.frame in
+    let x : Space = innermost s.graph t in
+    let slots = ap (λ (y : Contents). length (chain m y x)) same in
+    let region : x ≡ Region t c.depth-innermost.result = region_is m before s stands t c.depth-innermost.result c.requires.thread (c.depth-innermost.ensures.depth ∙ from) (omega (arith, low, c.depth-innermost.ensures.depth, from)) in
+    let pages : pages_of mid.table (Region t c.depth-innermost.result) ≡ pages_of old.table x = ap (λ (y : Contents). pages_of y.table (Region t c.depth-innermost.result)) refs.frame ∙ ap (pages_of old.table) (sym region) in
     let heap : next.heap ≡ mid.heap = ap (λ (x : Contents). x.heap) c.drop_slots_in.ensures.others in
     let scratch : next.scratch ≡ old.scratch = ap (λ (x : Contents). x.scratch) c.drop_slots_in.ensures.others ∙ ap (λ (x : Contents). x.scratch) refs.frame in
     let moved : words_moved next.heap count (move_at next.scratch) ≡ words_moved old.heap count (move_at old.scratch) = ap (λ (h : List ℕ). words_moved h count (move_at next.scratch)) heap ∙ ap (λ (x : List ℕ). words_moved mid.heap count (move_at x)) scratch ∙ words_mid m before old s stands t count tight areas c.requires.thread low r mid refs in
     let few = few_words m before old s stands t count tight areas c.requires.thread low r in
-    omega (arith, first, stack, entries, mid_entries, moved, few.0, few.1, c.depth-innermost.ensures.reads, c.drop_slots_in.ensures.reads, c.move_all.ensures.reads)
+    omega (arith, first, stack, slots, pages, moved, few.0, few.1, c.depth-innermost.ensures.reads, c.drop_slots_in.ensures.reads, c.move_all.ensures.reads)

@@ -9,17 +9,14 @@ use Rattle.escape_closure.proofs.ending.settle_targets.Goals as goal
 
 pub raise_slots-slots-requires-clause-some : goal.raise_slots-slots-requires-clause-some
 raise_slots-slots-requires-clause-some g c =
-    ∥∥₁_map c.requires.some (λ q.
-    let m = c.args.map in
-    let index : space_index q.0.region ≡ c.index_of-region.result = ap space_index q.1.region ∙ sym c.index_of-region.ensures.index in
-    (q.0, index, q.1.raising, q.1.recorded))
+    ∥∥₁_map c.requires.some (λ q. (q.0, q.1.region, q.1.raising, q.1.recorded))
 
 pub raise_stack-own-requires-clause-some : goal.raise_stack-own-requires-clause-some
 raise_stack-own-requires-clause-some g c =
     ∥∥₁_map c.requires.some (λ q.
     let m = c.args.map in
     let index : space_index q.0.region ≡ c.index_of-region.result = ap space_index q.1.region ∙ sym c.index_of-region.ensures.index in
-    let a = c.raise_slots-slots.ensures.raising q.0 index q.1.raising q.1.recorded in
+    let a = c.raise_slots-slots.ensures.raising q.0 q.1.region q.1.raising q.1.recorded in
     let is : c.parent.result ≡ parent_of q.0.region = c.parent.ensures.parent ∙ ap parent_of (sym q.1.region) in
     let due : IsStackDue q.0 (c.args.thread - 1) c.parent.result = own_due q.0 (c.args.thread - 1) c.parent.result (omega (arith, q.1.thread_is)) is in
     (q.0, index, a.0.raising, due))
@@ -29,7 +26,7 @@ raise_readers-all-requires-clause-some g c =
     ∥∥₁_map c.requires.some (λ q.
     let m = c.args.map in
     let index : space_index q.0.region ≡ c.index_of-region.result = ap space_index q.1.region ∙ sym c.index_of-region.ensures.index in
-    let a = c.raise_slots-slots.ensures.raising q.0 index q.1.raising q.1.recorded in
+    let a = c.raise_slots-slots.ensures.raising q.0 q.1.region q.1.raising q.1.recorded in
     let is : c.parent.result ≡ parent_of q.0.region = c.parent.ensures.parent ∙ ap parent_of (sym q.1.region) in
     let due : IsStackDue q.0 (c.args.thread - 1) c.parent.result = own_due q.0 (c.args.thread - 1) c.parent.result (omega (arith, q.1.thread_is)) is in
     let s2 = contents m (g.W.Words.words c.raise_stack-own.new.words) in
@@ -43,7 +40,7 @@ drain-requires-clause-some g c =
     ∥∥₁_map c.requires.some (λ q.
     let m = c.args.map in
     let index : space_index q.0.region ≡ c.index_of-region.result = ap space_index q.1.region ∙ sym c.index_of-region.ensures.index in
-    let a = c.raise_slots-slots.ensures.raising q.0 index q.1.raising q.1.recorded in
+    let a = c.raise_slots-slots.ensures.raising q.0 q.1.region q.1.raising q.1.recorded in
     let is : c.parent.result ≡ parent_of q.0.region = c.parent.ensures.parent ∙ ap parent_of (sym q.1.region) in
     let due : IsStackDue q.0 (c.args.thread - 1) c.parent.result = own_due q.0 (c.args.thread - 1) c.parent.result (omega (arith, q.1.thread_is)) is in
     let s2 = contents m (g.W.Words.words c.raise_stack-own.new.words) in
@@ -57,7 +54,7 @@ pub returns-clause-targets : goal.returns-clause-targets
 returns-clause-targets g c e ends =
     let m = c.args.map in
     let index : space_index e.region ≡ c.index_of-region.result = ap space_index ends.region ∙ sym c.index_of-region.ensures.index in
-    let a = c.raise_slots-slots.ensures.raising e index ends.raising ends.recorded in
+    let a = c.raise_slots-slots.ensures.raising e ends.region ends.raising ends.recorded in
     let is : c.parent.result ≡ parent_of e.region = c.parent.ensures.parent ∙ ap parent_of (sym ends.region) in
     let due : IsStackDue e (c.args.thread - 1) c.parent.result = own_due e (c.args.thread - 1) c.parent.result (omega (arith, ends.thread_is)) is in
     let s2 = contents m (g.W.Words.words c.raise_stack-own.new.words) in

@@ -3,7 +3,8 @@ use Rattle.heap_words.specs.Cells.{row}
 use Rattle.heap_words.specs.Contents.{Contents, contents, readers_of, stack_of, with_stack}
 use Rattle.heap_words.proofs.Contents.{length-stacks}
 use Rattle.yak_model.specs.Plans.{forward}
-use Rattle.yak_model.specs.Stands.{set_entries}
+use Rattle.epoch_lattice.specs.declared.Space.TheVariants.{Region}
+use Rattle.remember_sets.specs.Filed.{chain}
 use Rattle.relocation.specs.Moves.{Numbered, move_at}
 use Rattle.escape_closure.specs.Referring.{ReadersCorrected, SlotsCorrected, SlotsReady, corrected_stack}
 use Rattle.escape_closure.proofs.Corrects.{outside_done, ready_stacked}
@@ -46,7 +47,7 @@ correct_slots-requires-clause-slots g c =
     let here = ap (contents m) c.get_readers-readers.ensures.words ∙ c.correct_stack.ensures.corrected in
     let only : mid ≡ record old { stacks = mid.stacks } = c.correct_readers.ensures.corrected.frame ∙ ap (λ (x : Contents). record x { stacks = mid.stacks }) here in
     let scratch : mid.scratch ≡ old.scratch = ap (λ (x : Contents). x.scratch) only in
-    subst (λ (s : List ℕ). SlotsReady m mid count (move_at s)) (sym scratch) (ready_stacked m old mid count (move_at old.scratch) only c.requires.slots)
+    subst (λ (s : List ℕ). SlotsReady m mid (Region c.args.thread c.args.depth) count (move_at s)) (sym scratch) (ready_stacked m old mid (Region c.args.thread c.args.depth) count (move_at old.scratch) only c.requires.slots)
 
 pub returns-clause-corrected : goal.returns-clause-corrected
 returns-clause-corrected g c =
@@ -64,8 +65,8 @@ returns-clause-corrected g c =
     let word : c.get_readers-readers.result ≡ readers_of old t c.args.depth = c.get_readers-readers.ensures.value ∙ ap (λ (x : Contents). readers_of x t c.args.depth) c.correct_stack.ensures.corrected in
     let many = length-stacks m (g.W.Words.words c.args.words.now) in
     let readers : ReadersCorrected f own mid t c.get_readers-readers.result 0 m.threads = subst (λ (s : List ℕ). ReadersCorrected (forward count (move_at s)) own mid t c.get_readers-readers.result 0 m.threads) first c.correct_readers.ensures.corrected in
-    let slots : SlotsCorrected m f mid new c.index_of.result (set_entries mid.heads) = subst (λ (s : List ℕ). SlotsCorrected m (forward count (move_at s)) mid new c.index_of.result (set_entries mid.heads)) second c.correct_slots.ensures.corrected in
-    outside_done m f old own mid new t c.args.depth c.get_readers-readers.result c.index_of.result c.requires.region.0 (omega (arith, many, c.requires.region)) here word readers c.index_of.ensures.index slots
+    let slots : SlotsCorrected m f mid new (Region t c.args.depth) (length (chain m mid (Region t c.args.depth))) = subst (λ (s : List ℕ). SlotsCorrected m (forward count (move_at s)) mid new (Region t c.args.depth) (length (chain m mid (Region t c.args.depth)))) second c.correct_slots.ensures.corrected in
+    outside_done m f old own mid new t c.args.depth c.get_readers-readers.result c.requires.region.0 (omega (arith, many, c.requires.region)) here word readers slots
 
 pub returns-clause-plan : goal.returns-clause-plan
 returns-clause-plan g c =
@@ -85,5 +86,5 @@ returns-clause-reads g c =
     let mid = contents m (g.W.Words.words c.correct_readers.new.words) in
     let here = ap (contents m) c.get_readers-readers.ensures.words ∙ c.correct_stack.ensures.corrected in
     let only : mid ≡ record old { stacks = mid.stacks } = c.correct_readers.ensures.corrected.frame ∙ ap (λ (x : Contents). record x { stacks = mid.stacks }) here in
-    let entries : set_entries mid.heads ≡ set_entries old.heads = ap (λ (x : Contents). set_entries x.heads) only in
-    omega (arith, c.correct_stack.ensures.reads, c.get_readers-readers.ensures.reads, c.correct_readers.ensures.reads, c.correct_slots.ensures.reads, entries)
+    let slots : length (chain m mid (Region c.args.thread c.args.depth)) ≡ length (chain m old (Region c.args.thread c.args.depth)) = ap (λ (x : Contents). length (chain m x (Region c.args.thread c.args.depth))) only in
+    omega (arith, c.correct_stack.ensures.reads, c.get_readers-readers.ensures.reads, c.correct_readers.ensures.reads, c.correct_slots.ensures.reads, slots)

@@ -1,107 +1,141 @@
-use Rattle.std.proofs.Common.{◌≡◌, ◌+◌, ◌/◌, ◌<◌, ℕ, List, arith, inl, inr, ap, sym, subst, ◌∙◌, get_or}
-use Rattle.std.proofs.lemmas.Bool.{cases_eq}
-use Rattle.heap_words.specs.Map.{page_words}
-use Rattle.heap_words.specs.Contents.{Contents, contents, with_heap}
+use Rattle.std.proofs.Common.{◌≡◌, ◌≢◌, ◌+◌, ◌<◌, ℕ, List, Option, length, arith, ap, sym, subst, ◌∙◌, get_or}
+use Rattle.std.specs.List.{AllPairs, Contains}
+use Rattle.std.specs.Option.{MatchOption}
+use Rattle.object_layout.specs.declared.values.Addr.{Addr}
+use Rattle.heap_words.specs.Map.{heap_length}
+use Rattle.heap_words.specs.Contents.{Contents, contents}
 use Rattle.heap_words.proofs.Contents.{length-heap}
-use Rattle.yak_model.specs.Placed.{space_word}
 use Rattle.yak_model.specs.Plans.{forward}
-use Rattle.yak_model.specs.Stands.{set_entries}
-use Rattle.relocation.specs.Moves.{Numbered, corrected_word, move_at}
+use Rattle.relocation.specs.Moves.{Numbered, move_at}
+use Rattle.remember_sets.specs.Filed.{SetsHold, chain}
 use Rattle.escape_closure.specs.Referring.{SlotsCorrected}
-use Rattle.escape_closure.proofs.Corrects.{numbered_outside, outside_now, outside_same, slot_same, slots_more, slots_none, slots_skip, word_same}
+use Rattle.escape_closure.proofs.Corrects.{numbered_outside, slot_done, slots_none, word_same}
+use Rattle.escape_closure.proofs.Walked.{at-end, at-slot, begins, comes-to, found, goes-on, stands-at, walked}
+use Rattle.escape_closure.proofs.references.correct_slots.Given as given
 use Rattle.escape_closure.proofs.references.correct_slots.Goals as goal
+use Rattle.escape_closure.proofs.references.correct_slots.Goals.{After-correct_slot, After-next_slot-next}
 
-pub loop-i-init : goal.loop-i-init
-loop-i-init g c =
+pub first_slot-next-requires-clause-sets : goal.first_slot-next-requires-clause-sets
+first_slot-next-requires-clause-sets g c = c.requires.slots.sets
+
+pub loop-next-init : goal.loop-next-init
+loop-next-init g c =
     let m = c.args.map in
     let old = contents m (g.W.Words.words c.args.words.now) in
+    let region = c.args.region in
+    let slots : List ℕ = chain m old region in
     let f = forward c.args.plan.now.count (move_at old.scratch) in
-    let same : contents m (g.W.Words.words c.get_head-entries.new.words) ≡ old = ap (contents m) c.get_head-entries.ensures.words in
+    let once : AllPairs (λ (x y : ℕ). x ≢ y) slots = c.requires.slots.sets.once region c.requires.region in
+    let told = begins c.first_slot-next.result slots c.first_slot-next.ensures.first in
+    let none : walked c.first_slot-next.result slots ≡ 0 = comes-to c.first_slot-next.result slots 0 once told in
     record {
-      sound = rw c.get_head-entries.ensures.words c.requires.sound;
-      base = c.get_head-entries.ensures.base;
-      reads = omega (arith, c.get_head-entries.ensures.reads);
-      corrected = subst (λ (x : Contents). SlotsCorrected m f old x c.args.region 0) (sym same) (slots_none m f old c.args.region);
-      plan = subst (λ (x : Contents). Numbered m x.heap c.args.plan.now.count (move_at old.scratch)) (sym same) c.requires.plan;
+      sound = rw c.first_slot-next.ensures.words c.requires.sound;
+      base = c.first_slot-next.ensures.base;
+      reads = omega (arith, c.first_slot-next.ensures.reads);
+      at = stands-at c.first_slot-next.result slots 0 once told;
+      in_heap = c.first_slot-next.ensures.in_heap;
+      corrected = rw c.first_slot-next.ensures.words (subst (λ n. SlotsCorrected m f old old region n) (sym none) (slots_none m f old region));
+      plan = rw c.first_slot-next.ensures.words c.requires.plan;
     }
 
 pub correct_slot-requires-clause-plan : goal.correct_slot-requires-clause-plan
 correct_slot-requires-clause-plan g c =
     let m = c.args.map in
-    let mid = contents m (g.W.Words.words c.loop-i.words) in
-    subst (λ (s : List ℕ). Numbered m mid.heap c.args.plan.now.count (move_at s)) (sym (ap (λ (x : Contents). x.scratch) c.loop-i.invariant.corrected.frame)) c.loop-i.invariant.plan
-
-pub correct_slot-requires-clause-entry : goal.correct_slot-requires-clause-entry
-correct_slot-requires-clause-entry g c =
-    let heads = ap (λ (x : Contents). set_entries x.heads) c.loop-i.invariant.corrected.frame in
-    omega (arith, heads, c.get_head-entries.ensures.value, c.loop-i-test.true)
-
-pub correct_slot-requires-clause-entries : goal.correct_slot-requires-clause-entries
-correct_slot-requires-clause-entries g c =
-    let heads = ap (λ (x : Contents). set_entries x.heads) c.loop-i.invariant.corrected.frame in
-    omega (arith, heads, c.requires.slots.within)
+    let mid = contents m (g.W.Words.words c.loop-next.words) in
+    subst (λ (s : List ℕ). Numbered m mid.heap c.args.plan.now.count (move_at s)) (sym (ap (λ (x : Contents). x.scratch) c.loop-next.invariant.corrected.frame)) c.loop-next.invariant.plan
 
 pub correct_slot-requires-clause-within : goal.correct_slot-requires-clause-within
-correct_slot-requires-clause-within g c =
-    let m = c.args.map in
-    let i = c.loop-i.i in
-    let same = ap (λ (x : Contents). get_or x.sets i 0) c.loop-i.invariant.corrected.frame in
-    let within = c.requires.slots.slots i (omega (arith, c.get_head-entries.ensures.value, c.loop-i-test.true)) in
-    omega (arith, same, within)
+correct_slot-requires-clause-within g c = subst (λ (x : Option Addr). MatchOption x (Unit {0}) (λ (a : Addr). a.0 < heap_length c.args.map)) c.in-Some.is c.loop-next.invariant.in_heap
 
 pub correct_slot-requires-clause-lead : goal.correct_slot-requires-clause-lead
 correct_slot-requires-clause-lead g c b e =
     let m = c.args.map in
     let ws = g.W.Words.words c.args.words.now in
     let old = contents m ws in
-    let mid = contents m (g.W.Words.words c.loop-i.words) in
-    let i = c.loop-i.i in
+    let mid = contents m (g.W.Words.words c.loop-next.words) in
+    let slots : List ℕ = chain m old c.args.region in
     let count = c.args.plan.now.count in
-    let f = forward count (move_at old.scratch) in
-    let lt : i < set_entries old.heads = omega (arith, c.get_head-entries.ensures.value, c.loop-i-test.true) in
-    let slot = slot_same m f old mid c.args.region i count (move_at old.scratch) c.requires.slots (length-heap m ws c.requires.sound.whole) lt c.loop-i.invariant.corrected in
-    let word = word_same m f old mid c.args.region i count (move_at old.scratch) c.requires.slots (length-heap m ws c.requires.sound.whole) lt c.loop-i.invariant.corrected in
-    c.requires.slots.lead i b lt (sym word ∙ ap (λ a. get_or mid.heap a 0) (sym slot) ∙ e)
+    let i : ℕ = walked c.loop-next.next slots in
+    let at = at-slot c.loop-next.next c.in-Some.slot slots c.in-Some.is c.loop-next.invariant.at in
+    let word = word_same m (forward count (move_at old.scratch)) old mid c.args.region i count (move_at old.scratch) c.requires.region c.requires.slots (length-heap m ws c.requires.sound.whole) at.0 c.loop-next.invariant.corrected in
+    c.requires.slots.lead i b at.0 (sym word ∙ ap (λ a. get_or mid.heap a 0) at.1 ∙ e)
 
-pub loop-i-preserved : goal.loop-i-preserved
-loop-i-preserved g c =
+-- the slots so far and this one
+more : (g : given.Over) (c : After-correct_slot g) → (let m = c.args.map in let old = contents m (g.W.Words.words c.args.words.now) in SlotsCorrected m (forward c.args.plan.now.count (move_at old.scratch)) old (contents m (g.W.Words.words c.correct_slot.new.words)) c.args.region (walked c.loop-next.next (chain m old c.args.region) + 1))
+more g c =
     let m = c.args.map in
     let ws = g.W.Words.words c.args.words.now in
     let old = contents m ws in
-    let mid = contents m (g.W.Words.words c.loop-i.words) in
+    let mid = contents m (g.W.Words.words c.loop-next.words) in
     let new = contents m (g.W.Words.words c.correct_slot.new.words) in
-    let i = c.loop-i.i in
-    let region = c.args.region in
+    let slots : List ℕ = chain m old c.args.region in
+    let count = c.args.plan.now.count in
+    let at = at-slot c.loop-next.next c.in-Some.slot slots c.in-Some.is c.loop-next.invariant.at in
+    let scratch : mid.scratch ≡ old.scratch = ap (λ (x : Contents). x.scratch) c.loop-next.invariant.corrected.frame in
+    slot_done m (forward count (move_at old.scratch)) old mid c.args.region (walked c.loop-next.next slots) count (move_at old.scratch) c.requires.region c.requires.slots (length-heap m ws c.requires.sound.whole) at.0 c.loop-next.invariant.corrected new (forward count (move_at mid.scratch)) c.in-Some.slot.0 (ap (λ (s : List ℕ). forward count (move_at s)) scratch) (sym at.1) c.correct_slot.ensures.outside c.correct_slot.ensures.inside
+
+pub next_slot-next-requires-clause-sets : goal.next_slot-next-requires-clause-sets
+next_slot-next-requires-clause-sets g c = subst (SetsHold c.args.map) (sym (more g (goal.at.next_slot-next-requires-clause-sets g c).After-correct_slot).frame) c.requires.slots.sets
+
+pub next_slot-next-requires-clause-filed : goal.next_slot-next-requires-clause-filed
+next_slot-next-requires-clause-filed g c =
+    let m = c.args.map in
+    let old = contents m (g.W.Words.words c.args.words.now) in
+    let here : Contains (chain m old c.args.region) c.in-Some.slot.0 = found c.loop-next.next c.in-Some.slot (chain m old c.args.region) c.in-Some.is c.loop-next.invariant.at in
+    (c.args.region, c.requires.region, subst (λ (x : Contents). Contains (chain m x c.args.region) c.in-Some.slot.0) (sym (more g (goal.at.next_slot-next-requires-clause-filed g c).After-correct_slot).frame) here)
+
+-- the walk a slot further
+next : (g : given.Over) (c : After-next_slot-next g) → chain c.args.map (contents c.args.map (g.W.Words.words c.correct_slot.new.words)) c.args.region ≡ chain c.args.map (contents c.args.map (g.W.Words.words c.args.words.now)) c.args.region → (let slots : List ℕ = chain c.args.map (contents c.args.map (g.W.Words.words c.args.words.now)) c.args.region in let k : ℕ = walked c.loop-next.next slots + 1 in MatchOption c.next_slot-next.result (k ≡ length slots) (λ (b : Addr). (k < length slots) × (get_or slots k 0 ≡ b.0)))
+next g c same =
+    let m = c.args.map in
+    let old = contents m (g.W.Words.words c.args.words.now) in
+    let slots : List ℕ = chain m old c.args.region in
+    goes-on c.loop-next.next c.next_slot-next.result c.in-Some.slot slots _ c.in-Some.is c.loop-next.invariant.at same (c.next_slot-next.ensures.next c.args.region c.requires.region)
+
+pub loop-next-smaller : goal.loop-next-smaller
+loop-next-smaller g c =
+    let m = c.args.map in
+    let slots : List ℕ = chain m (contents m (g.W.Words.words c.args.words.now)) c.args.region in
+    let once : AllPairs (λ (x y : ℕ). x ≢ y) slots = c.requires.slots.sets.once c.args.region c.requires.region in
+    let at = at-slot c.loop-next.next c.in-Some.slot slots c.in-Some.is c.loop-next.invariant.at in
+    let same = ap (λ (x : Contents). chain m x c.args.region) (more g (goal.at.loop-next-smaller g c).After-correct_slot).frame in
+    omega (arith, comes-to c.next_slot-next.result slots (walked c.loop-next.next slots + 1) once (next g c same), at.0)
+
+pub loop-next-preserved : goal.loop-next-preserved
+loop-next-preserved g c =
+    let m = c.args.map in
+    let old = contents m (g.W.Words.words c.args.words.now) in
+    let new = contents m (g.W.Words.words c.correct_slot.new.words) in
+    let slots : List ℕ = chain m old c.args.region in
     let count = c.args.plan.now.count in
     let moves = move_at old.scratch in
     let f = forward count moves in
-    let lt : i < set_entries old.heads = omega (arith, c.get_head-entries.ensures.value, c.loop-i-test.true) in
-    let long = length-heap m ws c.requires.sound.whole in
-    let was : SlotsCorrected m f old mid region i = c.loop-i.invariant.corrected in
-    let scratch : mid.scratch ≡ old.scratch = ap (λ (x : Contents). x.scratch) was.frame in
-    let done : SlotsCorrected m f old new region (i + 1) = elim (cases_eq (space_word mid.table (get_or mid.sets i 0 / page_words m)) (region + 1)) [
-      | inl own ↦
-          let same : new ≡ mid = c.correct_slot.ensures.inside (λ out. out own) in
-          subst (λ (x : Contents). SlotsCorrected m f old x region (i + 1)) (sym same) (slots_skip m f old mid region i count moves c.requires.slots long lt was (λ out. outside_now m f old mid region i count moves c.requires.slots long lt was out own))
-      | inr out ↦
-          let made : new ≡ with_heap mid (get_or mid.sets i 0) (corrected_word f (get_or mid.heap (get_or mid.sets i 0) 0)) = c.correct_slot.ensures.outside out ∙ ap (λ (s : List ℕ). with_heap mid (get_or mid.sets i 0) (corrected_word (forward count (move_at s)) (get_or mid.heap (get_or mid.sets i 0) 0))) scratch in
-          slots_more m f old mid region i count moves c.requires.slots long lt was new made (outside_same m f old mid region i count moves c.requires.slots long lt was out)
-    ] in
+    let once : AllPairs (λ (x y : ℕ). x ≢ y) slots = c.requires.slots.sets.once c.args.region c.requires.region in
+    let k : ℕ = walked c.loop-next.next slots in
+    let at = at-slot c.loop-next.next c.in-Some.slot slots c.in-Some.is c.loop-next.invariant.at in
+    let done = more g (goal.at.loop-next-preserved g c).After-correct_slot in
+    let told = next g c (ap (λ (x : Contents). chain m x c.args.region) done.frame) in
+    let to : walked c.next_slot-next.result slots ≡ k + 1 = comes-to c.next_slot-next.result slots (k + 1) once told in
     record {
-      sound = c.correct_slot.ensures.sound;
-      base = c.correct_slot.ensures.base ∙ c.loop-i.invariant.base;
-      reads = omega (arith, c.correct_slot.ensures.reads, c.loop-i.invariant.reads);
-      corrected = done;
-      plan = numbered_outside m f old new region (i + 1) count moves c.requires.slots (omega (arith, lt)) done c.requires.plan;
+      sound = rw c.next_slot-next.ensures.words c.correct_slot.ensures.sound;
+      base = c.next_slot-next.ensures.base ∙ (c.correct_slot.ensures.base ∙ c.loop-next.invariant.base);
+      reads = omega (arith, c.next_slot-next.ensures.reads, c.correct_slot.ensures.reads, c.loop-next.invariant.reads, to);
+      at = stands-at c.next_slot-next.result slots (k + 1) once told;
+      in_heap = c.next_slot-next.ensures.in_heap;
+      corrected = rw c.next_slot-next.ensures.words (subst (λ n. SlotsCorrected m f old new c.args.region n) (sym to) done);
+      plan = rw c.next_slot-next.ensures.words (numbered_outside m f old new c.args.region (k + 1) count moves c.requires.slots (omega (arith, at.0)) done c.requires.plan);
     }
 
 pub returns-clause-corrected : goal.returns-clause-corrected
 returns-clause-corrected g c =
     let m = c.args.map in
     let old = contents m (g.W.Words.words c.args.words.now) in
-    let new = contents m (g.W.Words.words c.loop-i.words) in
-    let end : c.loop-i.i ≡ set_entries old.heads = omega (arith, c.get_head-entries.ensures.value) in
-    subst (λ n. SlotsCorrected m (forward c.args.plan.now.count (move_at old.scratch)) old new c.args.region n) end c.loop-i.invariant.corrected
+    let new = contents m (g.W.Words.words c.loop-next.words) in
+    let end = at-end c.loop-next.next (chain m old c.args.region) c.in_default.is c.loop-next.invariant.at in
+    subst (λ n. SlotsCorrected m (forward c.args.plan.now.count (move_at old.scratch)) old new c.args.region n) end c.loop-next.invariant.corrected
 
 pub returns-clause-reads : goal.returns-clause-reads
-returns-clause-reads g c = omega (arith, c.loop-i.invariant.reads, c.get_head-entries.ensures.value)
+returns-clause-reads g c =
+    let m = c.args.map in
+    let end = at-end c.loop-next.next (chain m (contents m (g.W.Words.words c.args.words.now)) c.args.region) c.in_default.is c.loop-next.invariant.at in
+    omega (arith, c.loop-next.invariant.reads, end)

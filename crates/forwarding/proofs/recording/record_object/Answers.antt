@@ -1,86 +1,74 @@
-use Rattle.std.proofs.Common.{◌≡◌, ◌↔◌, ◌⊎◌, ◌+◌, arith, subst, sym, ap, ◌∙◌, List, ℕ, get_or}
-use Rattle.object_layout.specs.declared.headers.Header.{Header}
+use Rattle.std.proofs.Common.{◌≡◌, ◌<◌, ◌+◌, ◌-◌, ◌∷◌, [], arith, refl, subst, sym, ap, ◌∙◌, List, ℕ}
+use Rattle.std.specs.List.{All, range_with_len}
 use Rattle.object_layout.specs.declared.TheConstants.{OBJECT_WORDS}
-use Rattle.heap_words.specs.Contents.{Contents, Sound, contents}
-use Rattle.relocation.specs.Moves.{fields_at}
-use Rattle.relocation.proofs.Moving.{fields_at-header}
-use Rattle.remember_sets.specs.Filed.{IsFiled, SetsHold, with_sets}
-use Rattle.remember_sets.proofs.Frames.{with_sets-same, with_sets-step}
-use Rattle.forwarding.specs.Entering.{EntersFrom, IsEntering}
-use Rattle.forwarding.proofs.Entries.{EntersBelow, filed-none, below-none, below-more, below-all}
+use Rattle.heap_words.specs.declared.map.Areas.{Areas}
+use Rattle.heap_words.specs.Map.{IsAreas}
+use Rattle.heap_words.specs.Contents.{Contents, contents}
+use Rattle.relocation.specs.Moves.{fields_at, size_at}
+use Rattle.remember_sets.specs.Filed.{IsSlot, PagesKnown, all_filed, chain, filed}
+use Rattle.remember_sets.proofs.Entering.{slot-same}
+use Rattle.remember_sets.proofs.Folded.{all_filed-append, filed-same, with_sets-step}
+use Rattle.forwarding.proofs.Entries.{range-more, slot-at}
+use Rattle.forwarding.specs.Slots.{slots_at}
 use Rattle.forwarding.proofs.recording.record_object.Goals as goal
 
-pub returns-in_default-clause-filed : goal.returns-in_default-clause-filed
-returns-in_default-clause-filed g c =
-    let m = c.args.map in
-    let was : Contents = contents m (g.W.Words.words c.args.words.now) in
-    subst (λ (ws : List ℕ). (i : ℕ) → IsFiled (contents m ws) i ↔ (IsFiled was i ⊎ IsEntering was.heap c.args.a i)) (sym c.get_heap.ensures.words)
-    (filed-none (IsFiled was) (IsEntering was.heap c.args.a) (λ i r. c.in_default.ensures.some r.header r.fits (sym (c.get_heap.ensures.value ∙ r.told))))
-
-pub returns-in_default-clause-others : goal.returns-in_default-clause-others
-returns-in_default-clause-others g c =
-    let m = c.args.map in
-    let was : Contents = contents m (g.W.Words.words c.args.words.now) in
-    subst (λ (ws : List ℕ). contents m ws ≡ with_sets was (contents m ws)) (sym c.get_heap.ensures.words) (with_sets-same was)
-
 pub loop-f-init : goal.loop-f-init
-loop-f-init g c =
-    let m = c.args.map in
+loop-f-init g c = record {
+  filed = rw c.object_size.ensures.words (λ x q. refl);
+  sets = rw c.object_size.ensures.words c.requires.sets;
+  others = rw c.object_size.ensures.words refl;
+  sound = rw c.object_size.ensures.words c.requires.sound;
+  reads = omega (arith, c.object_size.ensures.reads);
+  base = c.object_size.ensures.base;
+}
+
+-- a slot of the object, in the words before
+slot : (m : Areas) (was : Contents) (a f n : ℕ) → All (IsSlot m was) (slots_at was.heap a) → n ≡ size_at was.heap a → f < n - OBJECT_WORDS → IsSlot m was (a + OBJECT_WORDS + f)
+slot m was a f n h size lt = slot-at m was a f h (omega (arith, size, lt))
+
+pub overflow_add-first-in-loop-f : goal.overflow_add-first-in-loop-f
+overflow_add-first-in-loop-f g c =
+    let m : Areas = c.args.map in
     let was : Contents = contents m (g.W.Words.words c.args.words.now) in
-    let same = sym c.get_heap.ensures.words in
-    record {
-      filed = subst (λ (ws : List ℕ). (i : ℕ) → IsFiled (contents m ws) i ↔ (IsFiled was i ⊎ EntersBelow was.heap c.args.a c.in-Some.header.space 0 i)) same (filed-none (IsFiled was) (EntersBelow was.heap c.args.a c.in-Some.header.space 0) (below-none was.heap c.args.a c.in-Some.header.space));
-      sets = subst (λ (ws : List ℕ). SetsHold m (contents m ws)) same c.requires.sets;
-      others = subst (λ (ws : List ℕ). contents m ws ≡ with_sets was (contents m ws)) same (with_sets-same was);
-      sound = subst (Sound m) same c.requires.sound;
-      reads = omega (arith, c.get_heap.ensures.reads);
-      base = c.get_heap.ensures.base;
-    }
+    let s = slot m was c.args.a c.loop-f.f c.object_size.result c.requires.slots c.object_size.ensures.size c.loop-f-test.true in
+    let areas : IsAreas m = c.requires.sound.areas in
+    omega (arith, s.0)
 
-pub record_field-requires-clause-within : goal.record_field-requires-clause-within
-record_field-requires-clause-within g c =
-    let within = c.requires.within c.in-Some.header c.in-Some.ensures.some.0 (sym c.get_heap.ensures.value ∙ sym c.in-Some.ensures.some.1) in
-    omega (arith, within, c.loop-f-test.true)
+pub add_slot-requires-clause-slot : goal.add_slot-requires-clause-slot
+add_slot-requires-clause-slot g c =
+    let m : Areas = c.args.map in
+    let was : Contents = contents m (g.W.Words.words c.args.words.now) in
+    slot-same m was (contents m (g.W.Words.words c.loop-f.words)) (c.args.a + OBJECT_WORDS + c.loop-f.f) (ap (λ (x : Contents). x.heap) c.loop-f.invariant.others) (slot m was c.args.a c.loop-f.f c.object_size.result c.requires.slots c.object_size.ensures.size c.loop-f-test.true)
 
-pub record_field-requires-clause-lead : goal.record_field-requires-clause-lead
-record_field-requires-clause-lead g c b e =
-    let heap = ap (λ (x : Contents). x.heap) c.loop-f.invariant.others in
-    c.requires.lead c.in-Some.header c.in-Some.ensures.some.0 (sym c.get_heap.ensures.value ∙ sym c.in-Some.ensures.some.1) (c.args.a + OBJECT_WORDS + c.loop-f.f) b (omega arith) (omega (arith, c.loop-f-test.true)) (sym (ap (λ (h : List ℕ). get_or h (c.args.a + OBJECT_WORDS + c.loop-f.f) 0) heap) ∙ e)
+pub add_slot-requires-clause-pages : goal.add_slot-requires-clause-pages
+add_slot-requires-clause-pages g c = subst (PagesKnown c.args.map) (sym c.loop-f.invariant.others) c.requires.pages
 
 pub loop-f-preserved : goal.loop-f-preserved
 loop-f-preserved g c =
-    let m = c.args.map in
+    let m : Areas = c.args.map in
     let was : Contents = contents m (g.W.Words.words c.args.words.now) in
     let mid : Contents = contents m (g.W.Words.words c.loop-f.words) in
-    let new : Contents = contents m (g.W.Words.words c.record_field.new.words) in
-    let a : ℕ = c.args.a in
+    let new : Contents = contents m (g.W.Words.words c.add_slot.new.words) in
+    let first : ℕ = c.args.a + OBJECT_WORDS in
     let f : ℕ = c.loop-f.f in
-    let home : ℕ = c.in-Some.header.space in
     let inv = c.loop-f.invariant in
     let heap : mid.heap ≡ was.heap = ap (λ (x : Contents). x.heap) inv.others in
-    let step : (i : ℕ) → IsFiled new i ↔ (IsFiled mid i ⊎ ((i ≡ a + OBJECT_WORDS + f) × EntersFrom was.heap home i)) = subst (λ (h : List ℕ). (i : ℕ) → IsFiled new i ↔ (IsFiled mid i ⊎ ((i ≡ a + OBJECT_WORDS + f) × EntersFrom h home i))) heap c.record_field.ensures.filed in
+    let table : mid.table ≡ was.table = ap (λ (x : Contents). x.table) inv.others in
     record {
-      filed = below-more (IsFiled was) (IsFiled mid) (IsFiled new) was.heap a home f inv.filed step;
-      sets = c.record_field.ensures.sets;
-      others = with_sets-step was mid new inv.others c.record_field.ensures.others;
-      sound = c.record_field.ensures.sound;
-      reads = omega (arith, inv.reads, c.record_field.ensures.reads);
-      base = c.record_field.ensures.base ∙ inv.base;
+      filed = λ x q. c.add_slot.ensures.filed x q ∙ filed-same m was mid x (first + f) (chain m mid x) heap table ∙ ap (filed m was x (first + f)) (inv.filed x q) ∙ sym (ap (λ (l : List ℕ). all_filed m was x l (chain m was x)) (range-more first f) ∙ all_filed-append m was x (range_with_len first f) ((first + f) ∷ []) (chain m was x));
+      sets = c.add_slot.ensures.sets;
+      others = with_sets-step was mid new inv.others c.add_slot.ensures.others;
+      sound = c.add_slot.ensures.sound;
+      reads = omega (arith, inv.reads, c.add_slot.ensures.reads);
+      base = c.add_slot.ensures.base ∙ inv.base;
     }
 
 pub returns-clause-filed : goal.returns-clause-filed
-returns-clause-filed g c =
-    let m = c.args.map in
+returns-clause-filed g c x q =
+    let m : Areas = c.args.map in
     let was : Contents = contents m (g.W.Words.words c.args.words.now) in
-    let now : Contents = contents m (g.W.Words.words c.loop-f.words) in
-    let h : Header = c.in-Some.header in
-    let all : c.loop-f.f ≡ h.fields = omega arith in
-    below-all (IsFiled was) (IsFiled now) was.heap c.args.a h c.in-Some.ensures.some.0 (sym c.get_heap.ensures.value ∙ sym c.in-Some.ensures.some.1)
-    (subst (λ n. (i : ℕ) → IsFiled now i ↔ (IsFiled was i ⊎ EntersBelow was.heap c.args.a h.space n i)) all c.loop-f.invariant.filed)
+    let all : c.loop-f.f ≡ fields_at was.heap c.args.a = omega (arith, c.object_size.ensures.size) in
+    c.loop-f.invariant.filed x q ∙ ap (λ n. all_filed m was x (range_with_len (c.args.a + OBJECT_WORDS) n) (chain m was x)) all
 
 pub returns-clause-reads : goal.returns-clause-reads
-returns-clause-reads g c =
-    let m = c.args.map in
-    let was : Contents = contents m (g.W.Words.words c.args.words.now) in
-    let fields : fields_at was.heap c.args.a ≡ c.in-Some.header.fields = fields_at-header was.heap c.args.a c.in-Some.header c.in-Some.ensures.some.0 (sym c.get_heap.ensures.value ∙ sym c.in-Some.ensures.some.1) in
-    omega (arith, c.loop-f.invariant.reads, fields)
+returns-clause-reads g c = omega (arith, c.loop-f.invariant.reads, c.object_size.ensures.size)

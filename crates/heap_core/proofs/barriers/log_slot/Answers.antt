@@ -3,6 +3,9 @@ use Rattle.heap_words.specs.Contents.{contents}
 use Rattle.standing_calls.proofs.Logged.{after_filing}
 use Rattle.heap_core.proofs.barriers.log_slot.Goals as goal
 
+pub file_logs-requires-clause-buffers : goal.file_logs-requires-clause-buffers
+file_logs-requires-clause-buffers g c = rw c.in-Err.ensures.logged.1 c.requires.hold.1
+
 pub returns-in-Err-clause-logs : goal.returns-in-Err-clause-logs
 returns-in-Err-clause-logs g c =
     let m = c.args.map in

@@ -29,7 +29,7 @@ space_of_word-to-requires-clause-value g c =
     rw (c.space_of_slot-from.ensures.words, c.field_of.ensures.words, c.slot_below.ensures.words, c.stack_length-count.ensures.words) (∥∥₁_map c.requires.recorded (λ q. (q.0, q.1, slot_value c.args.map old q.0 q.1 c.args.thread c.args.x c.in-Ok.word there.1)))
 
 pub store_word-requires-clause-hold : goal.store_word-requires-clause-hold
-store_word-requires-clause-hold g c = rw (c.space_of_word-to.ensures.words, c.space_of_slot-from.ensures.words, c.field_of.ensures.words, c.slot_below.ensures.words, c.stack_length-count.ensures.words) (hold-told c.args.map (contents c.args.map (g.W.Words.words c.args.words.now)) c.requires.recorded)
+store_word-requires-clause-hold g c = rw (c.space_of_word-to.ensures.words, c.space_of_slot-from.ensures.words, c.field_of.ensures.words, c.slot_below.ensures.words, c.stack_length-count.ensures.words) (hold-told c.args.map (contents c.args.map (g.W.Words.words c.args.words.now)) c.requires.sound.areas c.requires.recorded)
 
 pub returns-in-Ok-field_of-clause-turns : goal.returns-in-Ok-field_of-clause-turns
 returns-in-Ok-field_of-clause-turns g c =
@@ -42,7 +42,7 @@ returns-in-Ok-field_of-clause-turns g c =
     let told = rw (c.space_of_slot-from.ensures.words, c.field_of.ensures.words, c.slot_below.ensures.words, c.stack_length-count.ensures.words) at c.space_of_word-to.ensures.space in
     let to : (s : SpaceState) (h : Stands m old s) → c.space_of_word-to.result ≡ home_at s (slot_of s.graph c.args.thread c.args.x) = λ s h. told s h (slot_value m old s h c.args.thread c.args.x c.in-Ok.word there.1) in
     let stored = rw (c.space_of_word-to.ensures.words, c.space_of_slot-from.ensures.words, c.field_of.ensures.words, c.slot_below.ensures.words, c.stack_length-count.ensures.words) at c.store_word.ensures.stored in
-    store_turns m old (contents m (g.W.Words.words c.store_word.new.words)) c.args.thread c.args.s c.args.f c.args.x c.in-Ok-field_of.a c.in-Ok.word c.space_of_slot-from.result c.space_of_word-to.result c.requires.thread (length-heap m words c.requires.sound.whole) (length-buffers m words) c.store_word.ensures.sound.limits there.0 field there.1 from to stored
+    store_turns m old (contents m (g.W.Words.words c.store_word.new.words)) c.args.thread c.args.s c.args.f c.args.x c.in-Ok-field_of.a c.in-Ok.word c.space_of_slot-from.result c.space_of_word-to.result c.requires.sound.areas c.requires.thread (length-heap m words c.requires.sound.whole) (length-buffers m words) (hold-told m old c.requires.sound.areas c.requires.recorded).1 c.store_word.ensures.sound.limits there.0 field there.1 from to stored
 
 pub returns-in-Err-clause-turns : goal.returns-in-Err-clause-turns
 returns-in-Err-clause-turns g c =

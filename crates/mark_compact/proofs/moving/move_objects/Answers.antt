@@ -27,6 +27,25 @@ settle_pages-requires-clause-room g c =
     let moves = move_at (contents m (g.W.Words.words c.args.words.now)).scratch in
     ∥∥₁_elim c.requires.led (hlevel props) (λ q. room m q.0 q.2 q.3 q.1 c.args.plan.count moves q.4 c.requires.sound.areas)
 
+-- the objects of the moves stand at their new places
+pub returns-clause-headers : goal.returns-clause-headers
+returns-clause-headers g c =
+    let m = c.args.map in
+    let first = contents m (g.W.Words.words c.args.words.now) in
+    let mid = g.W.Words.words c.move_all.new.words in
+    let fin = contents m (g.W.Words.words c.settle_pages.new.words) in
+    let count = c.args.plan.count in
+    let moves = move_at first.scratch in
+    let movable = ready-movable m first.heap count moves c.requires.sound.areas (ready-led m first count moves c.requires.led) in
+    let heap : fin.heap ≡ heap_of m mid = ap (λ (x : Contents). x.heap) c.settle_pages.ensures.frame in
+    let scratch : fin.scratch ≡ first.scratch = ap (λ (x : Contents). x.scratch) c.settle_pages.ensures.frame ∙ ap (λ (x : Contents). x.scratch) c.move_all.ensures.only_heap in
+    subst (λ (hp : List ℕ). (k : ℕ) → k < count → HasHeader hp (move_at fin.scratch k).new × ((move_at fin.scratch k).new + size_at hp (move_at fin.scratch k).new ≤ heap_length m)) (sym heap)
+    (subst (λ (sc : List ℕ). (k : ℕ) → k < count → HasHeader (heap_of m mid) (move_at sc k).new × ((move_at sc k).new + size_at (heap_of m mid) (move_at sc k).new ≤ heap_length m)) (sym scratch)
+    (λ k lt.
+    let x = moved-header m first.heap (heap_of m mid) count moves movable c.move_all.ensures.moved k lt in
+    let w = (movable.each k lt).new in
+    (x.0, omega (arith, w, x.1))))
+
 pub settle_pages-requires-clause-moved : goal.settle_pages-requires-clause-moved
 settle_pages-requires-clause-moved g c =
     let m = c.args.map in

@@ -6,7 +6,8 @@ use Rattle.epoch_lattice.specs.Lattice.{space_index}
 use Rattle.yak_model.specs.Placed.{space_word}
 use Rattle.yak_model.specs.Stands.{CurrentsStand, PoolStands}
 use Rattle.region_pages.specs.Pages.{TableFits}
-use Rattle.region_pages.specs.Freeing.{IsRegionOf, freed_table, with_pool_rebuilt, with_released}
+use Rattle.yak_model.specs.Chains.{IsRegionOf}
+use Rattle.region_pages.specs.Freeing.{freed_table, with_pool_rebuilt, with_released}
 use Rattle.region_pages.proofs.Shapes.{Shape, shape}
 use Rattle.region_pages.proofs.Released.{freed_free, table-freed, currents-freed, released_at, released_stands}
 use Rattle.region_pages.proofs.freeing.release_space.Goals as goal

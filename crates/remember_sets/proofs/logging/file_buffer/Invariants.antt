@@ -1,7 +1,6 @@
-use Rattle.std.proofs.Common.{◌≡◌, ◌↔◌, ◌⊎◌, ◌≤◌, ◌+◌, ◌*◌, ℕ, take}
-use Rattle.std.specs.List.{Contains}
+use Rattle.std.proofs.Common.{◌≡◌, ◌≤◌, ◌+◌, ◌*◌, take}
 use Rattle.heap_words.specs.Contents.{contents, buffer_of, Sound}
-use Rattle.remember_sets.specs.Filed.{IsFiled, SetsHold, with_sets}
+use Rattle.remember_sets.specs.Filed.{ChainsBecome, SetsHold, all_filed, with_sets}
 use Rattle.remember_sets.proofs.logging.file_buffer.Given as goal
 
 abbrev pub invariant-loop-k : goal.invariant-loop-k
@@ -13,6 +12,6 @@ invariant-loop-k g l =
       base : g.W.Words.base l.words ≡ g.W.Words.base l.fn.words;
       sets : SetsHold l.map now;
       others : now ≡ with_sets was now;
-      filed : (a : ℕ) → IsFiled now a ↔ (IsFiled was a ⊎ Contains (take l.k (buffer_of was l.thread)) a);
-      reads : g.W.Words.reads l.words ≤ g.W.Words.reads l.fn.words + 1 + 3 * l.k;
+      filed : ChainsBecome l.map was now (λ x slots. all_filed l.map was x (take l.k (buffer_of was l.thread)) slots);
+      reads : g.W.Words.reads l.words ≤ g.W.Words.reads l.fn.words + 1 + 7 * l.k;
     }

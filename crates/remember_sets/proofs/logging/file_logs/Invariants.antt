@@ -1,8 +1,8 @@
-use Rattle.std.proofs.Common.{◌≡◌, ◌↔◌, ◌⊎◌, ◌≤◌, ◌+◌, ◌*◌, ℕ, List, take, length}
-use Rattle.std.specs.List.{Contains, flat_map}
+use Rattle.std.proofs.Common.{◌≡◌, ◌≤◌, ◌+◌, ◌*◌, ℕ, List, take, length}
+use Rattle.std.specs.List.{flat_map}
 use Rattle.heap_words.specs.Contents.{contents, Sound}
-use Rattle.remember_sets.specs.Filed.{IsFiled, SetsHold}
-use Rattle.remember_sets.proofs.Logs.{with_fewer_logs}
+use Rattle.remember_sets.specs.Filed.{ChainsBecome, SetsHold, all_filed}
+use Rattle.remember_sets.proofs.Folded.{with_fewer_logs}
 use Rattle.remember_sets.proofs.logging.file_logs.Given as goal
 
 abbrev pub invariant-loop-t : goal.invariant-loop-t
@@ -14,6 +14,6 @@ invariant-loop-t g l =
       base : g.W.Words.base l.words ≡ g.W.Words.base l.fn.words;
       sets : SetsHold l.map now;
       others : now ≡ with_fewer_logs l.t was now;
-      filed : (a : ℕ) → IsFiled now a ↔ (IsFiled was a ⊎ Contains (flat_map (λ (es : List ℕ). es) (take l.t was.buffers)) a);
-      reads : g.W.Words.reads l.words ≤ g.W.Words.reads l.fn.words + l.t + 3 * length (flat_map (λ (es : List ℕ). es) (take l.t was.buffers));
+      filed : ChainsBecome l.map was now (λ x slots. all_filed l.map was x (flat_map (λ (es : List ℕ). es) (take l.t was.buffers)) slots);
+      reads : g.W.Words.reads l.words ≤ g.W.Words.reads l.fn.words + l.t + 7 * length (flat_map (λ (es : List ℕ). es) (take l.t was.buffers));
     }
