@@ -11,7 +11,7 @@ use Rattle.yak_model.specs.Standing.{Standing}
 use Rattle.yak_model.specs.Tables.{IsChain, IsTable, Link, entry_fields}
 use Rattle.heap_tables.specs.Adds.{IsNoEntry, IsNowhere}
 use Rattle.heap_tables.proofs.Entries.{same_fields}
-use Rattle.group_jobs.specs.Tallies.{IsAside, KeepsAside, KnowsProgress, KnowsTallies, KnowsTally}
+use Rattle.group_jobs.specs.Tallies.{IsAside, KeepsAside, KnowsPart, KnowsProgress, KnowsTallies, KnowsTally}
 
 pub no_table : (known : KnownObjects) (other name : Name) (values heads : List Datum) → get known other ≡ Some (Fields values) → IsAside values → get known name ≡ Some (Fields heads) → length heads ≡ BUCKETS → other ≢ name
 no_table known other name values heads e aside h size q = aside.0 (ap length (same_fields known other name values heads q e h) ∙ size)
@@ -41,8 +41,11 @@ aside_then s mid now known between later a b = record {
 pub tally_then : (s mid now : Standing) (known between : KnownObjects) (knows : KnownObjects → Type 0) (done : List (List ℕ)) → KeepsAside s known mid between → KnowsTally mid between now knows done → KnowsTally s known now knows done
 tally_then s mid now known between knows done a r = (r.0, r.1, r.2, aside_then s mid now known between r.0 a r.3)
 
-pub tallies_then : (s mid now : Standing) (known between : KnownObjects) (knows : KnownObjects → Type 0) (done doing : List (List ℕ)) → KeepsAside s known mid between → KnowsTallies mid between now knows done doing → KnowsTallies s known now knows done doing
-tallies_then s mid now known between knows done doing a r = (r.0, r.1, r.2, aside_then s mid now known between r.0 a r.3)
+pub tallies_then : (s mid now : Standing) (known between : KnownObjects) (knows : KnownObjects → Type 0) (name : Name) (done doing : List (List ℕ)) → KeepsAside s known mid between → KnowsTallies mid between now knows name done doing → KnowsTallies s known now knows name done doing
+tallies_then s mid now known between knows name done doing a r = (r.0, r.1, r.2, aside_then s mid now known between r.0 a r.3)
+
+pub part_then : (s mid now : Standing) (known between : KnownObjects) (knows : KnownObjects → Type 0) (name : Name) (done words : List (List ℕ)) → KeepsAside s known mid between → KnowsPart mid between now knows name done words → KnowsPart s known now knows name done words
+part_then s mid now known between knows name done words a r = (r.0, r.1, r.2, aside_then s mid now known between r.0 a r.3, r.4)
 
 pub progress_then : (has : Bool) (s mid now : Standing) (known between : KnownObjects) (knows : KnownObjects → Type 0) (done : List (List ℕ)) → KeepsAside s known mid between → KnowsProgress has mid between now knows done → KnowsProgress has s known now knows done
 progress_then has s mid now known between knows done a r = (r.0, r.1, r.2, aside_then s mid now known between r.0 a r.3)

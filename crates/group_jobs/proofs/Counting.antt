@@ -97,7 +97,7 @@ joined_count None other = other
 joined_count (Some m) None = Some m
 joined_count (Some m) (Some n) = Some (m + n)
 
-joined_told : (words others : List (List ℕ)) (word : List ℕ) → joined_count (told_of words word) (told_of others word) ≡ told_of (words ++ others) word
+pub joined_told : (words others : List (List ℕ)) (word : List ℕ) → joined_count (told_of words word) (told_of others word) ≡ told_of (words ++ others) word
 joined_told words others word = by_cases ∙ sym (λ i. cond (has_word-append words others word i) (Some (places_of-append words others word i)) None)
   where
     by_cases : joined_count (told_of words word) (told_of others word) ≡ cond (has_word words word || has_word others word) (Some (places_of words word + places_of others word)) None

@@ -60,7 +60,7 @@ dealt_tasks f tasks rows dealt =
     let all = dealt_sum (λ (i : ℕ). told f (slice_get tasks i)) (length tasks) rows [] dealt in
     omega (arith, by_rows, all, all_tasks f tasks)
 
-sum_flat : {X A : Type 0} (g : A → ℕ) (f : X → List A) (xs : List X) → sum_by g (flat_map f xs) ≡ sum_by (λ (x : X). sum_by g (f x)) xs
+pub sum_flat : {X A : Type 0} (g : A → ℕ) (f : X → List A) (xs : List X) → sum_by g (flat_map f xs) ≡ sum_by (λ (x : X). sum_by g (f x)) xs
 sum_flat g f [] = refl
 sum_flat {X} {A} g f (x ∷ xs) = omega (arith, sum_by-append g (f x) (flat_map f xs), sum_by-cons (λ (y : X). sum_by g (f y)) x xs, sum_flat g f xs)
 
@@ -113,12 +113,32 @@ dealt_room bytes lines tasks rows are dealt =
     ∙ dealt_words_sum (λ (word : List ℕ). key_words word + 2 * entry_words) bytes lines tasks rows are dealt in
     omega (arith, rows_room bytes tasks rows, busy, words)
 
+-- What is added up over the tasks of all rows is at most what is added up over all tasks, where some are left.
+dealt_tasks_within : (f : Task → ℕ) (tasks : List Task) (rows : List (List ℕ)) (left : List ℕ) → IsDealt (length tasks) rows left → sum_by (λ (row : List ℕ). sum_by f (tasks_at tasks row)) rows ≤ sum_by f tasks
+dealt_tasks_within f tasks rows left dealt =
+    let by_rows = same_rows (λ (row : List ℕ). sum_by f (tasks_at tasks row)) (sum_by (λ (i : ℕ). told f (slice_get tasks i))) rows (row_sum f tasks) in
+    let all = dealt_sum (λ (i : ℕ). told f (slice_get tasks i)) (length tasks) rows left dealt in
+    omega (arith, by_rows, all, all_tasks f tasks)
+
+-- The tasks of all rows take at most as much room as the text, where some are left.
+pub dealt_room_within : (bytes : List ℕ) (lines : ℕ) (tasks : List Task) (rows : List (List ℕ)) (left : List ℕ) → AreTasks bytes lines tasks → IsDealt (length tasks) rows left
+    → sum_by (λ (row : List ℕ). tasks_room bytes (tasks_at tasks row)) rows ≤ table_words * busy_tasks bytes tasks + words_room (words_of bytes)
+dealt_room_within bytes lines tasks rows left are dealt =
+    let g : List ℕ → ℕ = λ (word : List ℕ). key_words word + 2 * entry_words in
+    let f : Task → ℕ = λ (task : Task). sum_by g (words_of (task_bytes bytes task)) in
+    let busy = dealt_tasks_within (λ (task : Task). cond (is_busy (words_of (task_bytes bytes task))) 1 0) tasks rows left dealt in
+    let words = dealt_tasks_within f tasks rows left dealt in
+    let by_rows = same_rows (λ (row : List ℕ). words_room (words_at bytes tasks row)) (λ (row : List ℕ). sum_by f (tasks_at tasks row)) rows
+    (λ row. sum_flat g (λ (task : Task). words_of (task_bytes bytes task)) (tasks_at tasks row)) in
+    let text = sym (sum_flat g (λ (task : Task). words_of (task_bytes bytes task)) tasks) ∙ ap (sum_by g) (words_of_tasks bytes lines tasks are) in
+    omega (arith, rows_room bytes tasks rows, busy, words, by_rows, text)
+
 -- ---- rows that grow
 
 words_cat : (bytes : List ℕ) (xs ys : List Task) → words_in bytes (xs ++ ys) ≡ words_in bytes xs ++ words_in bytes ys
 words_cat bytes xs ys = flat_map-append (λ (task : Task). words_of (task_bytes bytes task)) xs ys
 
-tasks_cat : (tasks : List Task) (row more : List ℕ) → tasks_at tasks (row ++ more) ≡ tasks_at tasks row ++ tasks_at tasks more
+pub tasks_cat : (tasks : List Task) (row more : List ℕ) → tasks_at tasks (row ++ more) ≡ tasks_at tasks row ++ tasks_at tasks more
 tasks_cat tasks [] more = refl
 tasks_cat tasks (i ∷ row) more = by (slice_get tasks i) (tasks_cat tasks row more)
   where
@@ -141,7 +161,7 @@ turned : (word other : List ℕ) → eq_by_cmp word_cmp word other ≡ eq_by_cmp
 turned = (eq_by_cmp_equiv nat_list_cmp_total).symm
 
 -- a word that stands in a list has a place there
-some_place : (words : List (List ℕ)) (word : List ℕ) → has_word words word ≡ true → 0 < places_of words word
+pub some_place : (words : List (List ℕ)) (word : List ℕ) → has_word words word ≡ true → 0 < places_of words word
 some_place [] word has = absurd (true≢false (sym has))
 some_place (first ∷ words) word has =
     elim (eq_by_cmp word_cmp word first) as (λ b. eq_by_cmp word_cmp word first ≡ b → (b || has_word words word) ≡ true → 0 < places_of (first ∷ words) word) [

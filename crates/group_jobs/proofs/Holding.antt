@@ -34,7 +34,7 @@ use Rattle.group_jobs.specs.Alone.{HasRoot, HoldsCounts, HoldsTotal, root_object
 use Rattle.group_jobs.specs.Tallies.{IsProgress, Tally}
 use Rattle.group_jobs.specs.declared.TheConstants.{TOTAL_SLOT, WORKER}
 
-content_of : (o : Option Content) → IsSome o → (v : Content) × (o ≡ Some v)
+pub content_of : (o : Option Content) → IsSome o → (v : Content) × (o ≡ Some v)
 content_of None h = cc
 content_of (Some v) h = (v, refl)
 

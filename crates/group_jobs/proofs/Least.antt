@@ -74,14 +74,14 @@ not_below word (entry ∷ entries) below c = ⊎_elim
     (λ (b : Contains (words_in entries) word). not_below word entries (second (is_lt (word_cmp word entry.0)) (below_all word_cmp word entries) below) b)
     (contains_cases entry.0 (words_in entries) word c)
 
-words_once : (entries : List (List ℕ × ℕ)) → T (is_sorted word_cmp entries) → Distinct (words_in entries)
+pub words_once : (entries : List (List ℕ × ℕ)) → T (is_sorted word_cmp entries) → Distinct (words_in entries)
 words_once [] up = tt
 words_once (entry ∷ entries) up = (
   not_below entry.0 entries (first (below_all word_cmp entry.0 entries) (is_sorted word_cmp entries) up),
   words_once entries (second (below_all word_cmp entry.0 entries) (is_sorted word_cmp entries) up),
 )
 
-word_found : (entries : List (List ℕ × ℕ)) (word : List ℕ) → Contains (words_in entries) word → (n : ℕ) × (find word_cmp word entries ≡ Some n)
+pub word_found : (entries : List (List ℕ × ℕ)) (word : List ℕ) → Contains (words_in entries) word → (n : ℕ) × (find word_cmp word entries ≡ Some n)
 word_found [] word c = absurd (omega (arith, c.1))
 word_found (entry ∷ entries) word c =
     elim (eq_by_cmp word_cmp word entry.0) as (λ b. eq_by_cmp word_cmp word entry.0 ≡ b → (n : ℕ) × (cond b (Some entry.1) (find word_cmp word entries) ≡ Some n)) [
@@ -97,11 +97,11 @@ word_found (entry ∷ entries) word c =
 -- ---- the entries and keys of words
 
 -- An entry of the word is among the objects.
-record IsHeld (known : KnownObjects) (word : List ℕ) : Type 0 where
-  link : Link
-  next : Datum
-  entry : IsEntry known next link
-  same : link.word ≡ word
+pub record IsHeld (known : KnownObjects) (word : List ℕ) : Type 0 where
+  pub link : Link
+  pub next : Datum
+  pub entry : IsEntry known next link
+  pub same : link.word ≡ word
 
 held_in : (known : KnownObjects) (word : List ℕ) (n : ℕ) (links : List Link) (head : Datum) → IsChain known head links → HasCount word links n → IsHeld known word
 held_in known word n [] head chain has = absurd has
@@ -203,9 +203,15 @@ no_int : (known : KnownObjects) (head : Datum) (links : List Link) (n : ℕ) →
 no_int known head [] n chain e = cc
 no_int known head (l ∷ links) n (is, rest) e = cc
 
-module _ (known : KnownObjects) (name : Name) (counts : WordCounts) (is : IsCountTable known name counts) where
-  table_apart : (words : List (List ℕ)) → IsFor known words name → ⊥
-  table_apart words at = ⊎_elim
+-- a word that has a count has an entry
+pub held_for : (known : KnownObjects) (name : Name) (counts : WordCounts) → IsCountTable known name counts → (word : List ℕ) (n : ℕ) → get counts word ≡ Some n → IsHeld known word
+held_for known name counts is word n found =
+    let b : ℕ = bucket_of word in
+    held_in known word n (is.buckets b) (get_or is.heads b datum.Null) (is.table.chains b (bucket_small word)) (is.counted word n found)
+
+module _ (known : KnownObjects) (name : Name) (counts : WordCounts) (is : IsCountTable known name counts) (words : List (List ℕ)) (once : Distinct words) (held : (word : List ℕ) → Contains words word → IsHeld known word) where
+  table_apart : IsFor known words name → ⊥
+  table_apart at = ⊎_elim
       (λ (e : name ≡ at.2.0.link.entry).
       let h : IsHeld known at.0 = at.2.0 in
       let f = same_fields known name h.link.entry is.heads (entry_fields h.next h.link.key h.link.count) e is.table.object h.entry.0 in
@@ -217,43 +223,34 @@ module _ (known : KnownObjects) (name : Name) (counts : WordCounts) (is : IsCoun
       no_int known (get_or is.heads 0 datum.Null) (is.buckets 0) (length h.link.word) (is.table.chains 0 (omega arith)) (ap (λ vs. get_or vs 0 datum.Null) f ∙ h.entry.1.2.first))
       at.2.1
 
-  held_for : (word : List ℕ) → Contains (finite.keys counts) word → IsHeld known word
-  held_for word c =
-      let found = word_found (finite.entries counts) word c in
-      let b : ℕ = bucket_of word in
-      held_in known word found.0 (is.buckets b) (get_or is.heads b datum.Null) (is.table.chains b (bucket_small word)) (is.counted word found.0 (get-entries counts word ∙ found.1))
-
-  -- the table's objects
+  -- the table, and the entries and keys of the words
   abbrev table_names : List Name
-  table_names = name ∷ names_for known (finite.keys counts) held_for
+  table_names = name ∷ names_for known words held
 
   table_once : Distinct table_names
-  table_once = (
-    λ c. table_apart (finite.keys counts) (name_for known (finite.keys counts) held_for name c),
-    names_apart known (finite.keys counts) held_for (words_once (finite.entries counts) (entries_sorted counts)),
-  )
+  table_once = (λ c. table_apart (name_for known words held name c), names_apart known words held once)
 
   there : (n : Name) → Contains table_names n → (v : Content) × (get known n ≡ Some v)
   there n c = ⊎_elim
       (λ (e : name ≡ n). (Fields is.heads, ap (get known) (sym e) ∙ is.table.object))
-      (λ (b : Contains (names_for known (finite.keys counts) held_for) n).
-      let at = name_for known (finite.keys counts) held_for n b in
+      (λ (b : Contains (names_for known words held) n).
+      let at = name_for known words held n b in
       let h : IsHeld known at.0 = at.2.0 in
       ⊎_elim
       (λ (e : n ≡ h.link.entry). (Fields (entry_fields h.next h.link.key h.link.count), ap (get known) e ∙ h.entry.0))
       (λ (e : n ≡ h.link.key). (Fields h.entry.1.0, ap (get known) e ∙ h.entry.1.1))
       at.2.1)
-      (contains_cases name (names_for known (finite.keys counts) held_for) n c)
+      (contains_cases name (names_for known words held) n c)
 
-  table_weighs : sum_by (λ (n : Name). weight (get known n)) table_names ≡ table_words + sum_by (λ (w : List ℕ). key_words w + entry_words) (finite.keys counts)
+  table_weighs : sum_by (λ (n : Name). weight (get known n)) table_names ≡ table_words + sum_by (λ (w : List ℕ). key_words w + entry_words) words
   table_weighs =
       let f : Name → ℕ = λ (n : Name). weight (get known n) in
       let w : weight (get known name) ≡ length is.heads + OBJECT_WORDS = ap weight is.table.object in
-      omega (arith, sum_by-cons f name (names_for known (finite.keys counts) held_for), w, is.table.size, names_weigh known (finite.keys counts) held_for)
+      omega (arith, sum_by-cons f name (names_for known words held), w, is.table.size, names_weigh known words held)
 
 -- ---- the objects weigh no more than all
 
-by_names : (objects : KnownObjects) → words_in_all objects ≡ sum_by (λ (n : Name). weight (get objects n)) (keys_of (finite.entries objects))
+pub by_names : (objects : KnownObjects) → words_in_all objects ≡ sum_by (λ (n : Name). weight (get objects n)) (keys_of (finite.entries objects))
 by_names objects =
     sum-same (λ (e : Name × Content). size_of e.1) (λ (e : Name × Content). weight (get objects e.0)) (finite.entries objects)
     (λ e b. ap weight (sym (get-entries objects e.0 ∙ entry-found (finite.entries objects) e (entries_sorted objects) b)))
@@ -271,7 +268,7 @@ module _ (known : KnownObjects) (root : get known root_name ≡ Some root_object
   root_weighs : weight (get known root_name) ≡ root_words
   root_weighs = ap weight root
 
-  root_within : root_words ≤ words_in_all known
+  pub root_within : root_words ≤ words_in_all known
   root_within =
       let less = names_within known (root_name ∷ []) ((λ c. omega (arith, c.1)), tt) (λ n c. (root_object, ap (get known) (sym (only n c)) ∙ root)) in
       omega (arith, less, root_weighs, sum_by-cons (λ (n : Name). weight (get known n)) root_name [])
@@ -296,26 +293,27 @@ module _ (known : KnownObjects) (root : get known root_name ≡ Some root_object
       root_no_key h.link.word h.link.key h.entry.1 e)
       at.2.1
 
-  table_within : (name : Name) (counts : WordCounts) (is : IsCountTable known name counts) → root_words + (table_words + sum_by (λ (w : List ℕ). key_words w + entry_words) (finite.keys counts)) ≤ words_in_all known
-  table_within name counts is =
-      let names : List Name = table_names known name counts is in
-      let less = names_within known (root_name ∷ names) (apart, table_once known name counts is) all_there in
-      omega (arith, less, root_weighs, sum_by-cons (λ (n : Name). weight (get known n)) root_name names, table_weighs known name counts is)
+  -- the root, a table, and an entry and a key for each of some words, in whatever table these are
+  pub table_within : (name : Name) (counts : WordCounts) (is : IsCountTable known name counts) (words : List (List ℕ)) → Distinct words → ((word : List ℕ) → Contains words word → IsHeld known word)
+      → root_words + (table_words + sum_by (λ (w : List ℕ). key_words w + entry_words) words) ≤ words_in_all known
+  table_within name counts is words once held =
+      let names : List Name = table_names known name counts is words once held in
+      let less = names_within known (root_name ∷ names) (apart, table_once known name counts is words once held) all_there in
+      omega (arith, less, root_weighs, sum_by-cons (λ (n : Name). weight (get known n)) root_name names, table_weighs known name counts is words once held)
     where
-      apart : Contains (table_names known name counts is) root_name → ⊥
+      apart : Contains (table_names known name counts is words once held) root_name → ⊥
       apart c = ⊎_elim
           (λ (e : name ≡ root_name).
           let f = same_fields known root_name name (replicate ROOT_FIELDS datum.Null) is.heads (sym e) root is.table.object in
           root_aside.0 (ap length f ∙ is.table.size))
-          (λ (b : Contains (names_for known (finite.keys counts) (held_for known name counts is)) root_name).
-          root_apart (finite.keys counts) (name_for known (finite.keys counts) (held_for known name counts is) root_name b))
-          (contains_cases name (names_for known (finite.keys counts) (held_for known name counts is)) root_name c)
+          (λ (b : Contains (names_for known words held) root_name). root_apart words (name_for known words held root_name b))
+          (contains_cases name (names_for known words held) root_name c)
 
-      all_there : (n : Name) → Contains (root_name ∷ table_names known name counts is) n → (v : Content) × (get known n ≡ Some v)
+      all_there : (n : Name) → Contains (root_name ∷ table_names known name counts is words once held) n → (v : Content) × (get known n ≡ Some v)
       all_there n c = ⊎_elim
           (λ (e : root_name ≡ n). (root_object, ap (get known) (sym e) ∙ root))
-          (λ (b : Contains (table_names known name counts is) n). there known name counts is n b)
-          (contains_cases root_name (table_names known name counts is) n c)
+          (λ (b : Contains (table_names known name counts is words once held) n). there known name counts is words once held n b)
+          (contains_cases root_name (table_names known name counts is words once held) n c)
 
 pub room_held : (m : Areas) (c : Contents) (words : List (List ℕ)) → HoldsCounts m c words → least_room words ≤ page_words m * m.pages
 room_held m c [] holds =
@@ -323,5 +321,9 @@ room_held m c [] holds =
     omega (arith, less, present-within m c holds.state holds.stands)
 room_held m c (word ∷ words) holds =
     let t : HoldsTotal holds.state (word ∷ words) = holds.total (λ e. cc) in
-    let less = table_within holds.state.graph.objects holds.root t.name (word_counts (word ∷ words)) t.table in
+    let counts : WordCounts = word_counts (word ∷ words) in
+    let held : (w : List ℕ) → Contains (finite.keys counts) w → IsHeld holds.state.graph.objects w = λ w c.
+    let found = word_found (finite.entries counts) w c in
+    held_for holds.state.graph.objects t.name counts t.table w found.0 (get-entries counts w ∙ found.1) in
+    let less = table_within holds.state.graph.objects holds.root t.name counts t.table (finite.keys counts) (words_once (finite.entries counts) (entries_sorted counts)) held in
     omega (arith, less, present-within m c holds.state holds.stands)

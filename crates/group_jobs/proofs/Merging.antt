@@ -10,11 +10,11 @@ use Rattle.yak_model.specs.Private.{KnownObjects}
 use Rattle.yak_model.specs.Standing.{Standing}
 use Rattle.yak_model.specs.Tables.{AreDifferent, AreInBucket, IsCountTable, LacksWord, Link, bucket_of}
 use Rattle.yak_model.specs.Texts.{WordCounts, places_of, word_counts}
-use Rattle.heap_tables.specs.Adds.{IsNoEntry}
+use Rattle.heap_tables.specs.Adds.{AreAfter, IsNoEntry}
 use Rattle.heap_tables.specs.Counted.{count_of, or_zero, raised}
 use Rattle.heap_tables.specs.Merges.{KeepsUntouched, MayMerge, SharesNone, news, one_if_none, sum_of, walk}
 use Rattle.group_jobs.specs.Counts.{has_word}
-use Rattle.group_jobs.specs.Tallies.{KnowsTally, Tallies}
+use Rattle.group_jobs.specs.Tallies.{KnowsPart, Tallies}
 use Rattle.group_jobs.specs.declared.TheConstants.{MOST_WORDS, PART_SLOT, TOTAL_SLOT}
 use Rattle.group_jobs.proofs.Aside.{no_table, nowhere}
 use Rattle.group_jobs.proofs.Counting.{get-word_counts, has_word-append, no_place, places_of-append, same_counts, told_of}
@@ -46,16 +46,16 @@ at_one (y ∷ ys) buckets b bound all =
 
 -- ---- what may be merged
 
-abbrev pub may_merge : (s : Standing) (known : KnownObjects) (done doing : List (List ℕ)) (t : Tallies s known done doing) → length done + length doing ≤ MOST_WORDS
-    → MayMerge s known PART_SLOT TOTAL_SLOT t.name (t.total).name (word_counts doing) (word_counts done)
-may_merge s known done doing t few = record {
+abbrev pub may_merge : (s : Standing) (known : KnownObjects) (name : Name) (done doing : List (List ℕ)) (t : Tallies s known name done doing) → length done + length doing ≤ MOST_WORDS
+    → MayMerge s known PART_SLOT TOTAL_SLOT name (t.total).name (word_counts doing) (word_counts done)
+may_merge s known name done doing t few = record {
   from_slot = t.slot;
   into_slot = (t.total).slot;
   from_table = t.table;
   into_table = (t.total).table;
   different = λ e. t.other (sym e);
   apart = λ b c hb hc. shares_none ((t.table).buckets b) (((t.total).table).buckets c) (at_one (((t.total).table).buckets c) (t.table).buckets b hb (t.apart c hc));
-  from_few = λ b h. let n = few_in_bucket doing known t.name t.table b h in omega (arith, few, n);
+  from_few = λ b h. let n = few_in_bucket doing known name t.table b h in omega (arith, few, n);
   into_few = λ b h. let n = few_in_bucket done known (t.total).name (t.total).table b h in omega (arith, few, n);
   sums = λ word n e. let there : count_of (word_counts doing) word ≡ n = ap or_zero e in omega (arith, few, there, count_is done word, count_is doing word, few_places done word, few_places doing word);
 }
@@ -180,11 +180,12 @@ size_left (x ∷ y ∷ []) h = absurd (omega (arith, h))
 size_left (x ∷ y ∷ z ∷ []) h = refl
 size_left (x ∷ y ∷ z ∷ w ∷ stack) h = absurd (omega (arith, h))
 
-pub merged_tally : (s now : Standing) (known later : KnownObjects) (knows : KnownObjects → Type 0) (done doing : List (List ℕ)) (t : Tallies s known done doing) (stack : List Datum) → stack ≡ (s.own).stack → length (s.own).stack ≡ PART_SLOT + 1
+pub merged_tally : (s now : Standing) (known later : KnownObjects) (knows : KnownObjects → Type 0) (name : Name) (done doing : List (List ℕ)) (t : Tallies s known name done doing) (stack : List Datum) → stack ≡ (s.own).stack → length (s.own).stack ≡ PART_SLOT + 1
     → (now.own).stack ≡ take (length stack - 1) stack → knows later → (sums : WordCounts) → ((word : List ℕ) → get sums word ≡ sum_of (get (word_counts done) word) (get (word_counts doing) word)) → (table : IsCountTable later (t.total).name sums)
     → KeepsUntouched known (t.total).name ((t.total).table).buckets later table.buckets
-    → KnowsTally s known now knows (done ++ doing)
-merged_tally s now known later knows done doing t stack same size own k sums are table untouched = (
+    → (part : IsCountTable later name (word_counts doing)) → part.buckets ≡ (t.table).buckets
+    → KnowsPart s known now knows name (done ++ doing) doing
+merged_tally s now known later knows name done doing t stack same size own k sums are table untouched part part_same = (
   later,
   k,
   record {
@@ -194,8 +195,9 @@ merged_tally s now known later knows done doing t stack same size own k sums are
   },
   record {
     slot = ap (λ (st : List Datum). get_or st 0 datum.Null) own ∙ lowest_left stack (ap length same ∙ size) ∙ ap (λ (st : List Datum). get_or st 0 datum.Null) same;
-    objects = λ name values is aside.
+    objects = λ other values is aside.
         let total = (t.total).table in
-        (untouched name (ap is_some is) (no_table known name (t.total).name values total.heads is aside (total.table).object (total.table).size) (nowhere known name values is aside (t.total).name total.heads total.buckets total.table)).0 ∙ is;
+        (untouched other (ap is_some is) (no_table known other (t.total).name values total.heads is aside (total.table).object (total.table).size) (nowhere known other values is aside (t.total).name total.heads total.buckets total.table)).0 ∙ is;
   },
+  record { table = part; after = λ b h. subst (λ (buckets : ℕ → List Link). AreAfter name (buckets b)) (sym part_same) (t.after b h) },
 )

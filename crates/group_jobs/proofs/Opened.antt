@@ -11,7 +11,7 @@ use Rattle.yak_model.specs.Standing.{Standing}
 use Rattle.yak_model.specs.Tables.{AreInBucket, IsCountTable, LacksWord, Link}
 use Rattle.yak_model.specs.Texts.{WordCounts, word_cmp, word_counts}
 use Rattle.yak_model.proofs.Names.{get-other}
-use Rattle.heap_tables.specs.Adds.{IsNoEntry, IsNowhere}
+use Rattle.heap_tables.specs.Adds.{AreAfter, IsNoEntry, IsNowhere}
 use Rattle.heap_tables.specs.Runs.{next_of, with_made, with_new}
 use Rattle.heap_tables.proofs.Counted.{grown_counts}
 use Rattle.heap_tables.proofs.Effects.{in_bounds, slot_push}
@@ -23,6 +23,11 @@ use Rattle.group_jobs.specs.declared.TheConstants.{PART_SLOT, TOTAL_SLOT}
 none_in : (known : KnownObjects) (name : Name) (table : IsCountTable known name empty) (x : Name) (b : ℕ) (links : List Link) → AreInBucket b links → ((v : List ℕ) → LacksWord v (table.buckets b) → LacksWord v links) → IsNoEntry x links
 none_in known name table x b [] homes lacks = tt
 none_in known name table x b (l ∷ links) homes lacks =
+    absurd ((lacks l.word (subst (λ c. LacksWord l.word (table.buckets c)) homes.0 (table.absent l.word (get-empty word_cmp l.word)))).0 refl)
+
+no_links : (known : KnownObjects) (name : Name) (table : IsCountTable known name empty) (x : Name) (b : ℕ) (links : List Link) → AreInBucket b links → ((v : List ℕ) → LacksWord v (table.buckets b) → LacksWord v links) → AreAfter x links
+no_links known name table x b [] homes lacks = tt
+no_links known name table x b (l ∷ links) homes lacks =
     absurd ((lacks l.word (subst (λ c. LacksWord l.word (table.buckets c)) homes.0 (table.absent l.word (get-empty word_cmp l.word)))).0 refl)
 
 no_entries : (known : KnownObjects) (name : Name) (table : IsCountTable known name empty) (x : Name) → IsNowhere x table.buckets
@@ -43,8 +48,8 @@ made_aside s now known own some none = record {
 
 pub opened_part : (s now : Standing) (known : KnownObjects) (knows : KnownObjects → Type 0) (done : List (List ℕ)) → now.own ≡ with_made s → length (s.own).stack ≡ PART_SLOT → Tally s known done
     → knows (with_new s known BUCKETS) → IsCountTable (with_new s known BUCKETS) (next_of s) empty → get known (next_of s) ≡ None
-    → KnowsTallies s known now knows done []
-opened_part s now known knows done own size t k part none =
+    → now.thread ≡ s.thread → KnowsTallies s known now knows (next_of s) done []
+opened_part s now known knows done own size t k part none thread =
     let table = grown_counts known (with_new s known BUCKETS) (insert_grows known (next_of s) _ none) t.name (word_counts done) t.table in (
       with_new s known BUCKETS,
       k,
@@ -54,7 +59,6 @@ opened_part s now known knows done own size t k part none =
           slot = made_below s now.own TOTAL_SLOT own (in_bounds (s.own).stack TOTAL_SLOT t.name t.slot) ∙ t.slot;
           table = table;
         };
-        name = next_of s;
         slot = ap (λ (o : Thread). get_or o.stack PART_SLOT datum.Null) own ∙ slot_push (s.own).stack (datum.Object (next_of s)) PART_SLOT size;
         table = record {
           heads = part.heads;
@@ -65,6 +69,9 @@ opened_part s now known knows done own size t k part none =
         };
         other = other_name known t.name (next_of s) _ none ((t.table).table).object;
         apart = λ b h. all_apart (table.buckets b) part.buckets (no_entries (with_new s known BUCKETS) (next_of s) part);
+        thread = sym thread;
+        made = let m = ap (λ (o : Thread). o.made) own in omega arith;
+        after = λ b h. no_links (with_new s known BUCKETS) (next_of s) part (next_of s) b (part.buckets b) ((part.table).homes b h) (λ v l. l);
       },
       made_aside s now known own (omega (arith, size)) none,
     )

@@ -12,14 +12,14 @@ use Rattle.group_jobs.proofs.Rooms.{all_left, all_right}
 
 -- ---- one list after another
 
-words_cat : (bytes : List ℕ) (xs ys : List Task) → words_in bytes (xs ++ ys) ≡ words_in bytes xs ++ words_in bytes ys
+pub words_cat : (bytes : List ℕ) (xs ys : List Task) → words_in bytes (xs ++ ys) ≡ words_in bytes xs ++ words_in bytes ys
 words_cat bytes [] ys = refl
 words_cat bytes (x ∷ xs) ys = ap (λ ws. words_of (task_bytes bytes x) ++ ws) (words_cat bytes xs ys) ∙ sym (append_assoc (words_of (task_bytes bytes x)) (words_in bytes xs) (words_in bytes ys))
 
-words_one : (bytes : List ℕ) (x : Task) → words_in bytes (x ∷ []) ≡ words_of (task_bytes bytes x)
+pub words_one : (bytes : List ℕ) (x : Task) → words_in bytes (x ∷ []) ≡ words_of (task_bytes bytes x)
 words_one bytes x = append-nil (words_of (task_bytes bytes x))
 
-rooms_cat : (bytes : List ℕ) (xs ys : List Task) → tasks_room bytes (xs ++ ys) ≡ tasks_room bytes xs + tasks_room bytes ys
+pub rooms_cat : (bytes : List ℕ) (xs ys : List Task) → tasks_room bytes (xs ++ ys) ≡ tasks_room bytes xs + tasks_room bytes ys
 rooms_cat bytes xs ys =
     let busy = sum_by-append (λ task. cond (is_busy (words_of (task_bytes bytes task))) 1 0) xs ys in
     let words = ap words_room (words_cat bytes xs ys) ∙ sum_by-append (λ word. key_words word + 2 * entry_words) (words_in bytes xs) (words_in bytes ys) in
@@ -29,13 +29,13 @@ cond_room : (b : Bool) → table_words * cond {A = ℕ} b 1 0 ≡ cond {A = ℕ}
 cond_room true = omega arith
 cond_room false = omega arith
 
-rooms_one : (bytes : List ℕ) (x : Task) → tasks_room bytes (x ∷ []) ≡ task_room (words_of (task_bytes bytes x))
+pub rooms_one : (bytes : List ℕ) (x : Task) → tasks_room bytes (x ∷ []) ≡ task_room (words_of (task_bytes bytes x))
 rooms_one bytes x =
     let busy = sum_by-cons (λ task. cond (is_busy (words_of (task_bytes bytes task))) 1 0) x [] in
     let words = ap words_room (words_one bytes x) in
     omega (arith, busy, words, cond_room (is_busy (words_of (task_bytes bytes x))))
 
-busy_cat : (xs ys : List (List ℕ)) → is_busy (xs ++ ys) ≡ (is_busy xs || is_busy ys)
+pub busy_cat : (xs ys : List (List ℕ)) → is_busy (xs ++ ys) ≡ (is_busy xs || is_busy ys)
 busy_cat [] ys = refl
 busy_cat (x ∷ xs) ys = refl
 

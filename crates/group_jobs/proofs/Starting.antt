@@ -27,3 +27,11 @@ within_from bytes lines place (task ∷ tasks) are =
 
 pub tasks_within : (bytes : List ℕ) (lines : ℕ) (tasks : List Task) → AreTasks bytes lines tasks → AreWithin bytes tasks
 tasks_within bytes lines tasks are = within_from bytes lines 0 tasks are
+
+from_few : (bytes : List ℕ) (lines place : ℕ) (tasks : List Task) → AreTasksFrom bytes lines place tasks → place + length tasks ≤ length bytes
+from_few bytes lines place [] are = omega (arith, are)
+from_few bytes lines place (task ∷ tasks) are = let rest = from_few bytes lines task.end tasks are.2 in let some = are.1.some in let start = are.0 in omega arith
+
+-- A text has at most as many tasks as bytes.
+pub few_tasks : (bytes : List ℕ) (lines : ℕ) (tasks : List Task) → AreTasks bytes lines tasks → length tasks ≤ length bytes
+few_tasks bytes lines tasks are = let few = from_few bytes lines 0 tasks are in omega arith

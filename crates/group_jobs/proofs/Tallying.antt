@@ -12,7 +12,7 @@ use Rattle.yak_model.specs.Private.{KnownObjects}
 use Rattle.yak_model.specs.Standing.{Standing}
 use Rattle.yak_model.specs.Tables.{AreDifferent, AreInBucket, IsChain, IsCountTable, IsKey, IsTable, LacksWord, Link}
 use Rattle.yak_model.specs.Texts.{WordCounts, places_of, word_cmp, word_counts}
-use Rattle.heap_tables.specs.Adds.{IsNoEntry, IsNowhere, KeepsOthers, StayNowhere}
+use Rattle.heap_tables.specs.Adds.{IsNoEntry, IsNowhere, KeepsOthers, StayAfter, StayNowhere}
 use Rattle.heap_tables.specs.Counted.{count_of, or_zero, raised}
 use Rattle.heap_tables.specs.Walks.{IsApart}
 use Rattle.heap_tables.proofs.Entries.{key_no_entry}
@@ -120,10 +120,10 @@ few_in_bucket words known name table b bound =
 -- ---- what stays of a table
 
 -- the objects of a chain are as they were
-abbrev AreSame : KnownObjects → KnownObjects → List Link → Type 0
+abbrev pub AreSame : KnownObjects → KnownObjects → List Link → Type 0
 AreSame known later links = All (λ l. (get later l.entry ≡ get known l.entry) × (get later l.key ≡ get known l.key)) links
 
-chain_stays : (known later : KnownObjects) (links : List Link) (head : Datum) → AreSame known later links → IsChain known head links → IsChain later head links
+pub chain_stays : (known later : KnownObjects) (links : List Link) (head : Datum) → AreSame known later links → IsChain known head links → IsChain later head links
 chain_stays known later [] head same chain = chain
 chain_stays known later (l ∷ links) head same chain =
     let Q = λ (k : Link). (get later k.entry ≡ get known k.entry) × (get later k.key ≡ get known k.key) in
@@ -170,11 +170,12 @@ still_apart known (l ∷ links) head buckets after chain keeps apart =
     All-cons (λ k. IsNowhere k.entry after) l links (keeps l.entry (ap is_some chain.1.1.0) (All-head A l links apart)) (still_apart known links chain.1.0 buckets after chain.1.2 keeps (All-tail A l links apart))
 
 -- Another word in the table of a part: the total's table is as it was.
-pub tallies_more : (s now : Standing) (known later : KnownObjects) (knows : KnownObjects → Type 0) (done doing : List (List ℕ)) (word : List ℕ) (b : ℕ) → b < BUCKETS
+pub tallies_more : (s now : Standing) (known later : KnownObjects) (knows : KnownObjects → Type 0) (name : Name) (done doing : List (List ℕ)) (word : List ℕ) (b : ℕ) → b < BUCKETS
     → ((i : ℕ) → get_or (now.own).stack i datum.Null ≡ get_or (s.own).stack i datum.Null)
-    → (t : Tallies s known done doing) → knows later → (part : IsCountTable later t.name (raised (word_counts doing) word 1)) → KeepsOthers known t.name ((t.table).buckets b) later → StayNowhere known (t.table).buckets part.buckets
-    → KnowsTallies s known now knows done (doing ++ word ∷ [])
-tallies_more s now known later knows done doing word b bound slots t k part others keeps =
+    → (t : Tallies s known name done doing) → knows later → (part : IsCountTable later name (raised (word_counts doing) word 1)) → KeepsOthers known name ((t.table).buckets b) later → StayNowhere known (t.table).buckets part.buckets
+    → ((c : ℕ) → c < BUCKETS → StayAfter s ((t.table).buckets c) (part.buckets c)) → now.thread ≡ s.thread → (s.own).made ≤ (now.own).made
+    → KnowsTallies s known now knows name done (doing ++ word ∷ [])
+tallies_more s now known later knows name done doing word b bound slots t k part others keeps stay thread made =
     let total = t.total.table in (
       later,
       k,
@@ -185,12 +186,11 @@ tallies_more s now known later knows done doing word b bound slots t k part othe
           table = record {
             heads = total.heads;
             buckets = total.buckets;
-            table = table_stays known later t.name (t.table).heads (t.table).buckets (t.table).table b bound others t.total.name total.heads total.buckets total.table t.other t.apart;
+            table = table_stays known later name (t.table).heads (t.table).buckets (t.table).table b bound others t.total.name total.heads total.buckets total.table t.other t.apart;
             counted = total.counted;
             absent = total.absent;
           };
         };
-        name = t.name;
         slot = slots 2 ∙ t.slot;
         table = record {
           heads = part.heads;
@@ -200,12 +200,15 @@ tallies_more s now known later knows done doing word b bound slots t k part othe
           absent = λ w e. part.absent w (ap (λ (m : WordCounts). get m w) (raised_one doing word) ∙ e);
         };
         other = t.other;
+        thread = t.thread ∙ sym thread;
+        made = let m = t.made in omega arith;
+        after = λ c h. stay c h name t.thread t.made (t.after c h);
         apart = λ c h. still_apart known (total.buckets c) (get_or total.heads c datum.Null) (t.table).buckets part.buckets ((total.table).chains c h) keeps (t.apart c h);
       },
       record {
         slot = slots 0;
-        objects = λ name values is aside.
+        objects = λ other values is aside.
             let table = (t.table).table in
-            others name (ap is_some is) (no_table known name t.name values (t.table).heads is aside table.object table.size) (nowhere known name values is aside t.name (t.table).heads (t.table).buckets table b bound) ∙ is;
+            others other (ap is_some is) (no_table known other name values (t.table).heads is aside table.object table.size) (nowhere known other values is aside name (t.table).heads (t.table).buckets table b bound) ∙ is;
       },
     )

@@ -2,9 +2,14 @@ pub mod Tasks
 pub mod Pieces
 pub mod LongWords
 pub mod Counts
+pub mod Epochs
 pub mod Goings
 pub mod Tallies
+pub mod Followed
+pub mod Shared
+pub mod Workers
 pub mod Listing
 pub mod Printing
 pub mod Dealings
 pub mod Alone
+pub mod Pairs

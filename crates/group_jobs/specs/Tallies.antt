@@ -13,8 +13,9 @@ use Rattle.yak_model.specs.Room.{entry_words, key_words, table_words}
 use Rattle.yak_model.specs.Standing.{Standing}
 use Rattle.yak_model.specs.Tables.{IsCountTable, Link}
 use Rattle.yak_model.specs.Texts.{word_counts, words_of}
-use Rattle.heap_tables.specs.Adds.{IsNowhere}
-use Rattle.heap_tables.specs.Runs.{slot_in, stack_in}
+use Rattle.heap_tables.specs.Adds.{AreAfter, IsNowhere}
+use Rattle.heap_tables.specs.Runs.{next_of, slot_in, stack_in}
+use Rattle.group_jobs.specs.Epochs.{GrowsBy, IsOneEpoch, IsWithin}
 use Rattle.group_jobs.specs.Tasks.{task_bytes}
 use Rattle.group_jobs.specs.declared.tasks.Task.{Task}
 use Rattle.group_jobs.specs.declared.TheConstants.{MOST_WORDS, PART_SLOT, TOTAL_SLOT}
@@ -75,14 +76,17 @@ pub record Tally (s : Standing) (known : KnownObjects) (done : List (List ℕ)) 
 abbrev pub AreApart : List Link → (ℕ → List Link) → Type 0
 AreApart links buckets = All (λ link. IsNowhere link.entry buckets) links
 
--- Beside it the slot of a part refers to another table, which counts other words, and they share no entry.
-pub record Tallies (s : Standing) (known : KnownObjects) (done doing : List (List ℕ)) : Type 0 where
+-- Beside it the slot of a part refers to another table, of this name, which counts other words, and they share no entry. The thread
+-- made the part's table, and after it the entries of that table and their keys.
+pub record Tallies (s : Standing) (known : KnownObjects) (name : Name) (done doing : List (List ℕ)) : Type 0 where
   pub total : Tally s known done
-  pub name : Name
   pub slot : slot_in s PART_SLOT ≡ datum.Object name
   pub table : IsCountTable known name (word_counts doing)
   pub other : total.name ≢ name
   pub apart : (b : ℕ) → b < BUCKETS → AreApart (total.table.buckets b) table.buckets
+  pub thread : name.thread ≡ s.thread
+  pub made : name.serial ≤ s.own.made
+  pub after : (b : ℕ) → b < BUCKETS → AreAfter name (table.buckets b)
 
 -- So many words were counted, and so many more may come.
 abbrev pub HasTally : Standing → (KnownObjects → Type 0) → ℕ → Type 0
@@ -90,7 +94,7 @@ HasTally s knows more = (known : KnownObjects) × (done : List (List ℕ)) × kn
 
 abbrev pub HasTallies : Standing → (KnownObjects → Type 0) → ℕ → Type 0
 HasTallies s knows more =
-    (known : KnownObjects) × (done : List (List ℕ)) × (doing : List (List ℕ)) × knows known × Tallies s known done doing × (length done + (length doing + more) ≤ MOST_WORDS)
+    (known : KnownObjects) × (name : Name) × (done : List (List ℕ)) × (doing : List (List ℕ)) × knows known × Tallies s known name done doing × (length done + (length doing + more) ≤ MOST_WORDS)
 
 -- An object with these fields is no table and no entry, by how many they are.
 abbrev pub IsAside : List Datum → Type 0
@@ -105,8 +109,19 @@ pub record KeepsAside (s : Standing) (known : KnownObjects) (now : Standing) (la
 abbrev pub KnowsTally : Standing → KnownObjects → Standing → (KnownObjects → Type 0) → List (List ℕ) → Type 0
 KnowsTally s known now knows done = (later : KnownObjects) × knows later × Tally now later done × KeepsAside s known now later
 
-abbrev pub KnowsTallies : Standing → KnownObjects → Standing → (KnownObjects → Type 0) → List (List ℕ) → List (List ℕ) → Type 0
-KnowsTallies s known now knows done doing = (later : KnownObjects) × knows later × Tallies now later done doing × KeepsAside s known now later
+abbrev pub KnowsTallies : Standing → KnownObjects → Standing → (KnownObjects → Type 0) → Name → List (List ℕ) → List (List ℕ) → Type 0
+KnowsTallies s known now knows name done doing =
+    (later : KnownObjects) × knows later × Tallies now later name done doing × KeepsAside s known now later
+
+-- The object is a table of the words' counts, and its thread made its entries and their keys after it.
+pub record IsPartTable (known : KnownObjects) (name : Name) (words : List (List ℕ)) : Type 0 where
+  pub table : IsCountTable known name (word_counts words)
+  pub after : (b : ℕ) → b < BUCKETS → AreAfter name (table.buckets b)
+
+-- The words of a part, which has its table, were added to the table of the total.
+abbrev pub KnowsPart : Standing → KnownObjects → Standing → (KnownObjects → Type 0) → Name → List (List ℕ) → List (List ℕ) → Type 0
+KnowsPart s known now knows name done words =
+    (later : KnownObjects) × knows later × Tally now later done × KeepsAside s known now later × IsPartTable later name words
 
 -- The thread has the same stack and depth, and has made at most so many more objects.
 pub record KeepsPlace (own after : Thread) (more : ℕ) : Type 0 where
@@ -127,3 +142,14 @@ HasProgress has s knows more =
 
 abbrev pub KnowsProgress : Bool → Standing → KnownObjects → Standing → (KnownObjects → Type 0) → List (List ℕ) → Type 0
 KnowsProgress has s known now knows done = (later : KnownObjects) × knows later × IsProgress has now later done × KeepsAside s known now later
+
+-- ---- a task
+
+-- The task's words were counted in an epoch of its own, which was begun after no more than calls within no epoch. If there are
+-- words, the first object that was made in the epoch is their table.
+pub record CountsEpoch {S : Type 0} (standing : S → Standing) (knows : S → KnownObjects → Type 0) (s after : S) (words : List (List ℕ)) : Type 0 where
+  pub ready : S
+  pub thread : (standing ready).thread ≡ (standing s).thread
+  pub before : GrowsBy IsWithin (standing s).list (standing ready).list
+  pub epoch : GrowsBy (IsOneEpoch (standing s).thread) (standing ready).list (standing after).list
+  pub part : words ≢ [] → (later : KnownObjects) × knows after later × IsPartTable later (next_of (standing ready)) words

@@ -3,7 +3,7 @@ ghost use Rattle.std.specs.Prelude.{◌≡◌, ℕ, List, IsPermutation};
 ghost use Rattle.std.specs.declared.cmp.Ordering.{Ordering};
 ghost use Rattle.std.specs.FinMap as finite;
 ghost use Rattle.yak_model.specs.Texts.{WordCounts, counts_of, word_cmp, word_counts};
-ghost use Rattle.group_jobs.specs.Counts.{AreEntries};
+ghost use Rattle.group_jobs.specs.Counts.{AreEntries, Ascends};
 
 use std::cmp::Ordering;
 use std::marker::Model;
@@ -25,7 +25,7 @@ impl Model for Counted {
 
 impl Counted {
     /// The order of the words, by their bytes.
-    fn order(&self, other: &Counted) -> Ordering
+    pub(crate) fn order(&self, other: &Counted) -> Ordering
         ensures { result ≡ word_cmp self.now.0 other.now.0 }
     {
         self.word.as_slice().cmp(other.word.as_slice())
@@ -35,6 +35,7 @@ impl Counted {
 /// Puts counts into ascending order of the words' bytes.
 pub fn sort_counts(list: &mut Vec<Counted>)
     ensures moved { IsPermutation list.old.items list.new.items }
+    ensures up { Ascends list.new.items }
     ensures sorted { (counts : WordCounts) → AreEntries counts list.old.items → list.new.items ≡ finite.entries counts }
     ensures counts { (words : List (List ℕ)) → AreEntries (word_counts words) list.old.items → list.new.items ≡ counts_of words }
 {

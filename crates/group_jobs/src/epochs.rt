@@ -2,6 +2,7 @@
 ghost use Rattle.std.specs.Prelude.{◌≡◌, ℕ, ◌+◌, ◌-◌, ◌<◌, length};
 ghost use Rattle.yak_model.specs.Private.{KnownObjects};
 ghost use Rattle.heap_tables.specs.Runs.{KeepsKnown, KnowsSome, Ran, popped, stack_in};
+ghost use Rattle.group_jobs.specs.Epochs.{GrowsBy, IsBegun, IsEnded};
 ghost use Rattle.group_jobs.specs.Goings.{Went};
 
 use object_layout::Call;
@@ -14,6 +15,7 @@ pub(crate) fn begin<C: Caller>(caller: &mut C)
     ensures went { Went C.base C.tells C.tells_known C.standing caller.old caller.new 0 }
     ensures keeps { KeepsKnown (C.knows caller.old) (C.knows caller.new) }
     ensures own { (C.standing caller.new).own ≡ record (C.standing caller.old).own { depth = (C.standing caller.old).own.depth + 1 } }
+    ensures list { GrowsBy (IsBegun (C.standing caller.old).thread) (C.standing caller.old).list (C.standing caller.new).list }
 {
     let _reply = caller.make_call(Call::Begin);
 }
@@ -25,6 +27,7 @@ pub(crate) fn end<C: Caller>(caller: &mut C)
     ensures went { Went C.base C.tells C.tells_known C.standing caller.old caller.new 0 }
     ensures keeps { KeepsKnown (C.knows caller.old) (C.knows caller.new) }
     ensures own { (C.standing caller.new).own ≡ record (C.standing caller.old).own { depth = (C.standing caller.old).own.depth - 1 } }
+    ensures list { GrowsBy (IsEnded (C.standing caller.old).thread) (C.standing caller.old).list (C.standing caller.new).list }
 {
     let _reply = caller.make_call(Call::End);
 }

@@ -3,11 +3,18 @@
 
 mod count;
 mod counted;
+mod dealers;
 mod epochs;
+mod feeding;
+mod followed;
 mod laws;
 mod listing;
 mod long_words;
+mod many;
+mod pairs;
 mod printing;
+mod shares;
+mod sums;
 mod tallies;
 mod tasks;
 #[cfg(test)]
@@ -16,11 +23,13 @@ mod words;
 
 pub use count::{CountError, CountedAlone, count_one};
 pub use counted::{Counted, sort_counts};
+pub use feeding::{Fed, count_fed};
 pub use laws::{
     law_dealt_counts, law_dealt_room, law_dealt_tasks, law_dealt_words, law_one_cut, law_row_more,
     law_row_words,
 };
 pub use long_words::long_word;
+pub use many::{Counts, count_many};
 pub use printing::print_counts;
 pub use tasks::{Task, cut_tasks};
 pub use words::Words;

@@ -1,15 +1,17 @@
 //! Counting the words of texts in tables of a heap, by whatever caller.
 ghost use Rattle.std.specs.Prelude.{◌≡◌, ℕ, ◌+◌, ◌*◌, ◌-◌, ◌≤◌, ◌<◌, ◌∷◌, ◌++◌, [], List, true, false, cond, ◌||◌, length, OnErr, OnOk, IfOk};
 ghost use Rattle.std.specs.List.{All};
+ghost use Rattle.object_layout.specs.declared.names.Name.{Name};
 ghost use Rattle.object_layout.specs.declared.TheConstants.{WORD_LIMIT};
 ghost use Rattle.yak_model.specs.Private.{KnownObjects};
 ghost use Rattle.yak_model.specs.Room.{entry_words, key_words, table_words};
 ghost use Rattle.yak_model.specs.Standing.{Standing};
 ghost use Rattle.yak_model.specs.Texts.{words_of};
 ghost use Rattle.heap_tables.specs.declared.TheConstants.{MOST_MADE};
-ghost use Rattle.heap_tables.specs.Runs.{KeepsKnown, KnowsSome, stack_in};
+ghost use Rattle.heap_tables.specs.Runs.{KeepsKnown, KnowsSome, next_of, stack_in};
+ghost use Rattle.group_jobs.specs.Epochs.{GrowsBy, IsHalted, IsOneEpoch, IsWithin};
 ghost use Rattle.group_jobs.specs.Goings.{Went, WentOut};
-ghost use Rattle.group_jobs.specs.Tallies.{AreShort, HasProgress, HasTallies, HasTally, IsProgress, KeepsPlace, KnowsProgress, KnowsTallies, KnowsTally, Tallies, Tally, AreWithin, is_busy, new_total, part_room, task_room, tasks_room, words_in, words_room};
+ghost use Rattle.group_jobs.specs.Tallies.{AreShort, CountsEpoch, HasProgress, HasTallies, HasTally, IsProgress, KeepsPlace, KnowsPart, KnowsProgress, KnowsTallies, KnowsTally, Tallies, Tally, AreWithin, is_busy, new_total, part_room, task_room, tasks_room, words_in, words_room};
 ghost use Rattle.group_jobs.specs.Tasks.{task_bytes};
 ghost use Rattle.group_jobs.specs.declared.TheConstants.{MOST_WORDS, OBJECTS_FOR_WORD, PART_SLOT, TOTAL_SLOT};
 
@@ -29,7 +31,8 @@ fn count_word<C: Caller>(caller: &mut C, word: &[u8]) -> Result<(), OutOfHeap>
     requires slots { length (stack_in (C.standing caller.old)) ≡ PART_SLOT + 1 }
     ensures went { OnOk result (Went C.base C.tells C.tells_known C.standing caller.old caller.new (key_words word.now + entry_words)) }
     ensures place { OnOk result (KeepsPlace (C.standing caller.old).own (C.standing caller.new).own 2) }
-    ensures counted { OnOk result ((known : KnownObjects) (done doing : List (List ℕ)) → C.knows caller.old known → Tallies (C.standing caller.old) known done doing → length done + (length doing + 1) ≤ MOST_WORDS → KnowsTallies (C.standing caller.old) known (C.standing caller.new) (C.knows caller.new) done (doing ++ word.now ∷ [])) }
+    ensures list { GrowsBy IsWithin (C.standing caller.old).list (C.standing caller.new).list }
+    ensures counted { OnOk result ((known : KnownObjects) (name : Name) (done doing : List (List ℕ)) → C.knows caller.old known → Tallies (C.standing caller.old) known name done doing → length done + (length doing + 1) ≤ MOST_WORDS → KnowsTallies (C.standing caller.old) known (C.standing caller.new) (C.knows caller.new) name done (doing ++ word.now ∷ [])) }
     ensures out { OnErr result (WentOut C.base C.tells C.tells_known C.standing caller.old caller.new (C.standing caller.old).own.depth (key_words word.now + entry_words)) }
 {
     add(caller, PART_SLOT, word, 1)
@@ -43,7 +46,8 @@ fn count_words<C: Caller>(caller: &mut C, bytes: &[u8]) -> Result<(), OutOfHeap>
     requires slots { length (stack_in (C.standing caller.old)) ≡ PART_SLOT + 1 }
     ensures went { OnOk result (Went C.base C.tells C.tells_known C.standing caller.old caller.new (part_room (words_of bytes.now))) }
     ensures place { OnOk result (KeepsPlace (C.standing caller.old).own (C.standing caller.new).own (2 * length (words_of bytes.now))) }
-    ensures counted { OnOk result ((known : KnownObjects) (done doing : List (List ℕ)) → C.knows caller.old known → Tallies (C.standing caller.old) known done doing → length done + (length doing + length (words_of bytes.now)) ≤ MOST_WORDS → KnowsTallies (C.standing caller.old) known (C.standing caller.new) (C.knows caller.new) done (doing ++ words_of bytes.now)) }
+    ensures list { GrowsBy IsWithin (C.standing caller.old).list (C.standing caller.new).list }
+    ensures counted { OnOk result ((known : KnownObjects) (name : Name) (done doing : List (List ℕ)) → C.knows caller.old known → Tallies (C.standing caller.old) known name done doing → length done + (length doing + length (words_of bytes.now)) ≤ MOST_WORDS → KnowsTallies (C.standing caller.old) known (C.standing caller.new) (C.knows caller.new) name done (doing ++ words_of bytes.now)) }
     ensures out { OnErr result (WentOut C.base C.tells C.tells_known C.standing caller.old caller.new (C.standing caller.old).own.depth (part_room (words_of bytes.now))) }
 {
     let mut words = Words::of(bytes);
@@ -62,7 +66,8 @@ fn open_part<C: Caller>(caller: &mut C) -> Result<(), OutOfHeap>
     ensures slots { OnOk result (length (stack_in (C.standing caller.new)) ≡ PART_SLOT + 1) }
     ensures depth { OnOk result ((C.standing caller.new).own.depth ≡ (C.standing caller.old).own.depth) }
     ensures made { OnOk result ((C.standing caller.new).own.made ≡ (C.standing caller.old).own.made + 1) }
-    ensures opened { OnOk result ((known : KnownObjects) (done : List (List ℕ)) → C.knows caller.old known → Tally (C.standing caller.old) known done → KnowsTallies (C.standing caller.old) known (C.standing caller.new) (C.knows caller.new) done []) }
+    ensures list { GrowsBy IsWithin (C.standing caller.old).list (C.standing caller.new).list }
+    ensures opened { OnOk result ((known : KnownObjects) (done : List (List ℕ)) → C.knows caller.old known → Tally (C.standing caller.old) known done → KnowsTallies (C.standing caller.old) known (C.standing caller.new) (C.knows caller.new) (next_of (C.standing caller.old)) done []) }
     ensures out { OnErr result (WentOut C.base C.tells C.tells_known C.standing caller.old caller.new (C.standing caller.old).own.depth table_words) }
 {
     make(caller)
@@ -75,8 +80,9 @@ fn close_part<C: Caller>(caller: &mut C) -> Result<(), OutOfHeap>
     requires slots { length (stack_in (C.standing caller.old)) ≡ PART_SLOT + 1 }
     ensures slots { OnOk result (length (stack_in (C.standing caller.new)) ≡ PART_SLOT) }
     ensures depth { OnOk result ((C.standing caller.new).own.depth ≡ (C.standing caller.old).own.depth) }
-    ensures closed { OnOk result ((known : KnownObjects) (done doing : List (List ℕ)) → C.knows caller.old known → Tallies (C.standing caller.old) known done doing → length done + length doing ≤ MOST_WORDS → KnowsTally (C.standing caller.old) known (C.standing caller.new) (C.knows caller.new) (done ++ doing) × Went C.base C.tells C.tells_known C.standing caller.old caller.new (entry_words * length doing) × ((C.standing caller.new).own.made ≤ (C.standing caller.old).own.made + length doing)) }
-    ensures out { OnErr result ((known : KnownObjects) (done doing : List (List ℕ)) → C.knows caller.old known → Tallies (C.standing caller.old) known done doing → length done + length doing ≤ MOST_WORDS → WentOut C.base C.tells C.tells_known C.standing caller.old caller.new (C.standing caller.old).own.depth (entry_words * length doing)) }
+    ensures list { GrowsBy IsWithin (C.standing caller.old).list (C.standing caller.new).list }
+    ensures closed { OnOk result ((known : KnownObjects) (name : Name) (done doing : List (List ℕ)) → C.knows caller.old known → Tallies (C.standing caller.old) known name done doing → length done + length doing ≤ MOST_WORDS → KnowsPart (C.standing caller.old) known (C.standing caller.new) (C.knows caller.new) name (done ++ doing) doing × Went C.base C.tells C.tells_known C.standing caller.old caller.new (entry_words * length doing) × ((C.standing caller.new).own.made ≤ (C.standing caller.old).own.made + length doing)) }
+    ensures out { OnErr result ((known : KnownObjects) (name : Name) (done doing : List (List ℕ)) → C.knows caller.old known → Tallies (C.standing caller.old) known name done doing → length done + length doing ≤ MOST_WORDS → WentOut C.base C.tells C.tells_known C.standing caller.old caller.new (C.standing caller.old).own.depth (entry_words * length doing)) }
 {
     merge(caller, PART_SLOT, TOTAL_SLOT)?;
     drop_top(caller);
@@ -93,7 +99,8 @@ fn count_part<C: Caller>(caller: &mut C, bytes: &[u8]) -> Result<(), OutOfHeap>
     ensures slots { OnOk result (length (stack_in (C.standing caller.new)) ≡ PART_SLOT) }
     ensures depth { OnOk result ((C.standing caller.new).own.depth ≡ (C.standing caller.old).own.depth) }
     ensures made { OnOk result ((C.standing caller.new).own.made ≤ (C.standing caller.old).own.made + (3 * length (words_of bytes.now) + 1)) }
-    ensures counted { OnOk result ((known : KnownObjects) (done : List (List ℕ)) → C.knows caller.old known → Tally (C.standing caller.old) known done → length done + length (words_of bytes.now) ≤ MOST_WORDS → KnowsTally (C.standing caller.old) known (C.standing caller.new) (C.knows caller.new) (done ++ words_of bytes.now)) }
+    ensures list { GrowsBy IsWithin (C.standing caller.old).list (C.standing caller.new).list }
+    ensures counted { OnOk result ((known : KnownObjects) (done : List (List ℕ)) → C.knows caller.old known → Tally (C.standing caller.old) known done → length done + length (words_of bytes.now) ≤ MOST_WORDS → KnowsPart (C.standing caller.old) known (C.standing caller.new) (C.knows caller.new) (next_of (C.standing caller.old)) (done ++ words_of bytes.now) (words_of bytes.now)) }
     ensures out { OnErr result (WentOut C.base C.tells C.tells_known C.standing caller.old caller.new (C.standing caller.old).own.depth (table_words + words_room (words_of bytes.now))) }
 {
     open_part(caller)?;
@@ -112,7 +119,9 @@ fn count_epoch<C: Caller>(caller: &mut C, bytes: &[u8]) -> Result<(), OutOfHeap>
     ensures slots { OnOk result (length (stack_in (C.standing caller.new)) ≡ PART_SLOT) }
     ensures depth { OnOk result ((C.standing caller.new).own.depth ≡ 0) }
     ensures made { OnOk result ((C.standing caller.new).own.made ≤ (C.standing caller.old).own.made + (3 * length (words_of bytes.now) + 1)) }
-    ensures counted { OnOk result ((known : KnownObjects) (done : List (List ℕ)) → C.knows caller.old known → Tally (C.standing caller.old) known done → length done + length (words_of bytes.now) ≤ MOST_WORDS → KnowsTally (C.standing caller.old) known (C.standing caller.new) (C.knows caller.new) (done ++ words_of bytes.now)) }
+    ensures list { OnOk result (GrowsBy (IsOneEpoch (C.standing caller.old).thread) (C.standing caller.old).list (C.standing caller.new).list) }
+    ensures halted { OnErr result (GrowsBy (IsHalted (C.standing caller.old).thread) (C.standing caller.old).list (C.standing caller.new).list) }
+    ensures counted { OnOk result ((known : KnownObjects) (done : List (List ℕ)) → C.knows caller.old known → Tally (C.standing caller.old) known done → length done + length (words_of bytes.now) ≤ MOST_WORDS → KnowsPart (C.standing caller.old) known (C.standing caller.new) (C.knows caller.new) (next_of (C.standing caller.old)) (done ++ words_of bytes.now) (words_of bytes.now)) }
     ensures out { OnErr result (WentOut C.base C.tells C.tells_known C.standing caller.old caller.new 1 (table_words + words_room (words_of bytes.now))) }
 {
     begin(caller);
@@ -128,6 +137,7 @@ fn pass_epoch<C: Caller>(caller: &mut C)
     ensures went { Went C.base C.tells C.tells_known C.standing caller.old caller.new 0 }
     ensures keeps { KeepsKnown (C.knows caller.old) (C.knows caller.new) }
     ensures own { (C.standing caller.new).own ≡ (C.standing caller.old).own }
+    ensures list { GrowsBy (IsOneEpoch (C.standing caller.old).thread) (C.standing caller.old).list (C.standing caller.new).list }
 {
     begin(caller);
     end(caller);
@@ -141,6 +151,7 @@ fn open_total<C: Caller>(caller: &mut C, has_total: bool) -> Result<(), OutOfHea
     ensures slots { OnOk result (length (stack_in (C.standing caller.new)) ≡ PART_SLOT) }
     ensures depth { OnOk result ((C.standing caller.new).own.depth ≡ (C.standing caller.old).own.depth) }
     ensures made { OnOk result ((C.standing caller.new).own.made ≤ (C.standing caller.old).own.made + 1) }
+    ensures list { GrowsBy IsWithin (C.standing caller.old).list (C.standing caller.new).list }
     ensures opened { OnOk result ((known : KnownObjects) (done : List (List ℕ)) → C.knows caller.old known → IsProgress has_total (C.standing caller.old) known done → KnowsTally (C.standing caller.old) known (C.standing caller.new) (C.knows caller.new) done) }
     ensures out { OnErr result (WentOut C.base C.tells C.tells_known C.standing caller.old caller.new (C.standing caller.old).own.depth (cond has_total 0 table_words)) }
 {
@@ -159,7 +170,11 @@ fn has_words(bytes: &[u8]) -> bool
 }
 
 /// Counts the words of a task, and tells whether there is a table of the total then.
-fn count_task<C: Caller>(caller: &mut C, has_total: bool, bytes: &[u8]) -> Result<bool, OutOfHeap>
+pub(crate) fn count_task<C: Caller>(
+    caller: &mut C,
+    has_total: bool,
+    bytes: &[u8],
+) -> Result<bool, OutOfHeap>
     requires progress { HasProgress has_total (C.standing caller.old) (C.knows caller.old) (length (words_of bytes.now)) }
     requires short { AreShort (words_of bytes.now) }
     requires outside { (C.standing caller.old).own.depth ≡ 0 }
@@ -169,6 +184,8 @@ fn count_task<C: Caller>(caller: &mut C, has_total: bool, bytes: &[u8]) -> Resul
     ensures made { OnOk result ((C.standing caller.new).own.made ≤ (C.standing caller.old).own.made + OBJECTS_FOR_WORD * length (words_of bytes.now)) }
     ensures has { IfOk result (λ has. has ≡ (has_total || is_busy (words_of bytes.now))) }
     ensures counted { IfOk result (λ has. (known : KnownObjects) (done : List (List ℕ)) → C.knows caller.old known → IsProgress has_total (C.standing caller.old) known done → length done + length (words_of bytes.now) ≤ MOST_WORDS → KnowsProgress has (C.standing caller.old) known (C.standing caller.new) (C.knows caller.new) (done ++ words_of bytes.now)) }
+    ensures epoch { OnOk result (CountsEpoch C.standing C.knows caller.old caller.new (words_of bytes.now)) }
+    ensures halted { OnErr result (GrowsBy (IsHalted (C.standing caller.old).thread) (C.standing caller.old).list (C.standing caller.new).list) }
     ensures out { OnErr result (WentOut C.base C.tells C.tells_known C.standing caller.old caller.new 1 (new_total has_total true + task_room (words_of bytes.now))) }
 {
     if !has_words(bytes) {

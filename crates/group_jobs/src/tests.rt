@@ -1,19 +1,26 @@
-ghost use Rattle.std.specs.Prelude.{◌≡◌, ◌≤◌, ℕ, length, OnOk};
+ghost use Rattle.std.specs.Prelude.{◌≡◌, ◌≤◌, ℕ, false, true, length, OnOk};
+ghost use Rattle.heap_words.specs.Map.{IsAreas};
+ghost use Rattle.group_jobs.specs.LongWords.{has_long_word};
 ghost use Rattle.object_layout.specs.declared.TheConstants.{WORD_LIMIT};
 ghost use Rattle.heap_tables.specs.Cursors.{HasTableWalk};
 ghost use Rattle.heap_tables.specs.Runs.{KnowsSome, stack_in};
-ghost use Rattle.group_jobs.specs.declared.TheConstants.{PART_SLOT, TOTAL_SLOT};
+ghost use Rattle.group_jobs.specs.declared.TheConstants.{INPUT_LIMIT, PART_SLOT, TOTAL_SLOT};
 
 use crate::count::open_heap;
 use crate::{
-    CountError, Counted, INPUT_LIMIT, TOTAL_SLOT, Words, count_one, cut_tasks, long_word,
-    print_counts, sort_counts,
+    CountError, Counted, INPUT_LIMIT, TOTAL_SLOT, Words, count_fed, count_many, count_one,
+    cut_tasks, long_word, print_counts, sort_counts,
 };
 use heap_tables::{Cursor, Entry, add, make, next_entry};
-use heap_words::MAX_PAGES;
+use heap_words::{MAX_PAGES, MAX_THREADS};
 use object_layout::{NoMemory, OutOfHeap, WORD_LIMIT};
 use std::alloc::Global;
+use std::sync::Wait;
+use std::sync::atomic::{AtomicU64, Ordering};
 use std::test::Fail;
+use std::thread;
+use std::thread::Threads;
+use yak_io::{Brake, NoBrake};
 use yak_model::Caller;
 
 #[test]
@@ -164,5 +171,143 @@ fn walks_through_a_table(rt: HostRuntime) -> Result<(), Fail> {
     let Ok(None) = walk_on(alloc, &mut caller, entry.next) else {
         panic!(rt; "no end");
     };
+    Ok(())
+}
+
+/// Whether a text may be counted by so many workers in a heap of so many pages.
+fn may_count(pages: u32, workers: u8, bytes: &[u8]) -> bool
+    ensures size { result ≡ true → IsAreas (record { pages = pages; threads = workers }) }
+    ensures short { result ≡ true → length bytes.now ≤ INPUT_LIMIT }
+    ensures words { result ≡ true → has_long_word bytes.now ≡ false }
+{
+    pages > 0
+        && pages <= MAX_PAGES
+        && workers > 0
+        && workers <= MAX_THREADS
+        && bytes.len() <= INPUT_LIMIT
+        && long_word(bytes).is_none()
+}
+
+/// Counts a text by workers with fixed shares, or by workers that take the tasks from a feed, in tasks of one line.
+fn count_shared<R: Threads + Wait + Sync, B: Brake + Sync>(
+    rt: &R,
+    alloc: Global,
+    text: &str,
+    pages: u32,
+    workers: u8,
+    fed: bool,
+    brake: &B,
+) -> Option<Vec<Counted>> {
+    let bytes = text.as_bytes();
+    if !may_count(pages, workers, bytes) {
+        return None;
+    }
+    if fed {
+        return match count_fed(rt, alloc, pages, workers, 1, bytes, brake) {
+            Ok(fed) => Some(fed.list),
+            Err(_) => None,
+        };
+    }
+    match count_many(rt, alloc, pages, workers, 1, bytes, brake) {
+        Ok(counts) => Some(counts.list),
+        Err(_) => None,
+    }
+}
+
+#[test]
+fn counts_texts_by_workers(rt: HostRuntime) -> Result<(), Fail> {
+    let alloc = rt.alloc();
+    for (text, want) in [
+        ("b a b\n", "1 a\n2 b\n"),
+        ("", ""),
+        ("\n", ""),
+        (
+            "the cat saw the dog\nthe dog ran\n",
+            "1 cat\n2 dog\n1 ran\n1 saw\n3 the\n",
+        ),
+    ] {
+        for (workers, fed) in [
+            (1, false),
+            (2, false),
+            (8, false),
+            (1, true),
+            (2, true),
+            (3, true),
+            (8, true),
+        ] {
+            let Some(list) = count_shared(&rt, alloc, text, 64, workers, fed, &NoBrake) else {
+                panic!(rt; "no counts");
+            };
+            match print_counts(alloc, &list) {
+                Ok(told) => {
+                    assert_eq!(rt; told.as_slice(), want.as_bytes(), "{text}");
+                }
+                Err(error) => panic!(rt; "no text: {error}"),
+            }
+        }
+    }
+    Ok(())
+}
+
+#[test]
+fn a_feed_runs_out_of_heap(rt: HostRuntime) -> Result<(), Fail> {
+    let text = b"b a b";
+    if !may_count(1, 1, text) {
+        panic!(rt; "no such count");
+    }
+    match count_fed(&rt, rt.alloc(), 1, 1, 1, text, &NoBrake) {
+        Err(CountError::OutOfHeap(census, _)) => assert_eq!(rt; census.free, 0),
+        _ => panic!(rt; "there is room"),
+    }
+    Ok(())
+}
+
+/// The most turns that a worker waits for the other.
+const TURNS: u64 = 100_000_000;
+
+/// Holds each of two workers before its first task until the other one is held before its own.
+#[derive(Drop)]
+struct Meeting {
+    first: AtomicU64,
+    second: AtomicU64,
+    missed: AtomicU64,
+}
+
+impl Brake for Meeting {
+    fn hold(&self, thread: u32, _task: u64) {
+        let (mine, other) = if thread == 1 {
+            (&self.first, &self.second)
+        } else {
+            (&self.second, &self.first)
+        };
+        if mine.fetch_add(1, Ordering::SeqCst) > 0 {
+            return;
+        }
+        for _ in 0..TURNS {
+            if other.load(Ordering::SeqCst) > 0 {
+                return;
+            }
+            thread::yield_now();
+        }
+        self.missed.fetch_add(1, Ordering::SeqCst);
+    }
+}
+
+#[test]
+fn two_workers_meet(rt: HostRuntime) -> Result<(), Fail> {
+    let alloc = rt.alloc();
+    for fed in [false, true] {
+        let brake = Meeting {
+            first: AtomicU64::new(0),
+            second: AtomicU64::new(0),
+            missed: AtomicU64::new(0),
+        };
+        let text = "the cat saw the dog\nthe dog ran\n";
+        let Some(list) = count_shared(&rt, alloc, text, 64, 2, fed, &brake) else {
+            panic!(rt; "no counts");
+        };
+        assert_eq!(rt; list.len(), 5);
+        assert_eq!(rt; brake.missed.load(Ordering::SeqCst), 0);
+    }
     Ok(())
 }

@@ -13,7 +13,7 @@ use Rattle.yak_model.specs.Private.{KnownObjects}
 use Rattle.yak_model.specs.Tables.{bucket_of}
 use Rattle.yak_model.specs.Tables.{HasCount, IsCountTable, IsTable, LacksWord, Link, AreDifferent}
 use Rattle.yak_model.specs.Texts.{WordCounts}
-use Rattle.heap_tables.specs.Adds.{AddsCount, Grows, IsAddedTo, IsNoEntry, MakesForNew, StayNowhere, with_bucket}
+use Rattle.heap_tables.specs.Adds.{AreAfter, StayAfter, AddsCount, Grows, IsAddedTo, IsNoEntry, MakesForNew, StayNowhere, with_bucket}
 use Rattle.yak_model.specs.declared.datum.Datum.{Datum}
 use Rattle.yak_model.specs.Standing.{Standing}
 use Rattle.heap_tables.specs.Counted.{MakesUncounted, count_of, or_zero, raised}
@@ -200,4 +200,10 @@ pub stay_nowhere : (known : KnownObjects) (buckets : ℕ → List Link) (word : 
 stay_nowhere known buckets word n name knows added other k away c h = elim (eqb_cases (bucket_of word) c) [
   | inl s ↦ subst (λ t. IsNoEntry other (cond t added.links (buckets c))) (sym s.0) (added.fresh other k (away (bucket_of word) (bucket_small word)))
   | inr o ↦ subst (λ t. IsNoEntry other (cond t added.links (buckets c))) (sym o.0) (away c h)
+]
+
+pub stay_after : (s : Standing) (buckets : ℕ → List Link) (word : List ℕ) (links : List Link) → StayAfter s (buckets (bucket_of word)) links → (b : ℕ) → b < BUCKETS → StayAfter s (buckets b) (with_bucket buckets (bucket_of word) links b)
+stay_after s buckets word links stay b h first thread within after = elim (eqb_cases (bucket_of word) b) [
+  | inl same ↦ subst (λ t. AreAfter first (cond t links (buckets b))) (sym same.0) (stay first thread within (subst (λ c. AreAfter first (buckets c)) same.1 after))
+  | inr other ↦ subst (λ t. AreAfter first (cond t links (buckets b))) (sym other.0) after
 ]

@@ -1,5 +1,5 @@
 -- A table with a new entry.
-use Rattle.std.proofs.Common.{◌≡◌, ◌≢◌, inr, ℕ, ◌+◌, ◌<◌, List, [], ◌∷◌, get_or, set, refl, ◌∙◌, ap, sym, subst, length, Some, None, Option, IsSome, is_some, arith, length-set, get_or-set_same, get_or-set_other, true≢false}
+use Rattle.std.proofs.Common.{◌≡◌, ◌≢◌, inl, inr, ℕ, ◌+◌, ◌<◌, List, [], ◌∷◌, ◌++◌, get_or, set, refl, ◌∙◌, ap, sym, subst, length, Some, None, Option, IsSome, is_some, arith, length-set, get_or-set_same, get_or-set_other, true≢false}
 use Rattle.yak_model.specs.declared.TheConstants.{BUCKETS}
 use Rattle.std.specs.FinMap.{get, insert}
 use Rattle.object_layout.specs.declared.names.Name.{Name}
@@ -14,7 +14,7 @@ use Rattle.heap_tables.proofs.Effects.{slot_below, take_push}
 use Rattle.yak_model.specs.Tables.{bucket_of}
 use Rattle.yak_model.specs.Tables.{IsKey}
 use Rattle.yak_model.specs.Tables.{Link, IsChain, IsTable, LacksWord, AreDifferent, AreInBucket, entry_fields}
-use Rattle.heap_tables.specs.Adds.{IsAddedTo, IsNoEntry, Grows, having_made, with_bucket, with_fields}
+use Rattle.heap_tables.specs.Adds.{AddsCount, AreAfter, IsAddedTo, IsNoEntry, Grows, StayAfter, having_made, with_bucket, with_fields}
 use Rattle.heap_tables.proofs.Places.{Agree, insert_agrees, chain_agrees}
 use Rattle.heap_tables.proofs.Raised.{in_bucket, table_apart}
 
@@ -108,22 +108,46 @@ shared_table known name heads buckets table word n b home bound lacks key entry 
 pub linked_table : (known : KnownObjects) (name : Name) (heads : List Datum) (buckets : ℕ → List Link) (table : IsTable known name heads buckets) (word : List ℕ) (n b : ℕ) (home : bucket_of word ≡ b) (bound : b < BUCKETS) (lacks : LacksWord word (buckets b))
     (key entry : Name) (d : Content) (no_key : get known key ≡ None) (no_entry : get (insert known key d) entry ≡ None) (is_key : IsKey (insert known key d) key word)
     → (knows : KnownObjects → Type 0) → knows (insert (with_fields (insert known key d) entry (get_or heads b datum.Null) (datum.Object key) n) name (Fields (set heads b (datum.Object entry))))
-    → IsAddedTo known word n name buckets knows
+    → (added : IsAddedTo known word n name buckets knows) × (added.links ≡ record { entry = entry; key = key; word = word; count = n } ∷ buckets b)
 linked_table known name heads buckets table word n b home bound lacks key entry d no_key no_entry is_key knows k =
     let one : KnownObjects = insert known key d in
     let g1 : Grows known one = insert_grows known key d no_key in
     let t1 = table_grows known one g1 name heads buckets table in
-    let a = (shared_table one name heads buckets t1 word n b home bound lacks key entry no_entry is_key (other_name known name key _ no_key table.object) knows k).0 in
-    record {
-      after = a.after;
-      heads = a.heads;
-      links = a.links;
-      known_now = a.known_now;
-      is_table = a.is_table;
-      adds = a.adds;
-      others = λ x kx o no. let g = grown_known known one g1 x kx in a.others x g.1 o no ∙ g.0;
-      fresh = λ x kx no. a.fresh x (grown_known known one g1 x kx).1 no;
-    }
+    let both = shared_table one name heads buckets t1 word n b home bound lacks key entry no_entry is_key (other_name known name key _ no_key table.object) knows k in
+    let a = both.0 in (
+      record {
+        after = a.after;
+        heads = a.heads;
+        links = a.links;
+        known_now = a.known_now;
+        is_table = a.is_table;
+        adds = a.adds;
+        others = λ x kx o no. let g = grown_known known one g1 x kx in a.others x g.1 o no ∙ g.0;
+        fresh = λ x kx no. a.fresh x (grown_known known one g1 x kx).1 no;
+      },
+      both.1,
+    )
+
+-- a new entry and its key are made after all that the thread had made
+pub after_new : (s : Standing) (entry key : Name) (word : List ℕ) (n : ℕ) (links later : List Link) → entry.thread ≡ s.thread → key.thread ≡ s.thread → s.own.made < entry.serial → s.own.made < key.serial
+    → later ≡ record { entry = entry; key = key; word = word; count = n } ∷ links → StayAfter s links later
+after_new s entry key word n links later entry_is key_is entry_new key_new is first thread within after =
+    subst (AreAfter first) (sym is) ((entry_is ∙ sym thread, omega arith), (key_is ∙ sym thread, omega arith), after)
+
+-- a count that was raised leaves the names
+names_stay : (name : Name) (passed rest : List Link) (link : Link) (count : ℕ) → AreAfter name (passed ++ link ∷ rest) → AreAfter name (passed ++ (record link { count = count }) ∷ rest)
+names_stay name [] rest link count after = after
+names_stay name (l ∷ passed) rest link count after = (after.0, after.1, names_stay name passed rest link count after.2)
+
+-- the same of a caller with the same thread and number of objects made
+pub after_moved : (s now : Standing) (links later : List Link) → s.thread ≡ now.thread → s.own.made ≡ now.own.made → StayAfter s links later → StayAfter now links later
+after_moved s now links later thread made stay first first_thread within after = stay first (first_thread ∙ sym thread) (omega arith) after
+
+pub after_raised : (s : Standing) (word : List ℕ) (n : ℕ) (links later : List Link) → (LacksWord word links → ⊥) → AddsCount word n links later → StayAfter s links later
+after_raised s word n links later there adds first thread within after = elim adds [
+  | inl a ↦ subst (AreAfter first) (sym a.5) (names_stay first a.0 a.2 a.1 ((a.1).count + n) (subst (AreAfter first) a.3 after))
+  | inr b ↦ absurd (there b.0)
+]
 
 -- the same map by other names
 pub shared_map : (known : KnownObjects) (name : Name) (heads : List Datum) (b n : ℕ) (knows : KnownObjects → Type 0) (entry_was : Name) (front_was key_was : Datum) (front : Datum) (entry : Name) (key : Datum) → entry_was ≡ entry → front_was ≡ front → key_was ≡ key

@@ -46,6 +46,19 @@ IsNowhere name buckets = (c : ℕ) → c < BUCKETS → IsNoEntry name (buckets c
 abbrev pub StayNowhere : KnownObjects → (ℕ → List Link) → (ℕ → List Link) → Type 0
 StayNowhere known buckets later = (other : Name) → IsKnown known other → IsNowhere other buckets → IsNowhere other later
 
+-- The thread of the one object made the other one after it.
+abbrev pub IsAfter : Name → Name → Type 0
+IsAfter name other = (other.thread ≡ name.thread) × (name.serial < other.serial)
+
+-- It made the entries of a chain and their keys after that object.
+abbrev pub AreAfter : Name → List Link → Type 0
+AreAfter name [] = Unit {0}
+AreAfter name (link ∷ links) = IsAfter name link.entry × IsAfter name link.key × AreAfter name links
+
+-- Where the entries of a chain and their keys were made after an object that the thread had made, so were those of the later chain.
+abbrev pub StayAfter : Standing → List Link → List Link → Type 0
+StayAfter s links later = (name : Name) → name.thread ≡ s.thread → name.serial ≤ s.own.made → AreAfter name links → AreAfter name later
+
 -- Known objects but the table and the entries of one chain stay as they were.
 abbrev pub KeepsOthers : KnownObjects → Name → List Link → KnownObjects → Type 0
 KeepsOthers known name links after =

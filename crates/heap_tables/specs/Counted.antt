@@ -5,12 +5,13 @@ use Rattle.object_layout.specs.declared.TheConstants.{MAX_INT}
 use Rattle.object_layout.specs.declared.names.Name.{Name}
 use Rattle.yak_model.specs.declared.datum.Datum.TheVariants as datum
 use Rattle.yak_model.specs.Private.{KnownObjects}
+use Rattle.yak_model.specs.declared.TheConstants.{BUCKETS}
 use Rattle.yak_model.specs.Standing.{Standing}
 use Rattle.heap_tables.specs.Runs.{slot_in}
 use Rattle.yak_model.specs.Tables.{bucket_of}
 use Rattle.yak_model.specs.Tables.{IsCountTable}
 use Rattle.yak_model.specs.Texts.{WordCounts}
-use Rattle.heap_tables.specs.Adds.{AddsWord, Grows, KeepsOthers, StayNowhere}
+use Rattle.heap_tables.specs.Adds.{AddsWord, Grows, KeepsOthers, StayAfter, StayNowhere}
 
 abbrev pub or_zero : Option ℕ → ℕ
 or_zero None = 0
@@ -39,11 +40,11 @@ MakesUncounted s after counts word =
     (IsSome (finite.get counts word) → after.own.made ≡ s.own.made) × (finite.get counts word ≡ None → after.own.made ≡ s.own.made + 2)
 
 -- A known map has the table with the word's count raised by n, in the word's entry or in a new one at the front of its
--- bucket, and other objects as they were.
+-- bucket, and other objects as they were. A new entry and its key are the thread's newest objects.
 abbrev pub IsCounted : (s after : Standing) (known : KnownObjects) (table : ℕ) (word : List ℕ) (n : ℕ) (name : Name) (counts : WordCounts) → MayCount s known table word n name counts → (KnownObjects → Type 0) → Type 0
 IsCounted s after known table word n name counts may knows =
     MakesUncounted s after counts word
-    × ((later : KnownObjects) × knows later × (table : IsCountTable later name (raised counts word n)) × KeepsOthers known name ((may.is_table).buckets (bucket_of word)) later × StayNowhere known (may.is_table).buckets table.buckets × AddsWord word n (may.is_table).buckets table.buckets)
+    × ((later : KnownObjects) × knows later × (table : IsCountTable later name (raised counts word n)) × KeepsOthers known name ((may.is_table).buckets (bucket_of word)) later × StayNowhere known (may.is_table).buckets table.buckets × AddsWord word n (may.is_table).buckets table.buckets × ((b : ℕ) → b < BUCKETS → StayAfter s ((may.is_table).buckets b) (table.buckets b)))
 
 -- The word is not counted, and a known map has the table with the same counts, and all other objects as they were.
 abbrev pub IsUncounted : (s : Standing) (known : KnownObjects) (table : ℕ) (word : List ℕ) (n : ℕ) (name : Name) (counts : WordCounts) → MayCount s known table word n name counts → (KnownObjects → Type 0) → Type 0

@@ -15,7 +15,7 @@ ghost use Rattle.yak_model.specs.Texts.{WordCounts};
 ghost use Rattle.heap_tables.specs.Counted.{HasCountTable, MayCount, IsCounted, IsUncounted};
 ghost use Rattle.yak_model.specs.Tables.{bucket_of};
 ghost use Rattle.heap_tables.specs.Walks.{IsEntryInSlot};
-ghost use Rattle.heap_tables.specs.Adds.{AddRan, AddRanOut, AddsPresent, HasTable, MakesForNew, MayAdd, MayRaise, with_count, HasBlank, with_fields, with_linked, IsAddedTo, Grows};
+ghost use Rattle.heap_tables.specs.Adds.{AddRan, AddRanOut, AddsPresent, HasTable, MakesForNew, MayAdd, MayRaise, with_count, HasBlank, with_fields, with_linked, IsAddedTo, Grows, StayAfter};
 
 use crate::chains::find;
 use crate::keys::{bucket_of, make_key};
@@ -144,7 +144,7 @@ fn insert_new<C: Caller>(
     ensures ran { OnOk result (Ran C.base C.tells C.tells_known C.standing caller.old caller.new (key_words word.now + entry_words)) }
     ensures ran_out { OnErr result (AddRanOut C.base C.tells C.tells_known C.standing caller.old caller.new word.now) }
     ensures own { OnOk result ((C.standing caller.new).own ≡ record (C.standing caller.old).own { made = (C.standing caller.old).own.made + 2 }) }
-    ensures added { OnOk result ((known : KnownObjects) (name : Name) (heads : List Datum) (buckets : ℕ → List Link) → C.knows caller.old known → slot_in (C.standing caller.old) table ≡ datum.Object name → IsTable known name heads buckets → slot_in (C.standing caller.old) front ≡ slice_index_or heads bucket datum.Null → bucket_of word.now ≡ bucket → bucket < BUCKETS → LacksWord word.now (buckets bucket) → IsAddedTo known word.now n name buckets (C.knows caller.new)) }
+    ensures added { OnOk result ((known : KnownObjects) (name : Name) (heads : List Datum) (buckets : ℕ → List Link) → C.knows caller.old known → slot_in (C.standing caller.old) table ≡ datum.Object name → IsTable known name heads buckets → slot_in (C.standing caller.old) front ≡ slice_index_or heads bucket datum.Null → bucket_of word.now ≡ bucket → bucket < BUCKETS → LacksWord word.now (buckets bucket) → (added : IsAddedTo known word.now n name buckets (C.knows caller.new)) × StayAfter (C.standing caller.old) (buckets (bucket_of word.now)) added.links) }
     ensures stack { OnErr result (stack_in (C.standing caller.new) ≡ stack_in (C.standing caller.old)) }
     ensures kept { OnErr result ((known : KnownObjects) → C.knows caller.old known → (after : KnownObjects) × C.knows caller.new after × Grows known after) }
 {
@@ -177,7 +177,7 @@ fn add_links<C: Caller>(
     ensures ran { OnOk result (AddRan C.base C.tells C.tells_known C.standing caller.old caller.new word.now) }
     ensures ran_out { OnErr result (AddRanOut C.base C.tells C.tells_known C.standing caller.old caller.new word.now) }
     ensures stack { stack_in (C.standing caller.new) ≡ stack_in (C.standing caller.old) }
-    ensures added { OnOk result ((known : KnownObjects) (name : Name) (heads : List Datum) (buckets : ℕ → List Link) → C.knows caller.old known → MayAdd (C.standing caller.old) known table word.now n name heads buckets → IsAddedTo known word.now n name buckets (C.knows caller.new)) }
+    ensures added { OnOk result ((known : KnownObjects) (name : Name) (heads : List Datum) (buckets : ℕ → List Link) → C.knows caller.old known → MayAdd (C.standing caller.old) known table word.now n name heads buckets → (added : IsAddedTo known word.now n name buckets (C.knows caller.new)) × StayAfter (C.standing caller.old) (buckets (bucket_of word.now)) added.links) }
     ensures kept { OnErr result ((known : KnownObjects) (name : Name) (heads : List Datum) (buckets : ℕ → List Link) → C.knows caller.old known → MayAdd (C.standing caller.old) known table word.now n name heads buckets → (after : KnownObjects) × C.knows caller.new after × Grows known after × LacksWord word.now (buckets (bucket_of word.now))) }
     ensures made { OnOk result ((known : KnownObjects) (name : Name) (heads : List Datum) (buckets : ℕ → List Link) → C.knows caller.old known → MayAdd (C.standing caller.old) known table word.now n name heads buckets → MakesForNew (C.standing caller.old) (C.standing caller.new) word.now (buckets (bucket_of word.now))) }
 {

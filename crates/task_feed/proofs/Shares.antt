@@ -4,7 +4,7 @@ use Rattle.std.specs.List.{range_with_len}
 use Rattle.std.proofs.lemmas.Nat.{mod_below}
 use Rattle.std.proofs.lemmas.Bool.Decides.{eqb_tells, nat_tests}
 use lib.Dec.{eqb}
-use Rattle.std.proofs.lemmas.List.Elements.{All-cons, All-map, All-nil, filter-append}
+use Rattle.std.proofs.lemmas.List.Elements.{All-cons, All-filter, All-map, All-nil, filter-append}
 use Rattle.std.proofs.lemmas.List.FromFn.{map-range_with_len_more}
 use Rattle.std.proofs.lemmas.List.Kept.{AllPairs-cons, AllPairs-filter}
 use Rattle.std.proofs.lemmas.List.Sums.{sum_by-cons}
@@ -116,3 +116,14 @@ pub share_more : (n workers worker : ℕ) → share_of (n + 1) workers worker �
 share_more n workers worker =
     ap (filter (λ (task : ℕ). task % workers == worker)) (range_more n)
     ∙ filter-append (λ (task : ℕ). task % workers == worker) (range_with_len 0 n) (n ∷ [])
+
+below : (most a n : ℕ) → a + n ≤ most → All (λ task. task < most) (range_with_len a n)
+below most a zero le = All-nil (λ (task : ℕ). task < most)
+below most a (suc n) le = All-cons (λ (task : ℕ). task < most) a (range_with_len (a + 1) n) (omega (arith, le)) (below most (a + 1) n (omega (arith, le)))
+
+-- The share of the first so many tasks is in ascending order, and of tasks alone.
+pub share_in_order : (next tasks workers worker : ℕ) → next ≤ tasks → IsAscending (share_of next workers worker) × All (λ task. task < tasks) (share_of next workers worker)
+share_in_order next tasks workers worker le = (
+  share_ascends next workers worker,
+  All-filter (λ (task : ℕ). task % workers == worker) (λ (task : ℕ). task < tasks) (range_with_len 0 next) (below tasks 0 next (omega (arith, le))),
+)

@@ -1,23 +1,14 @@
-use Rattle.std.proofs.Common.{◌≡◌, ℕ, None, Option, replicate, ap, sym, subst, ◌∙◌}
-use Rattle.std.specs.FinMap.{empty, entries-insert, put}
-use Rattle.std.specs.List.{sum_by}
-use Rattle.object_layout.specs.declared.names.Name.{Name}
+use Rattle.std.proofs.Common.{◌≡◌, ℕ, None, Option, ap, sym, subst, ◌∙◌}
 use Rattle.object_layout.specs.declared.replies.Census.{Census}
 use Rattle.heap_words.specs.Contents.{Contents, contents}
-use Rattle.yak_model.specs.declared.TheConstants.{ROOT_FIELDS}
-use Rattle.yak_model.specs.declared.datum.Datum.TheVariants as datum
-use Rattle.yak_model.specs.Graph.{Content, Fields, Thread, size_of, standard_limits}
-use Rattle.yak_model.specs.Lawful.{present_words}
-use Rattle.yak_model.specs.Names.{name_cmp, root_name}
-use Rattle.yak_model.specs.Room.{root_words}
+use Rattle.yak_model.specs.Graph.{Thread, standard_limits}
 use Rattle.yak_model.specs.Spaces.{opening_spaces}
 use Rattle.yak_model.specs.Stands.{Stands}
-use Rattle.yak_model.proofs.Names.{name_cmp_total}
 use Rattle.heap_core.specs.Callers.{standing_told, thread_told}
 use Rattle.group_jobs.specs.Alone.{opening_standing}
 use Rattle.group_jobs.specs.declared.TheConstants.{WORKER}
-use Rattle.group_jobs.proofs.Nothing.{no_entries}
 use Rattle.group_jobs.proofs.RootKnown.{knows_root}
+use Rattle.group_jobs.proofs.Weighing.{present_opening}
 use Rattle.group_jobs.proofs.count.open_heap.Goals as goal
 
 told_standing : (c : Contents) (t made refusals : ℕ) (last : Option (Census × ℕ × ℕ)) → t ≡ WORKER → thread_told c WORKER ≡ opening_standing.own → made ≡ 0 → refusals ≡ 0 → last ≡ None → standing_told c t made refusals last ≡ opening_standing
@@ -27,12 +18,6 @@ told_standing c t made refusals last e own m r l =
     ∙ ap (λ n. standing_told c WORKER 0 n last) r
     ∙ ap (λ o. standing_told c WORKER 0 0 o) l
     ∙ ap (λ (o : Thread). record opening_standing { own = o }) own
-
-root_content : Content
-root_content = Fields (replicate ROOT_FIELDS datum.Null)
-
-present_opening : present_words (opening_spaces standard_limits WORKER) ≡ root_words
-present_opening = ap (sum_by (λ (e : Name × Content). size_of e.1)) (entries-insert name_cmp_total empty root_name (Fields (replicate ROOT_FIELDS datum.Null)) ∙ ap (put name_cmp root_name (Fields (replicate ROOT_FIELDS datum.Null))) (no_entries name_cmp Content))
 
 pub returns-in-Ok-clause-standing : goal.returns-in-Ok-clause-standing
 returns-in-Ok-clause-standing c =
@@ -44,7 +29,7 @@ pub returns-in-Ok-clause-knows : goal.returns-in-Ok-clause-knows
 returns-in-Ok-clause-knows c = c.as_caller.ensures.begins (opening_spaces standard_limits 1) c.in-Ok.ensures.opening.0
 
 pub returns-in-Ok-clause-present : goal.returns-in-Ok-clause-present
-returns-in-Ok-clause-present c = c.as_caller.ensures.present (opening_spaces standard_limits 1) c.in-Ok.ensures.opening.0 ∙ present_opening
+returns-in-Ok-clause-present c = c.as_caller.ensures.present (opening_spaces standard_limits 1) c.in-Ok.ensures.opening.0 ∙ present_opening WORKER
 
 pub returns-in-Ok-clause-root : goal.returns-in-Ok-clause-root
 returns-in-Ok-clause-root c =

@@ -1,9 +1,12 @@
-use Rattle.std.proofs.Common.{◌+◌, ap, arith}
+use Rattle.std.proofs.Common.{◌≡◌, ◌+◌, ◌∙◌, ap, subst, arith}
 use Rattle.yak_model.specs.Graph.{Limits, Thread}
 use Rattle.yak_model.specs.Room.{table_words}
 use Rattle.yak_model.specs.Texts.{words_of}
 use Rattle.group_jobs.specs.Tallies.{words_room}
 use Rattle.group_jobs.proofs.Aside.{aside_same, aside_then}
+use Rattle.heap_tables.specs.Runs.{next_of}
+use Rattle.group_jobs.specs.Tallies.{IsPartTable}
+use Rattle.group_jobs.proofs.Grown.{begun_ended, begun_halted, ended_within}
 use Rattle.group_jobs.proofs.Joined.{went_out}
 use Rattle.group_jobs.proofs.Progress.{tally_same}
 use Rattle.group_jobs.proofs.Rooms.{err_of}
@@ -45,4 +48,23 @@ returns-clause-counted g c known done k t few =
       c.end.ensures.keeps r.0 r.1,
       tally_same (C.standing c.count_part.new.caller) (C.standing c.end.new.caller) r.0 _ (ap (λ (o : Thread). o.stack) c.end.ensures.own) r.2,
       aside_then (C.standing c.args.caller.now) (C.standing c.count_part.new.caller) (C.standing c.end.new.caller) known r.0 r.0 (aside_then (C.standing c.args.caller.now) (C.standing c.begin.new.caller) (C.standing c.count_part.new.caller) known known r.0 begun r.3) ended,
+      subst (λ n. IsPartTable r.0 n (words_of c.args.bytes.now)) same_next r.4,
     )
+  where
+    same_next : next_of (g.C.Caller.standing c.begin.new.caller) ≡ next_of (g.C.Caller.standing c.args.caller.now)
+    same_next =
+        let C = g.C.Caller in
+        (λ i. record { thread = c.begin.ensures.went.makes.thread i; serial = ap (λ (o : Thread). o.made) c.begin.ensures.own i + 1 })
+
+pub returns-clause-list : goal.returns-clause-list
+returns-clause-list g c =
+    let C = g.C.Caller in
+    begun_ended (C.standing c.args.caller.now).thread (C.standing c.count_part.new.caller).thread (c.in_ok-count_part.ensures.went.makes.thread ∙ c.begin.ensures.went.makes.thread)
+    (C.standing c.args.caller.now).list (C.standing c.begin.new.caller).list (C.standing c.end.new.caller).list c.begin.ensures.list
+    (ended_within (C.standing c.count_part.new.caller).thread (C.standing c.begin.new.caller).list (C.standing c.count_part.new.caller).list (C.standing c.end.new.caller).list c.count_part.ensures.list c.end.ensures.list)
+
+pub returns-in_err-count_part-clause-halted : goal.returns-in_err-count_part-clause-halted
+returns-in_err-count_part-clause-halted g c =
+    let C = g.C.Caller in
+    err_of c.from_residual.result _
+    (begun_halted (C.standing c.args.caller.now).thread (C.standing c.args.caller.now).list (C.standing c.begin.new.caller).list (C.standing c.count_part.new.caller).list c.begin.ensures.list c.count_part.ensures.list)

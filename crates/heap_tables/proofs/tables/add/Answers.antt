@@ -6,8 +6,10 @@ use Rattle.yak_model.specs.Standing.{Standing}
 use Rattle.yak_model.specs.Texts.{WordCounts}
 use Rattle.heap_tables.specs.Adds.{MayAdd, having_made}
 use Rattle.heap_tables.specs.Counted.{MayCount, count_of}
-use Rattle.heap_tables.proofs.Counted.{added_counts, bucket_small, count_found, grown_counts, lacks_none, makes_uncounted, stay_nowhere}
+use Rattle.heap_tables.proofs.Counted.{added_counts, bucket_small, count_found, grown_counts, lacks_none, makes_uncounted, stay_after, stay_nowhere}
+use Rattle.yak_model.specs.Tables.{bucket_of}
 use Rattle.heap_tables.proofs.Effects.{value_same}
+use Rattle.heap_tables.proofs.Linked.{after_moved}
 use Rattle.heap_tables.proofs.OnResult.{ok_both, ok_map, err_map}
 use Rattle.heap_tables.proofs.RunOn.{ran_more, then_ran, then_out}
 use Rattle.heap_tables.proofs.tables.add.Goals as goal
@@ -57,12 +59,14 @@ returns-clause-counted g c = ok_map c.add_links.result _ _
     let table = may.is_table in
     let word = c.args.word.now in
     let may_too = may_add s _ c.stack_size-top.ensures.own known c.args.table word c.args.n name counts may in
-    let added = both.0 known name table.heads table.buckets (c.stack_size-top.ensures.keeps known k) may_too in
+    let told = both.0 known name table.heads table.buckets (c.stack_size-top.ensures.keeps known k) may_too in
+    let added = told.0 in
+    let stay = after_moved (C.standing c.stack_size-top.new.caller) s (table.buckets (bucket_of word)) added.links c.stack_size-top.ensures.ran.since.thread (ap (λ (o : Thread). o.made) c.stack_size-top.ensures.own) told.1 in
     let made = both.1 known name table.heads table.buckets (c.stack_size-top.ensures.keeps known k) may_too in
     let same = ap (λ (o : Thread). o.made) c.stack_size-top.ensures.own in
     let makes = makes_uncounted (C.standing c.stack_size-top.new.caller) (C.standing c.add_links.new.caller) known name counts table word made in (
       (λ some. makes.0 some ∙ same, λ none. makes.1 none ∙ ap (λ m. m + 2) same),
-      (added.after, added.known_now, added_counts known name counts table word c.args.n (bucket_small word) (C.knows c.add_links.new.caller) added, added.others, stay_nowhere known table.buckets word c.args.n name (C.knows c.add_links.new.caller) added, (added.links, refl, added.adds)),
+      (added.after, added.known_now, added_counts known name counts table word c.args.n (bucket_small word) (C.knows c.add_links.new.caller) added, added.others, stay_nowhere known table.buckets word c.args.n name (C.knows c.add_links.new.caller) added, (added.links, refl, added.adds), stay_after s table.buckets word added.links stay),
     ))
     (ok_both c.add_links.result _ _ c.add_links.ensures.added c.add_links.ensures.made)
 

@@ -3,7 +3,7 @@ use Rattle.std.proofs.Common.{inl, inr, ⊎_elim}
 use Rattle.yak_model.specs.Room.{entry_words, key_words}
 use Rattle.heap_tables.specs.Adds.{having_made}
 use Rattle.heap_tables.proofs.Effects.{popped_pushed}
-use Rattle.heap_tables.proofs.Linked.{popped_having}
+use Rattle.heap_tables.proofs.Linked.{after_moved, after_raised, popped_having}
 use Rattle.std.proofs.Common.{◌+◌, ◌-◌, ◌<◌, ◌∙◌, ap, sym, subst, refl, arith, length, take, get_or, List}
 use Rattle.yak_model.specs.Graph.{Thread}
 use Rattle.yak_model.specs.declared.datum.Datum.{Datum}
@@ -105,7 +105,7 @@ pop-requires-clause-some g c =
     let still = c.load.ensures.keeps h.0 missing.1 in
     let size = size_after (g.C.Caller.standing c.args.caller.now).own _ (get_or h.2 c.bucket_of-bucket.result datum.Null) loaded in
     let added = c.in-Ok.ensures.added h.0 h.1 h.2 h.3 still there.0 t (top_after (g.C.Caller.standing c.args.caller.now).own _ (get_or h.2 c.bucket_of-bucket.result datum.Null) c.args.top loaded c.requires.top) (sym e) small (subst (λ i. LacksWord c.args.word.now (h.3 i)) (sym e) missing.0) in
-    (added.after, added.known_now)
+    (added.0.after, added.0.known_now)
 
 pub pop-requires-clause-slot : goal.pop-requires-clause-slot
 pop-requires-clause-slot g c =
@@ -184,8 +184,11 @@ returns-in-Ok-clause-added g c known name heads buckets k may =
     let there = slot_after (g.C.Caller.standing c.args.caller.now).own _ (get_or heads c.bucket_of-bucket.result datum.Null) known c.args.table name heads loaded ((may).slot, t.object) in
     let still = c.load.ensures.keeps known missing.1 in
     let size = size_after (g.C.Caller.standing c.args.caller.now).own _ (get_or heads c.bucket_of-bucket.result datum.Null) loaded in
-    let added = c.in-Ok.ensures.added known name heads buckets still there.0 t (top_after (g.C.Caller.standing c.args.caller.now).own _ (get_or heads c.bucket_of-bucket.result datum.Null) c.args.top loaded c.requires.top) (sym e) small (subst (λ i. LacksWord c.args.word.now (buckets i)) (sym e) missing.0) in
-    record { after = added.after; heads = added.heads; links = added.links; known_now = c.pop.ensures.keeps _ added.known_now; is_table = added.is_table; adds = added.adds; others = added.others; fresh = added.fresh }
+    let both = c.in-Ok.ensures.added known name heads buckets still there.0 t (top_after (g.C.Caller.standing c.args.caller.now).own _ (get_or heads c.bucket_of-bucket.result datum.Null) c.args.top loaded c.requires.top) (sym e) small (subst (λ i. LacksWord c.args.word.now (buckets i)) (sym e) missing.0) in
+    let added = both.0 in (
+      record { after = added.after; heads = added.heads; links = added.links; known_now = c.pop.ensures.keeps _ added.known_now; is_table = added.is_table; adds = added.adds; others = added.others; fresh = added.fresh },
+      after_moved (g.C.Caller.standing c.load.new.caller) (g.C.Caller.standing c.args.caller.now) (buckets (bucket_of c.args.word.now)) added.links (c.load.ensures.ran.since.thread ∙ c.if-add_present.ensures.ran.since.thread) (ap (λ (o : Thread). o.made) loaded) both.1,
+    )
 
 pub returns-in-Err-clause-stack : goal.returns-in-Err-clause-stack
 returns-in-Err-clause-stack g c =
@@ -256,7 +259,9 @@ returns-in-Err-clause-ran_out g c =
     c.in-Err.ensures.ran_out
 
 pub returns-then-add_present-clause-added : goal.returns-then-add_present-clause-added
-returns-then-add_present-clause-added g c known name heads buckets k may = ((c.if-add_present.ensures.added known name heads buckets k may).0 refl).0
+returns-then-add_present-clause-added g c known name heads buckets k may =
+    let both = (c.if-add_present.ensures.added known name heads buckets k may).0 refl in
+    (both.0, after_raised (g.C.Caller.standing c.args.caller.now) c.args.word.now c.args.n (buckets (bucket_of c.args.word.now)) (both.0).links (λ lacks. lacks_count c.args.word.now (buckets (bucket_of c.args.word.now)) both.1.0 lacks both.1.1) (both.0).adds)
 
 pub returns-then-add_present-clause-made : goal.returns-then-add_present-clause-made
 returns-then-add_present-clause-made g c known name heads buckets k may =

@@ -3,18 +3,18 @@ use Rattle.std.proofs.Common.{inr}
 use Rattle.yak_model.specs.Room.{entry_words, key_words}
 use Rattle.heap_tables.specs.Runs.{popped}
 use Rattle.heap_tables.proofs.Linked.{popped_made}
-use Rattle.std.proofs.Common.{◌+◌, ◌∙◌, ap, subst, arith, get_or, set, Result, Ok, Err}
+use Rattle.std.proofs.Common.{◌+◌, ◌∙◌, ◌∷◌, ap, subst, sym, refl, arith, get_or, set, Result, Ok, Err}
 use Rattle.std.specs.Result.{OnErr}
 use Rattle.std.specs.FinMap.{insert}
-use Rattle.yak_model.specs.Graph.{Fields}
+use Rattle.yak_model.specs.Graph.{Fields, Thread}
 use Rattle.yak_model.specs.declared.datum.Datum.TheVariants as datum
 use Rattle.yak_model.proofs.Names.{get-same}
 use Rattle.heap_tables.specs.Runs.{slot_in, next_of}
 use Rattle.heap_tables.proofs.Effects.{in_bounds}
-use Rattle.yak_model.specs.Tables.{IsKey}
+use Rattle.yak_model.specs.Tables.{IsKey, bucket_of}
 use Rattle.heap_tables.specs.Adds.{with_fields}
 use Rattle.heap_tables.proofs.KeyGrowth.{made_at}
-use Rattle.heap_tables.proofs.Linked.{made_below, insert_grows, linked_table}
+use Rattle.heap_tables.proofs.Linked.{after_new, made_below, insert_grows, linked_table}
 use Rattle.heap_tables.proofs.tables.insert_new.Goals as goal
 
 on_err : {A B : Type 0} (r : Result A B) (P : Type 0) → P → OnErr r P
@@ -66,7 +66,12 @@ returns-in-Ok-clause-added g c known name heads buckets k slot table front home 
     let knows = g.C.Caller.knows c.link_new.new.caller in
     let now = subst (λ v. knows (insert (with_fields one entry (get_or heads c.args.bucket datum.Null) v c.args.n) name (Fields (set heads c.args.bucket (datum.Object entry))))) top
     (subst (λ v. knows (insert (with_fields one entry v (slot_in (g.C.Caller.standing c.make_key.new.caller) (c.args.front + 1)) c.args.n) name (Fields (set heads c.args.bucket (datum.Object entry))))) below linked.0) in
-    linked_table known name heads buckets table c.args.word.now c.args.n c.args.bucket home bound lacks key entry (Fields p.values) begun.1 linked.1 is_key (g.C.Caller.knows c.pop.new.caller) (c.pop.ensures.keeps _ now)
+    let both = linked_table known name heads buckets table c.args.word.now c.args.n c.args.bucket home bound lacks key entry (Fields p.values) begun.1 linked.1 is_key (g.C.Caller.knows c.pop.new.caller) (c.pop.ensures.keeps _ now) in
+    let made = ap (λ (o : Thread). o.made) e in (
+      both.0,
+      after_new (g.C.Caller.standing c.args.caller.now) entry key c.args.word.now c.args.n (buckets (bucket_of c.args.word.now)) (both.0).links c.in_ok-make_key.ensures.ran.since.thread refl (omega (arith, made)) (omega arith)
+          (both.1 ∙ ap (λ i. record { entry = entry; key = key; word = c.args.word.now; count = c.args.n } ∷ buckets i) (sym home)),
+    )
 
 pub returns-in-Err-clause-kept : goal.returns-in-Err-clause-kept
 returns-in-Err-clause-kept g c known k =

@@ -1,0 +1,52 @@
+//! Adding up lists of counts.
+ghost use Rattle.std.specs.Prelude.{◌≡◌, ◌+◌, ◌≤◌, ◌++◌, ◌∷◌, [], ℕ, List, IfOk, OnOk};
+ghost use Rattle.object_layout.specs.declared.TheConstants.{MAX_INT};
+ghost use Rattle.yak_model.specs.Texts.{WordCounts};
+ghost use Rattle.group_jobs.specs.Counts.{AddsLast, AreEntries, AreParts, Ascends, sum_for};
+
+use crate::counted::Counted;
+use object_layout::NoMemory;
+use std::alloc::Global;
+
+/// Puts a count behind a list.
+fn push_count(list: &mut Vec<Counted>, counted: Counted) -> Result<(), NoMemory>
+    ensures { OnOk result (list.new.items ≡ list.old.items ++ counted ∷ []) }
+{
+    list.push(counted).map_err(|_| NoMemory)
+}
+
+/// Puts the counts of a list behind those of another.
+pub(crate) fn append_counts(all: &mut Vec<Counted>, list: Vec<Counted>) -> Result<(), NoMemory>
+    ensures { OnOk result (all.new.items ≡ all.old.items ++ list.items) }
+{
+    for counted in list {
+        push_count(all, counted)?;
+    }
+    Ok(())
+}
+
+/// Adds a count to the last of a list, where that is of the same word, or puts it behind the list.
+fn add_count(sums: &mut Vec<Counted>, counted: Counted) -> Result<(), NoMemory>
+    requires fits { (front : List (List ℕ × ℕ)) (n : ℕ) → sums.old.items ≡ front ++ (counted.0, n) ∷ [] → n + counted.1 ≤ MAX_INT }
+    ensures { OnOk result (AddsLast counted sums.old.items sums.new.items) }
+{
+    let size = sums.len();
+    if size > 0 && sums[size - 1].order(&counted).is_eq() {
+        sums[size - 1].count += counted.count;
+        return Ok(());
+    }
+    push_count(sums, counted)
+}
+
+/// Adds up the counts of each word in a list that is in ascending order of words.
+pub(crate) fn add_up(alloc: Global, sorted: Vec<Counted>) -> Result<Vec<Counted>, NoMemory>
+    requires up { Ascends sorted.items }
+    requires few { (word : List ℕ) → sum_for sorted.items word ≤ MAX_INT }
+    ensures sums { IfOk result (λ sums. (counts : WordCounts) → AreParts counts sorted.items → AreEntries counts sums.items) }
+{
+    let mut sums = Vec::new(alloc);
+    for counted in sorted {
+        add_count(&mut sums, counted)?;
+    }
+    Ok(sums)
+}
