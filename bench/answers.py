@@ -6,6 +6,7 @@ from model import CONTROL, FIELDS, PAGE_WORDS, Spaces, explained
 
 LIMIT, LONGEST, PAGES, THREADS, ROUNDS = 16_777_216, 1024, 4096, 8, 100_000
 OPTIONS = {b'--workers': THREADS, b'--task': LIMIT, b'--pages': PAGES}
+FEED = b'--feed'
 NUMBERS = {'int': 1, 'null': 0, 'dup': 1, 'pop': 0, 'new': 1, 'load': 2, 'store': 3,
            'get': 1, 'same': 2, 'begin': 0, 'end': 0, 'collect': 0, 'census': 0}
 REFUSALS = ['bad slot', 'not a reference', 'bad field', 'stack full', 'stack empty', 'too deep', 'no epoch', 'too long', 'names spent']
@@ -44,6 +45,9 @@ def form(words, built, several):
     chosen, rest = {}, list(words[1:])
     while rest:
         name, joined, value = rest.pop(0).partition(b'=')
+        if name == FEED and not joined and several and FEED not in chosen:
+            chosen[FEED] = 1
+            continue
         if not joined and rest:
             value = rest.pop(0)
         if name not in OPTIONS or name in chosen or number(value, 1, OPTIONS[name]) is None:

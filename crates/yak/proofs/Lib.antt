@@ -8,3 +8,6 @@ pub mod Unasked
 pub mod Numbers
 pub mod Threads
 pub mod Tracings
+pub mod Spent
+pub mod Writing
+pub mod SharedCounts

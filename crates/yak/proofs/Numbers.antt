@@ -12,6 +12,7 @@ use Rattle.yak.specs.Endings.{EndsLong, EndsOut, EndsRefused, Input, IsTooLarge,
 use Rattle.yak.specs.Answers.{Answers}
 use Rattle.yak.specs.Forms.{IsAsked, IsCount, IsReading, IsReplay}
 use Rattle.yak.proofs.Statuses.{Never, count_ends, counted_so, excess_ends, gen_ends, generated_so, long_ends, other_words, refusal_ends, replayed_so, script_ends}
+use Rattle.yak.proofs.Writing.{same_text}
 
 -- ---- numbers
 
@@ -62,16 +63,13 @@ pub one_of_two : (status a b : Status) → (status ≡ a) ⊎ (status ≡ b) →
 one_of_two status a b (inl e) = inl (ap number_of e)
 one_of_two status a b (inr e) = inr (ap number_of e)
 
-one_of_three : (status a b c : Status) → (status ≡ a) ⊎ (status ≡ b) ⊎ (status ≡ c)
+pub one_of_three : (status a b c : Status) → (status ≡ a) ⊎ (status ≡ b) ⊎ (status ≡ c)
     → (number_of status ≡ number_of a) ⊎ (number_of status ≡ number_of b) ⊎ (number_of status ≡ number_of c)
 one_of_three status a b c (inl e) = inl (ap number_of e)
 one_of_three status a b c (inr (inl e)) = inr (inl (ap number_of e))
 one_of_three status a b c (inr (inr e)) = inr (inr (ap number_of e))
 
 -- ---- what each status tells
-
-same_text : (output : Output) (text other : List ℕ) → text ≡ other → Appends output.before output.after text → Appends output.before output.after other
-same_text output text other e all = subst (λ (l : List ℕ). Appends output.before output.after l) e all
 
 at_usage : (words : List (List ℕ)) (input : Input) (output : Output) (kept : Keeping) → ends Usage words input output kept
     → (IsAsked words → ⊥) × Appends output.before output.after usage_line

@@ -1,5 +1,5 @@
 -- Options of a count, one after another.
-use Rattle.std.proofs.Common.{◌≡◌, ◌≢◌, ◌<◌, ◌^◌, ◌-◌, inl, inr, ℕ, Bool, true, false, not, List, [], ◌∷◌, ◌++◌, get_or, length, take, drop, String, Global, None, codes, refl, sym, ap, subst, ◌∙◌, append_assoc, arith}
+use Rattle.std.proofs.Common.{◌≡◌, ◌≢◌, ◌<◌, ◌^◌, ◌-◌, inl, inr, ℕ, Bool, true, false, not, List, [], ◌∷◌, ◌++◌, get_or, length, take, drop, String, Global, codes, refl, sym, ap, subst, ◌∙◌, append_assoc, arith}
 use Rattle.std.specs.Prelude.{◌==◌, decimal, map, string_bytes}
 use Rattle.std.specs.Str.{bytes_eq}
 use Rattle.std.proofs.Math.Seq.{take-append_seam}
@@ -11,7 +11,7 @@ use Rattle.std.proofs.lemmas.Slice.Eq.{bytes_eq-Decides}
 use Rattle.yak.specs.declared.forms.Setting.{Setting}
 use Rattle.yak.specs.declared.forms.Setting.TheVariants.{Workers, Task, Pages}
 use Rattle.yak.specs.declared.forms.Settings.{Settings}
-use Rattle.yak.specs.Forms.{IsJoined, IsNumber, IsSetting, Sets, all_told, one_told, setting_word, tell, told, unset}
+use Rattle.yak.specs.Forms.{IsJoined, IsNumber, IsSetting, Sets, Tells, all_told, feed_word, one_told, setting_word, tell, unset}
 
 -- ---- fronts
 
@@ -38,7 +38,7 @@ is_front text front same =
     rw (take_all (length text - length front) (drop (length front) text) (rw (length-drop (length front) text) (omega arith)))
     (sym (take-append-drop (length front) text) ∙ ap (λ (l : List ℕ). l ++ drop (length front) text) front_is)
 
--- ---- one option
+-- ---- one option with a number
 
 letter : Setting → ℕ
 letter Workers = 119
@@ -126,10 +126,50 @@ no_setting words a b c Workers number rest h = a number rest h
 no_setting words a b c Task number rest h = b number rest h
 no_setting words a b c Pages number rest h = c number rest h
 
--- fewer words are left after an option
-pub shorter : (words : List (List ℕ)) (setting : Setting) (number : ℕ) (rest : List (List ℕ)) → IsSetting words setting number rest → length rest < length words
+-- fewer words are left after an option with a number
+shorter : (words : List (List ℕ)) (setting : Setting) (number : ℕ) (rest : List (List ℕ)) → IsSetting words setting number rest → length rest < length words
 shorter words setting number rest (inl (word, joined, is)) = let l = ap length is in omega (arith, l)
 shorter words setting number rest (inr (within, is)) = let l = ap length is in omega (arith, l)
+
+-- the option without a number has a letter of its own
+not_fed : (words : List (List ℕ)) (setting : Setting) (number : ℕ) (rest others : List (List ℕ)) → IsSetting words setting number rest → words ≡ feed_word ∷ others → ⊥
+unfolding letter
+not_fed words Workers number rest others h fed = let e = sym (ap (λ (ws : List (List ℕ)). get_or (get_or ws 0 []) 2 0) fed) ∙ first_letter words Workers number rest h in omega (arith, e)
+not_fed words Task number rest others h fed = let e = sym (ap (λ (ws : List (List ℕ)). get_or (get_or ws 0 []) 2 0) fed) ∙ first_letter words Task number rest h in omega (arith, e)
+not_fed words Pages number rest others h fed = let e = sym (ap (λ (ws : List (List ℕ)). get_or (get_or ws 0 []) 2 0) fed) ∙ first_letter words Pages number rest h in omega (arith, e)
+
+-- ---- one option of either kind
+
+pub none_tells : (words : List (List ℕ)) (before : Settings) → ((others : List (List ℕ)) → words ≢ feed_word ∷ others)
+    → ((setting : Setting) (number : ℕ) (rest : List (List ℕ)) → IsSetting words setting number rest → ⊥) → (after : Settings) (rest : List (List ℕ)) → Tells words before after rest → ⊥
+none_tells words before unfed never after rest (inl (setting, number, is, untold, same)) = never setting number rest is
+none_tells words before unfed never after rest (inr (is, untold, same)) = unfed rest is
+
+record IsSameRest (one other : Settings) (rest others : List (List ℕ)) : Type 0 where
+  settings : one ≡ other
+  rests : rest ≡ others
+
+same_kind : (words : List (List ℕ)) (setting other : Setting) (number second : ℕ) (rest others : List (List ℕ)) → IsSetting words setting number rest → IsSetting words other second others → other ≡ setting
+same_kind words setting other number second rest others is is' = same_setting other setting (sym (first_letter words other second others is') ∙ first_letter words setting number rest is)
+
+-- words tell one option only
+same_tells : (words : List (List ℕ)) (before one other : Settings) (rest others : List (List ℕ)) → Tells words before one rest → Tells words before other others → IsSameRest one other rest others
+same_tells words before one other rest others (inl (setting, number, is, untold, same)) (inl (setting', number', is', untold', same')) =
+    let alike : setting' ≡ setting = same_kind words setting setting' number number' rest others is is' in
+    let found : IsOne number number' rest others = same_option words setting number number' rest others is (subst (λ (s : Setting). IsSetting words s number' others) alike is') in
+    record {
+      settings = same ∙ ap (λ (n : ℕ). tell setting n before) found.numbers ∙ ap (λ (s : Setting). tell s number' before) (sym alike) ∙ sym same';
+      rests = found.rests;
+    }
+same_tells words before one other rest others (inl (setting, number, is, untold, same)) (inr (fed, untold', same')) = absurd (not_fed words setting number rest others is fed)
+same_tells words before one other rest others (inr (fed, untold, same)) (inl (setting, number, is, untold', same')) = absurd (not_fed words setting number others rest is fed)
+same_tells words before one other rest others (inr (fed, untold, same)) (inr (fed', untold', same')) =
+    record { settings = same ∙ sym same'; rests = tail_of _ _ _ _ (sym fed ∙ fed') }
+
+-- fewer words are left after an option
+fewer : (words : List (List ℕ)) (before after : Settings) (rest : List (List ℕ)) → Tells words before after rest → length rest < length words
+fewer words before after rest (inl (setting, number, is, untold, same)) = shorter words setting number rest is
+fewer words before after rest (inr (fed, untold, same)) = let l = ap length fed in omega (arith, l)
 
 -- ---- options
 
@@ -141,40 +181,28 @@ pub record IsSame (all : List (List ℕ)) (before : Settings) (words : List (Lis
 pub same_all : (all : List (List ℕ)) → IsSame all unset all
 same_all all = record { forth = λ settings h. h; back = λ settings h. h }
 
-no_words_left : (words : List (List ℕ)) (setting : Setting) (number : ℕ) (rest : List (List ℕ)) → words ≡ [] → IsSetting words setting number rest → ⊥
-no_words_left words setting number rest e h = let l = ap length e in let short = shorter words setting number rest h in absurd (omega (arith, l, short))
+no_words_left : (words : List (List ℕ)) (before after : Settings) (rest : List (List ℕ)) → words ≡ [] → Tells words before after rest → ⊥
+no_words_left words before after rest e h = let l = ap length e in let short = fewer words before after rest h in absurd (omega (arith, l, short))
 
-same_told : (before : Settings) (one other : Setting) (number second : ℕ) → one ≡ other → number ≡ second → tell other second before ≡ tell one number before
-same_told before one other number second e n = rw (e, n) refl
+next_sets : (before after settings : Settings) (words rest : List (List ℕ)) → Tells words before after rest → Sets settings before words → Sets settings after rest
+next_sets before after settings words rest tells (all_told empty same) = absurd (no_words_left words before after rest empty tells)
+next_sets before after settings words rest tells (one_told after' rest' tells' later) =
+    let one : IsSameRest after after' rest rest' = same_tells words before after after' rest rest' tells tells' in
+    rw one.rests (subst (λ (z : Settings). Sets settings z rest') (sym one.settings) later)
 
-next_sets : (before settings : Settings) (words : List (List ℕ)) (setting : Setting) (number : ℕ) (rest : List (List ℕ)) → IsSetting words setting number rest
-    → Sets settings before words → (told setting before ≡ None) × Sets settings (tell setting number before) rest
-next_sets before settings words setting number rest is (all_told empty same) = absurd (no_words_left words setting number rest empty is)
-next_sets before settings words setting number rest is (one_told setting' number' rest' is' untold later) =
-    let alike : setting' ≡ setting = same_setting setting' setting (sym (first_letter words setting' number' rest' is') ∙ first_letter words setting number rest is) in
-    let one : IsOne number number' rest rest' = same_option words setting number number' rest rest' is (subst (λ (s : Setting). IsSetting words s number' rest') alike is') in (
-      subst (λ (s : Setting). told s before ≡ None) alike untold,
-      rw one.rests (subst (λ (z : Settings). Sets settings z rest') (ap (λ (s : Setting). tell s number' before) alike ∙ ap (λ (n : ℕ). tell setting n before) (sym one.numbers)) later),
-    )
-
-pub same_next : (all : List (List ℕ)) (before after : Settings) (words : List (List ℕ)) (setting : Setting) (number : ℕ) (rest : List (List ℕ))
-    → IsSame all before words → IsSetting words setting number rest → told setting before ≡ None → after ≡ tell setting number before → IsSame all after rest
-same_next all before after words setting number rest same is untold told_so = record {
-  forth = λ settings h. same.forth settings (one_told setting number rest is untold (subst (λ (z : Settings). Sets settings z rest) told_so h));
-  back = λ settings h. subst (λ (z : Settings). Sets settings z rest) (sym told_so) (next_sets before settings words setting number rest is (same.back settings h)).1;
+pub same_next : (all : List (List ℕ)) (before after : Settings) (words rest : List (List ℕ)) → IsSame all before words → Tells words before after rest → IsSame all after rest
+same_next all before after words rest same tells = record {
+  forth = λ settings h. same.forth settings (one_told after rest tells h);
+  back = λ settings h. next_sets before after settings words rest tells (same.back settings h);
 }
 
-pub same_twice : (all : List (List ℕ)) (before : Settings) (words : List (List ℕ)) (setting : Setting) (number : ℕ) (rest : List (List ℕ))
-    → IsSame all before words → IsSetting words setting number rest → told setting before ≢ None → (settings : Settings) → Sets settings unset all → ⊥
-same_twice all before words setting number rest same is twice settings h = twice (next_sets before settings words setting number rest is (same.back settings h)).0
-
-none_sets : (before settings : Settings) (words : List (List ℕ)) → ((setting : Setting) (number : ℕ) (rest : List (List ℕ)) → IsSetting words setting number rest → ⊥)
+none_sets : (before settings : Settings) (words : List (List ℕ)) → ((after : Settings) (rest : List (List ℕ)) → Tells words before after rest → ⊥)
     → words ≢ [] → Sets settings before words → ⊥
 none_sets before settings words never some (all_told empty same) = some empty
-none_sets before settings words never some (one_told setting number rest is untold later) = never setting number rest is
+none_sets before settings words never some (one_told after rest tells later) = never after rest tells
 
 pub same_none : (all : List (List ℕ)) (before : Settings) (words : List (List ℕ)) → IsSame all before words
-    → ((setting : Setting) (number : ℕ) (rest : List (List ℕ)) → IsSetting words setting number rest → ⊥) → words ≢ [] → (settings : Settings) → Sets settings unset all → ⊥
+    → ((after : Settings) (rest : List (List ℕ)) → Tells words before after rest → ⊥) → words ≢ [] → (settings : Settings) → Sets settings unset all → ⊥
 same_none all before words same never some settings h = none_sets before settings words never some (same.back settings h)
 
 pub same_done : (all : List (List ℕ)) (settings : Settings) (words : List (List ℕ)) → IsSame all settings words → words ≡ [] → Sets settings unset all
@@ -200,6 +228,6 @@ none_left (word ∷ words) test is yes' = let t : true ≡ false = sym yes' ∙ 
 
 pub sets_unique : (one before other : Settings) (words : List (List ℕ)) → Sets one before words → Sets other before words → one ≡ other
 sets_unique one before other words (all_told empty same) (all_told empty' same') = same ∙ sym same'
-sets_unique one before other words (all_told empty same) (one_told setting number rest is untold later) = absurd (no_words_left words setting number rest empty is)
-sets_unique one before other words (one_told setting number rest is untold later) sets =
-    sets_unique one (tell setting number before) other rest later (next_sets before other words setting number rest is sets).1
+sets_unique one before other words (all_told empty same) (one_told after rest tells later) = absurd (no_words_left words before after rest empty tells)
+sets_unique one before other words (one_told after rest tells later) sets =
+    sets_unique one after other rest later (next_sets before after other words rest tells sets)

@@ -63,41 +63,41 @@ abbrev pub Never : Type 0
 Never = (bytes : List ℕ) (script : Contents) (bad : Bad) → IsScript bytes script → IsBadLine bytes bad → ⊥
 
 done_replayed : (words : List (List ℕ)) (input : Input) (output : Output) (text : List ℕ) (kept : Keeping) → Appends output.before output.after text
-    → belongs Done words input text kept → IsReplay words → EndsReplayed input output kept
+    → belongs words Done input text kept → IsReplay words → EndsReplayed input output kept
 done_replayed words input output text kept all (inl (named, (bytes, is, (held, here, replays)))) replay = (bytes, is, (text, held, here, replays, all))
 done_replayed words input output text kept all (inr (inl (rounds, gen, more))) replay = absurd (gen_or_replay words rounds replay gen)
 done_replayed words input output text kept all (inr (inr (options, count, more))) replay = absurd (count_or_replay words options replay count)
 
 done_generated : (words : List (List ℕ)) (input : Input) (output : Output) (text : List ℕ) (kept : Keeping) (rounds : ℕ) → Appends output.before output.after text
-    → belongs Done words input text kept → IsGen words rounds → EndsGenerated rounds output kept
+    → belongs words Done input text kept → IsGen words rounds → EndsGenerated rounds output kept
 done_generated words input output text kept rounds all (inl replay) gen = absurd (gen_or_replay words rounds replay.0 gen)
 done_generated words input output text kept rounds all (inr (inl (other, is, (held, here, generates)))) gen =
     (text, held, here, subst (λ (n : ℕ). Generates n text held) (same_rounds words other rounds is gen) generates, all)
 done_generated words input output text kept rounds all (inr (inr (options, count, more))) gen = absurd (count_or_gen words options rounds count gen)
 
 done_counted : (words : List (List ℕ)) (input : Input) (output : Output) (text : List ℕ) (kept : Keeping) (options : Options) → Appends output.before output.after text
-    → belongs Done words input text kept → IsCount words options → EndsCounted options input output kept
+    → belongs words Done input text kept → IsCount words options → EndsCounted options input output kept
 done_counted words input output text kept options all (inl replay) count = absurd (count_or_replay words options replay.0 count)
 done_counted words input output text kept options all (inr (inl (rounds, gen, more))) count = absurd (count_or_gen words options rounds count gen)
 done_counted words input output text kept options all (inr (inr (other, is, (bytes, input_is, (held, here, counted))))) count =
     (bytes, input_is, (text, held, here, subst (λ (o : Options). Counts o bytes text held) (same_options words other options is count) counted, all))
 
-done_asked : (words : List (List ℕ)) (input : Input) (text : List ℕ) (kept : Keeping) → belongs Done words input text kept → IsAsked words
+done_asked : (words : List (List ℕ)) (input : Input) (text : List ℕ) (kept : Keeping) → belongs words Done input text kept → IsAsked words
 done_asked words input text kept (inl replay) = (Replay, replay.0, tt)
 done_asked words input text kept (inr (inl (rounds, gen, more))) = (Gen rounds, gen, tt)
 done_asked words input text kept (inr (inr (options, count, more))) = count_asked words options count
 
-done_refused : Never → (words : List (List ℕ)) (input : Input) (output : Output) (text : List ℕ) (kept : Keeping) → belongs Done words input text kept
+done_refused : Never → (words : List (List ℕ)) (input : Input) (output : Output) (text : List ℕ) (kept : Keeping) → belongs words Done input text kept
     → (bytes : List ℕ) (bad : Bad) → IsReplay words → IsFaultless input output bytes → IsBadLine bytes bad → ⊥
 done_refused never words input output text kept (inl (replay, (other, is, (held, here, replays)))) bytes bad named clean bad_is =
     never bytes replays.script bad (subst (λ (l : List ℕ). IsScript l replays.script) (same_input input bytes other clean.told is) replays.read) bad_is
 done_refused never words input output text kept (inr (inl (rounds, gen, more))) bytes bad named clean bad_is = gen_or_replay words rounds named gen
 done_refused never words input output text kept (inr (inr (options, count, more))) bytes bad named clean bad_is = count_or_replay words options named count
 
-not_both : (bytes other : List ℕ) → other ≡ bytes → has_long_word other ≡ false → has_long_word bytes ≡ true → ⊥
+pub not_both : (bytes other : List ℕ) → other ≡ bytes → has_long_word other ≡ false → has_long_word bytes ≡ true → ⊥
 not_both bytes other same short long = let e : false ≡ true = sym short ∙ ap has_long_word same ∙ long in cc e
 
-done_long : (words : List (List ℕ)) (input : Input) (output : Output) (text : List ℕ) (kept : Keeping) (options : Options) → belongs Done words input text kept
+done_long : (words : List (List ℕ)) (input : Input) (output : Output) (text : List ℕ) (kept : Keeping) (options : Options) → belongs words Done input text kept
     → (bytes : List ℕ) → IsCount words options → IsFaultless input output bytes → has_long_word bytes ≡ true → ⊥
 done_long words input output text kept options (inl replay) bytes count clean long = count_or_replay words options replay.0 count
 done_long words input output text kept options (inr (inl (rounds, gen, more))) bytes count clean long = count_or_gen words options rounds count gen
@@ -110,7 +110,7 @@ too_many input bytes read told more is =
     let size : length read ≡ length bytes = ap length (same_input input bytes read told is) in
     absurd (omega (arith, few, size, more))
 
-done_many : (words : List (List ℕ)) (input : Input) (output : Output) (text : List ℕ) (kept : Keeping) → belongs Done words input text kept
+done_many : (words : List (List ℕ)) (input : Input) (output : Output) (text : List ℕ) (kept : Keeping) → belongs words Done input text kept
     → (bytes : List ℕ) → IsReading words → IsFaultless input output bytes → INPUT_LIMIT < length bytes → ⊥
 done_many words input output text kept (inl (replay, (read, is, more))) bytes reading clean many = too_many input bytes read clean.told many is
 done_many words input output text kept (inr (inl (rounds, gen, more))) bytes reading clean many = reading_or_gen words rounds reading gen
@@ -266,23 +266,3 @@ excess_ends NotLawful words input output kept h bytes reading clean many = absur
 pub of_success : {T E : Type 0} (result : Result T E) (failed : Bool) (P : Type 0) → OnOk result P → failed ≡ is_err result → failed ≡ false → P
 of_success (Ok x) failed P h is well = h
 of_success (Err e) failed P h is well = let t : true ≡ false = sym is ∙ well in absurd (cc t)
-
-all_written : (status : Status) (words : List (List ℕ)) (input : Input) (output : Output) (kept : Keeping) (text : List ℕ) → belongs status words input text kept
-    → Appends output.before output.after text → ends status words input output kept
-all_written Done words input output kept text is all = (text, record { meaning = is; all = all })
-all_written Usage words input output kept text is all = (text, record { meaning = is; all = all })
-all_written Refused words input output kept text is all = (text, record { meaning = is; all = all })
-all_written ReadFault words input output kept text is all = (text, record { meaning = is; all = all })
-all_written WriteFault words input output kept text is all = absurd is
-all_written NoMemory words input output kept text is all = (text, record { meaning = is; all = all })
-all_written TooLarge words input output kept text is all = (text, record { meaning = is; all = all })
-all_written OutOfHeap words input output kept text is all = (text, record { meaning = is; all = all })
-all_written LongWord words input output kept text is all = (text, record { meaning = is; all = all })
-all_written BadTrace words input output kept text is all = absurd is
-all_written NotLawful words input output kept text is all = absurd is
-
--- the whole text of a status was written
-pub written_ends : (status : Status) (words : List (List ℕ)) (input : Input) (output : Output) (kept : Keeping) (text given : List ℕ) → belongs status words input text kept
-    → given ≡ text → Appends output.before output.after given → ends status words input output kept
-written_ends status words input output kept text given is same all =
-    all_written status words input output kept text is (subst (λ (l : List ℕ). Appends output.before output.after l) same all)

@@ -1,7 +1,6 @@
 -- Which statuses a run in threads may end with, and what the number of each tells.
 use Rattle.std.proofs.Common.{◌≡◌, ◌≤◌, ◌<◌, ◌⊎◌, ℕ, List, [], length, refl, subst, inl, inr}
 use denote.Enum.Declared.{tag_of}
-use Rattle.std.specs.Io.KnownBytes.{Appends}
 use Rattle.yak_io.specs.Causes.{Rose}
 use Rattle.script_text.specs.declared.TheConstants.{INPUT_LIMIT}
 use Rattle.script_text.specs.declared.faults.Bad.{Bad}
@@ -11,14 +10,15 @@ use Rattle.yak.specs.contracts.endings.Status.{the_type}
 use Rattle.yak.specs.declared.endings.Status.{Status}
 use Rattle.yak.specs.declared.endings.Status.TheVariants.{Done, Usage, Refused, ReadFault, WriteFault, NoMemory, TooLarge, OutOfHeap, LongWord, BadTrace, NotLawful}
 use Rattle.yak.specs.Keeping.{Keeping}
-use Rattle.yak.specs.Endings.{EndsRefused, Input, IsFaultless, IsTooLarge, KeepsNothing, Output, WritesNothing, number_of}
-use Rattle.yak.specs.Threaded.{AnswersThreads, EndsThreaded, threads_end, threads_mean}
+use Rattle.yak.specs.Endings.{EndsRefused, Input, IsFaultless, IsTooLarge, KeepsNothing, Output, WritesNothing, ends_by, number_of}
+use Rattle.yak.specs.Threaded.{AnswersThreads, EndsThreaded, threads_mean}
 use Rattle.yak.proofs.Numbers.{number_is, of_number, one_of_two}
 use Rattle.yak.proofs.Statuses.{Never, not_large, same_input, too_many}
+use Rattle.yak.proofs.Writing.{same_text}
 
 -- ---- which statuses come
 
-script_ends : Never → (status : Status) (input : Input) (output : Output) (kept : Keeping) → threads_end status input output kept
+script_ends : Never → (status : Status) (input : Input) (output : Output) (kept : Keeping) → ends_by threads_mean status input output kept
     → (bytes : List ℕ) (script : Contents) → IsFaultless input output bytes → length bytes ≤ INPUT_LIMIT → IsScript bytes script → (status ≡ Done) ⊎ (status ≡ NoMemory)
 script_ends never Done input output kept h bytes script clean fits is = inl refl
 script_ends never Usage input output kept h bytes script clean fits is = absurd h.1.meaning
@@ -34,7 +34,7 @@ script_ends never LongWord input output kept h bytes script clean fits is = absu
 script_ends never BadTrace input output kept h bytes script clean fits is = absurd h.1.meaning
 script_ends never NotLawful input output kept h bytes script clean fits is = absurd h.1.meaning
 
-refusal_ends : Never → (status : Status) (input : Input) (output : Output) (kept : Keeping) → threads_end status input output kept
+refusal_ends : Never → (status : Status) (input : Input) (output : Output) (kept : Keeping) → ends_by threads_mean status input output kept
     → (bytes : List ℕ) (bad : Bad) → IsFaultless input output bytes → length bytes ≤ INPUT_LIMIT → IsBadLine bytes bad → (status ≡ Refused) ⊎ (status ≡ NoMemory)
 refusal_ends never Done input output kept h bytes bad clean fits is =
     let told = h.1.meaning in
@@ -51,7 +51,7 @@ refusal_ends never LongWord input output kept h bytes bad clean fits is = absurd
 refusal_ends never BadTrace input output kept h bytes bad clean fits is = absurd h.1.meaning
 refusal_ends never NotLawful input output kept h bytes bad clean fits is = absurd h.1.meaning
 
-excess_ends : (status : Status) (input : Input) (output : Output) (kept : Keeping) → threads_end status input output kept
+excess_ends : (status : Status) (input : Input) (output : Output) (kept : Keeping) → ends_by threads_mean status input output kept
     → (bytes : List ℕ) → IsFaultless input output bytes → INPUT_LIMIT < length bytes → (status ≡ TooLarge) ⊎ (status ≡ NoMemory)
 excess_ends Done input output kept h bytes clean many = absurd (too_many input bytes h.1.meaning.0 clean.told many h.1.meaning.1)
 excess_ends Usage input output kept h bytes clean many = absurd h.1.meaning
@@ -67,26 +67,23 @@ excess_ends NotLawful input output kept h bytes clean many = absurd h.1.meaning
 
 -- ---- what each status tells
 
-same_text : (output : Output) (text other : List ℕ) → text ≡ other → Appends output.before output.after text → Appends output.before output.after other
-same_text output text other e all = subst (λ (l : List ℕ). Appends output.before output.after l) e all
-
-at_done : (input : Input) (output : Output) (kept : Keeping) → threads_end Done input output kept → EndsThreaded input output kept
+at_done : (input : Input) (output : Output) (kept : Keeping) → ends_by threads_mean Done input output kept → EndsThreaded input output kept
 at_done input output kept h = let told = h.1.meaning in (told.0, told.1, (h.0, told.2.0, told.2.1, told.2.2, h.1.all))
 
-at_refused : (input : Input) (output : Output) (kept : Keeping) → threads_end Refused input output kept → EndsRefused input output
+at_refused : (input : Input) (output : Output) (kept : Keeping) → ends_by threads_mean Refused input output kept → EndsRefused input output
 at_refused input output kept h = let told = h.1.meaning.0 in (told.0, told.1, (h.0, told.2, h.1.all))
 
-at_read_fault : (input : Input) (output : Output) (kept : Keeping) → threads_end ReadFault input output kept
+at_read_fault : (input : Input) (output : Output) (kept : Keeping) → ends_by threads_mean ReadFault input output kept
     → Rose input.faults_before input.faults_after × WritesNothing output
 at_read_fault input output kept h = (h.1.meaning.0, same_text output h.0 [] h.1.meaning.1 h.1.all)
 
-at_no_memory : (input : Input) (output : Output) (kept : Keeping) → threads_end NoMemory input output kept → WritesNothing output
+at_no_memory : (input : Input) (output : Output) (kept : Keeping) → ends_by threads_mean NoMemory input output kept → WritesNothing output
 at_no_memory input output kept h = same_text output h.0 [] h.1.meaning.0 h.1.all
 
-at_too_large : (input : Input) (output : Output) (kept : Keeping) → threads_end TooLarge input output kept → IsTooLarge input × WritesNothing output
+at_too_large : (input : Input) (output : Output) (kept : Keeping) → ends_by threads_mean TooLarge input output kept → IsTooLarge input × WritesNothing output
 at_too_large input output kept h = (h.1.meaning.0, same_text output h.0 [] h.1.meaning.1 h.1.all)
 
-keeps_nothing : (status : Status) (input : Input) (output : Output) (kept : Keeping) → threads_end status input output kept
+keeps_nothing : (status : Status) (input : Input) (output : Output) (kept : Keeping) → ends_by threads_mean status input output kept
     → (number_of status ≡ 0 → ⊥) → KeepsNothing kept
 keeps_nothing Done input output kept h some = absurd (some refl)
 keeps_nothing Usage input output kept h some = absurd h.1.meaning
@@ -102,11 +99,11 @@ keeps_nothing NotLawful input output kept h some = absurd h.1.meaning
 
 -- ---- all that it tells
 
-answers_so : Never → (status : Status) (input : Input) (output : Output) (kept : Keeping) → threads_end status input output kept
+answers_so : Never → (status : Status) (input : Input) (output : Output) (kept : Keeping) → ends_by threads_mean status input output kept
     → AnswersThreads (number_of status) input output kept
 answers_so never status input output kept h =
-    let at : (other : Status) → number_of status ≡ number_of other → threads_end other input output kept =
-    λ other e. subst (λ (s : Status). threads_end s input output kept) (of_number status other e) h in
+    let at : (other : Status) → number_of status ≡ number_of other → ends_by threads_mean other input output kept =
+    λ other e. subst (λ (s : Status). ends_by threads_mean s input output kept) (of_number status other e) h in
     record {
       ending = (status, refl, h);
       runs = λ e. at_done input output kept (at Done e);
@@ -129,29 +126,7 @@ answers_so never status input output kept h =
       every_excess = λ bytes clean many. one_of_two status TooLarge NoMemory (excess_ends status input output kept h bytes clean many);
     }
 
-pub answers_threads : Never → (status : Status) (input : Input) (output : Output) (kept : Keeping) → threads_end status input output kept
+pub answers_threads : Never → (status : Status) (input : Input) (output : Output) (kept : Keeping) → ends_by threads_mean status input output kept
     → AnswersThreads (tag_of the_type status) input output kept
 answers_threads never status input output kept h =
     subst (λ (n : ℕ). AnswersThreads n input output kept) (number_is status) (answers_so never status input output kept h)
-
--- ---- the writing
-
-all_written : (status : Status) (input : Input) (output : Output) (kept : Keeping) (text : List ℕ) → threads_mean status input text kept
-    → Appends output.before output.after text → threads_end status input output kept
-all_written Done input output kept text is all = (text, record { meaning = is; all = all })
-all_written Usage input output kept text is all = absurd is
-all_written Refused input output kept text is all = (text, record { meaning = is; all = all })
-all_written ReadFault input output kept text is all = (text, record { meaning = is; all = all })
-all_written WriteFault input output kept text is all = absurd is
-all_written NoMemory input output kept text is all = (text, record { meaning = is; all = all })
-all_written TooLarge input output kept text is all = (text, record { meaning = is; all = all })
-all_written OutOfHeap input output kept text is all = absurd is
-all_written LongWord input output kept text is all = absurd is
-all_written BadTrace input output kept text is all = absurd is
-all_written NotLawful input output kept text is all = absurd is
-
--- the whole text of a status was written
-pub written_ends : (status : Status) (input : Input) (output : Output) (kept : Keeping) (text given : List ℕ) → threads_mean status input text kept
-    → given ≡ text → Appends output.before output.after given → threads_end status input output kept
-written_ends status input output kept text given is same all =
-    all_written status input output kept text is (same_text output given text same all)

@@ -1,7 +1,6 @@
 -- Which statuses making a trace and checking one may end with, and what the number of each tells.
 use Rattle.std.proofs.Common.{◌≡◌, ◌≤◌, ◌<◌, ◌⊎◌, ℕ, List, [], length, refl, subst, inl, inr}
 use denote.Enum.Declared.{tag_of}
-use Rattle.std.specs.Io.KnownBytes.{Appends}
 use Rattle.script_text.specs.declared.TheConstants.{INPUT_LIMIT}
 use Rattle.script_text.specs.declared.faults.Bad.{Bad}
 use Rattle.script_text.specs.Contents.{Contents}
@@ -19,11 +18,12 @@ use Rattle.yak.specs.declared.forms.Tracing.{Tracing}
 use Rattle.yak.specs.declared.forms.Tracing.TheVariants.{Make, Check}
 use Rattle.yak.specs.Forms.{IsTraced}
 use Rattle.yak.specs.Keeping.{Keeping}
-use Rattle.yak.specs.Endings.{Input, IsFaultless, IsInput, KeepsNothing, Output, number_of}
-use Rattle.yak.specs.Traced.{AnswersCheck, AnswersTrace, AnswersTracing, OfInput, tracing_ends, tracing_means, tracing_to}
+use Rattle.yak.specs.Endings.{Input, IsFaultless, IsInput, KeepsNothing, Output, ends_by, number_of}
+use Rattle.yak.specs.Traced.{AnswersCheck, AnswersTrace, AnswersTracing, OfInput, traced_means, tracing_means, tracing_to}
 use Rattle.yak.proofs.Numbers.{number_is, of_number, one_of_two}
 use Rattle.yak.proofs.Statuses.{Never, not_large, same_input, too_many}
 use Rattle.yak.proofs.Words.{one_form}
+use Rattle.yak.proofs.Writing.{HasNoFaultText, same_text}
 
 -- ---- words
 
@@ -59,33 +59,33 @@ of_told tracing status input output bytes text clean (read, is, told) = subst (�
 -- ---- which statuses come
 
 -- where each status that the bytes may come to is excluded but one, that one comes
-ends_with : (tracing : Tracing) (status : Status) (input : Input) (output : Output) → tracing_ends tracing status input output
+ends_with : (tracing : Tracing) (status : Status) (input : Input) (output : Output) (kept : Keeping) → ends_by (traced_means tracing) status input output kept
     → (bytes : List ℕ) → IsFaultless input output bytes → length bytes ≤ INPUT_LIMIT → (wanted : Status) → ((text : List ℕ) → tracing_to tracing status bytes text → (status ≡ wanted) ⊎ (status ≡ NoMemory)) → (status ≡ wanted) ⊎ (status ≡ NoMemory)
-ends_with tracing Done input output h bytes clean fits wanted each = each h.0 (of_told tracing Done input output bytes h.0 clean h.1.meaning)
-ends_with tracing Refused input output h bytes clean fits wanted each = each h.0 (of_told tracing Refused input output bytes h.0 clean h.1.meaning)
-ends_with tracing BadTrace input output h bytes clean fits wanted each = each h.0 (of_told tracing BadTrace input output bytes h.0 clean h.1.meaning)
-ends_with tracing NotLawful input output h bytes clean fits wanted each = each h.0 (of_told tracing NotLawful input output bytes h.0 clean h.1.meaning)
-ends_with tracing NoMemory input output h bytes clean fits wanted each = inr refl
-ends_with tracing ReadFault input output h bytes clean fits wanted each = absurd (clean.read_well h.1.meaning.0)
-ends_with tracing WriteFault input output h bytes clean fits wanted each = absurd (clean.written_well h.2.rose)
-ends_with tracing TooLarge input output h bytes clean fits wanted each = absurd (not_large input bytes clean.told fits h.1.meaning.0)
-ends_with tracing Usage input output h bytes clean fits wanted each = absurd h.1.meaning
-ends_with tracing OutOfHeap input output h bytes clean fits wanted each = absurd h.1.meaning
-ends_with tracing LongWord input output h bytes clean fits wanted each = absurd h.1.meaning
+ends_with tracing Done input output kept h bytes clean fits wanted each = each h.0 (of_told tracing Done input output bytes h.0 clean h.1.meaning.0)
+ends_with tracing Refused input output kept h bytes clean fits wanted each = each h.0 (of_told tracing Refused input output bytes h.0 clean h.1.meaning.0)
+ends_with tracing BadTrace input output kept h bytes clean fits wanted each = each h.0 (of_told tracing BadTrace input output bytes h.0 clean h.1.meaning.0)
+ends_with tracing NotLawful input output kept h bytes clean fits wanted each = each h.0 (of_told tracing NotLawful input output bytes h.0 clean h.1.meaning.0)
+ends_with tracing NoMemory input output kept h bytes clean fits wanted each = inr refl
+ends_with tracing ReadFault input output kept h bytes clean fits wanted each = absurd (clean.read_well h.1.meaning.0.0)
+ends_with tracing WriteFault input output kept h bytes clean fits wanted each = absurd (clean.written_well h.1.3.rose)
+ends_with tracing TooLarge input output kept h bytes clean fits wanted each = absurd (not_large input bytes clean.told fits h.1.meaning.0.0)
+ends_with tracing Usage input output kept h bytes clean fits wanted each = absurd h.1.meaning.0
+ends_with tracing OutOfHeap input output kept h bytes clean fits wanted each = absurd h.1.meaning.0
+ends_with tracing LongWord input output kept h bytes clean fits wanted each = absurd h.1.meaning.0
 
-excess_ends : (tracing : Tracing) (status : Status) (input : Input) (output : Output) → tracing_ends tracing status input output
+excess_ends : (tracing : Tracing) (status : Status) (input : Input) (output : Output) (kept : Keeping) → ends_by (traced_means tracing) status input output kept
     → (bytes : List ℕ) → IsFaultless input output bytes → INPUT_LIMIT < length bytes → (status ≡ TooLarge) ⊎ (status ≡ NoMemory)
-excess_ends tracing Done input output h bytes clean many = absurd (too_many input bytes h.1.meaning.0 clean.told many h.1.meaning.1)
-excess_ends tracing Refused input output h bytes clean many = absurd (too_many input bytes h.1.meaning.0 clean.told many h.1.meaning.1)
-excess_ends tracing BadTrace input output h bytes clean many = absurd (too_many input bytes h.1.meaning.0 clean.told many h.1.meaning.1)
-excess_ends tracing NotLawful input output h bytes clean many = absurd (too_many input bytes h.1.meaning.0 clean.told many h.1.meaning.1)
-excess_ends tracing NoMemory input output h bytes clean many = inr refl
-excess_ends tracing ReadFault input output h bytes clean many = absurd (clean.read_well h.1.meaning.0)
-excess_ends tracing WriteFault input output h bytes clean many = absurd (clean.written_well h.2.rose)
-excess_ends tracing TooLarge input output h bytes clean many = inl refl
-excess_ends tracing Usage input output h bytes clean many = absurd h.1.meaning
-excess_ends tracing OutOfHeap input output h bytes clean many = absurd h.1.meaning
-excess_ends tracing LongWord input output h bytes clean many = absurd h.1.meaning
+excess_ends tracing Done input output kept h bytes clean many = absurd (too_many input bytes h.1.meaning.0.0 clean.told many h.1.meaning.0.1)
+excess_ends tracing Refused input output kept h bytes clean many = absurd (too_many input bytes h.1.meaning.0.0 clean.told many h.1.meaning.0.1)
+excess_ends tracing BadTrace input output kept h bytes clean many = absurd (too_many input bytes h.1.meaning.0.0 clean.told many h.1.meaning.0.1)
+excess_ends tracing NotLawful input output kept h bytes clean many = absurd (too_many input bytes h.1.meaning.0.0 clean.told many h.1.meaning.0.1)
+excess_ends tracing NoMemory input output kept h bytes clean many = inr refl
+excess_ends tracing ReadFault input output kept h bytes clean many = absurd (clean.read_well h.1.meaning.0.0)
+excess_ends tracing WriteFault input output kept h bytes clean many = absurd (clean.written_well h.1.3.rose)
+excess_ends tracing TooLarge input output kept h bytes clean many = inl refl
+excess_ends tracing Usage input output kept h bytes clean many = absurd h.1.meaning.0
+excess_ends tracing OutOfHeap input output kept h bytes clean many = absurd h.1.meaning.0
+excess_ends tracing LongWord input output kept h bytes clean many = absurd h.1.meaning.0
 
 -- ---- what the bytes of a script come to
 
@@ -181,85 +181,68 @@ bad_trace_checks LongWord bytes text line is told = absurd told
 
 -- ---- what each status tells
 
-same_text : (output : Output) (text other : List ℕ) → text ≡ other → Appends output.before output.after text → Appends output.before output.after other
-same_text output text other e all = subst (λ (l : List ℕ). Appends output.before output.after l) e all
-
-answers_both : (tracing : Tracing) (status : Status) (input : Input) (output : Output) (kept : Keeping) → tracing_ends tracing status input output → KeepsNothing kept
+answers_both : (tracing : Tracing) (status : Status) (input : Input) (output : Output) (kept : Keeping) → ends_by (traced_means tracing) status input output kept → KeepsNothing kept
     → AnswersTracing tracing (number_of status) input output kept
 answers_both tracing status input output kept h nothing =
-    let at : (other : Status) → number_of status ≡ number_of other → tracing_ends tracing other input output =
-    λ other e. subst (λ (s : Status). tracing_ends tracing s input output) (of_number status other e) h in
+    let at : (other : Status) → number_of status ≡ number_of other → ends_by (traced_means tracing) other input output kept =
+    λ other e. subst (λ (s : Status). ends_by (traced_means tracing) s input output kept) (of_number status other e) h in
     record {
       ending = (status, refl, h);
-      read_fault = λ e. (let end = at ReadFault e in (end.1.meaning.0, same_text output end.0 [] end.1.meaning.1 end.1.all));
-      write_fault = λ e. (at WriteFault e).2.rose;
-      cut = λ e. at WriteFault e;
-      no_memory = λ e. (let end = at NoMemory e in same_text output end.0 [] end.1.meaning end.1.all);
-      too_large = λ e. (let end = at TooLarge e in (end.1.meaning.0, same_text output end.0 [] end.1.meaning.1 end.1.all));
-      no_others = λ others. elim others [ inl e ↦ (at Usage e).1.meaning | inr (inl e) ↦ (at OutOfHeap e).1.meaning | inr (inr e) ↦ (at LongWord e).1.meaning ];
+      read_fault = λ e. (let end = at ReadFault e in (end.1.meaning.0.0, same_text output end.0 [] end.1.meaning.0.1 end.1.all));
+      write_fault = λ e. (at WriteFault e).1.3.rose;
+      cut = λ e. (at WriteFault e).1;
+      no_memory = λ e. (let end = at NoMemory e in same_text output end.0 [] end.1.meaning.0 end.1.all);
+      too_large = λ e. (let end = at TooLarge e in (end.1.meaning.0.0, same_text output end.0 [] end.1.meaning.0.1 end.1.all));
+      no_others = λ others. elim others [ inl e ↦ (at Usage e).1.meaning.0 | inr (inl e) ↦ (at OutOfHeap e).1.meaning.0 | inr (inr e) ↦ (at LongWord e).1.meaning.0 ];
       kept = nothing;
-      every_excess = λ bytes clean many. one_of_two status TooLarge NoMemory (excess_ends tracing status input output h bytes clean many);
+      every_excess = λ bytes clean many. one_of_two status TooLarge NoMemory (excess_ends tracing status input output kept h bytes clean many);
     }
 
-trace_so : Never → (status : Status) (input : Input) (output : Output) (kept : Keeping) → tracing_ends Make status input output → KeepsNothing kept
+trace_so : Never → (status : Status) (input : Input) (output : Output) (kept : Keeping) → ends_by (traced_means Make) status input output kept → KeepsNothing kept
     → AnswersTrace (number_of status) input output kept
 trace_so never status input output kept h nothing =
-    let at : (other : Status) → number_of status ≡ number_of other → tracing_ends Make other input output =
-    λ other e. subst (λ (s : Status). tracing_ends Make s input output) (of_number status other e) h in
+    let at : (other : Status) → number_of status ≡ number_of other → ends_by (traced_means Make) other input output kept =
+    λ other e. subst (λ (s : Status). ends_by (traced_means Make) s input output kept) (of_number status other e) h in
     record {
       both = answers_both Make status input output kept h nothing;
-      traces = λ e. (let end = at Done e in (end.1.meaning.0, end.1.meaning.1, (end.0, end.1.meaning.2, end.1.all)));
-      refused = λ e. (let end = at Refused e in (end.1.meaning.0, end.1.meaning.1, (end.0, end.1.meaning.2, end.1.all)));
-      no_check = λ others. elim others [ inl e ↦ (at BadTrace e).1.meaning.2 | inr e ↦ (at NotLawful e).1.meaning.2 ];
-      every_script = λ bytes script clean fits is. one_of_two status Done NoMemory (ends_with Make status input output h bytes clean fits Done (λ text told. script_makes never status bytes text script is told));
-      every_refusal = λ bytes bad clean fits is. one_of_two status Refused NoMemory (ends_with Make status input output h bytes clean fits Refused (λ text told. refusal_makes never status bytes text bad is told));
+      traces = λ e. (let end = at Done e in (end.1.meaning.0.0, end.1.meaning.0.1, (end.0, end.1.meaning.0.2, end.1.all)));
+      refused = λ e. (let end = at Refused e in (end.1.meaning.0.0, end.1.meaning.0.1, (end.0, end.1.meaning.0.2, end.1.all)));
+      no_check = λ others. elim others [ inl e ↦ (at BadTrace e).1.meaning.0.2 | inr e ↦ (at NotLawful e).1.meaning.0.2 ];
+      every_script = λ bytes script clean fits is. one_of_two status Done NoMemory (ends_with Make status input output kept h bytes clean fits Done (λ text told. script_makes never status bytes text script is told));
+      every_refusal = λ bytes bad clean fits is. one_of_two status Refused NoMemory (ends_with Make status input output kept h bytes clean fits Refused (λ text told. refusal_makes never status bytes text bad is told));
     }
 
-check_so : Either → (status : Status) (input : Input) (output : Output) (kept : Keeping) → tracing_ends Check status input output → KeepsNothing kept
+check_so : Either → (status : Status) (input : Input) (output : Output) (kept : Keeping) → ends_by (traced_means Check) status input output kept → KeepsNothing kept
     → AnswersCheck (number_of status) input output kept
 check_so either status input output kept h nothing =
-    let at : (other : Status) → number_of status ≡ number_of other → tracing_ends Check other input output =
-    λ other e. subst (λ (s : Status). tracing_ends Check s input output) (of_number status other e) h in
+    let at : (other : Status) → number_of status ≡ number_of other → ends_by (traced_means Check) other input output kept =
+    λ other e. subst (λ (s : Status). ends_by (traced_means Check) s input output kept) (of_number status other e) h in
     record {
       both = answers_both Check status input output kept h nothing;
-      lawful = λ e. (let end = at Done e in (end.1.meaning.0, end.1.meaning.1, (end.0, end.1.meaning.2, end.1.all)));
-      refused = λ e. (let end = at Refused e in (end.1.meaning.0, end.1.meaning.1, (end.0, end.1.meaning.2, end.1.all)));
-      bad_trace = λ e. (let end = at BadTrace e in (end.1.meaning.0, end.1.meaning.1, (end.0, end.1.meaning.2, end.1.all)));
-      not_lawful = λ e. (let end = at NotLawful e in (end.1.meaning.0, end.1.meaning.1, (end.0, end.1.meaning.2, end.1.all)));
-      every_lawful = λ bytes trace clean fits is lawful. one_of_two status Done NoMemory (ends_with Check status input output h bytes clean fits Done (λ text told. lawful_checks either status bytes text trace is lawful told));
-      every_break = λ bytes trace entry clean fits is breaks. one_of_two status NotLawful NoMemory (ends_with Check status input output h bytes clean fits NotLawful (λ text told. break_checks either status bytes text trace entry is breaks told));
-      every_bad_script = λ bytes bad clean fits is. one_of_two status Refused NoMemory (ends_with Check status input output h bytes clean fits Refused (λ text told. bad_script_checks status bytes text bad is told));
-      every_bad_trace = λ bytes line clean fits is. one_of_two status BadTrace NoMemory (ends_with Check status input output h bytes clean fits BadTrace (λ text told. bad_trace_checks status bytes text line is told));
+      lawful = λ e. (let end = at Done e in (end.1.meaning.0.0, end.1.meaning.0.1, (end.0, end.1.meaning.0.2, end.1.all)));
+      refused = λ e. (let end = at Refused e in (end.1.meaning.0.0, end.1.meaning.0.1, (end.0, end.1.meaning.0.2, end.1.all)));
+      bad_trace = λ e. (let end = at BadTrace e in (end.1.meaning.0.0, end.1.meaning.0.1, (end.0, end.1.meaning.0.2, end.1.all)));
+      not_lawful = λ e. (let end = at NotLawful e in (end.1.meaning.0.0, end.1.meaning.0.1, (end.0, end.1.meaning.0.2, end.1.all)));
+      every_lawful = λ bytes trace clean fits is lawful. one_of_two status Done NoMemory (ends_with Check status input output kept h bytes clean fits Done (λ text told. lawful_checks either status bytes text trace is lawful told));
+      every_break = λ bytes trace entry clean fits is breaks. one_of_two status NotLawful NoMemory (ends_with Check status input output kept h bytes clean fits NotLawful (λ text told. break_checks either status bytes text trace entry is breaks told));
+      every_bad_script = λ bytes bad clean fits is. one_of_two status Refused NoMemory (ends_with Check status input output kept h bytes clean fits Refused (λ text told. bad_script_checks status bytes text bad is told));
+      every_bad_trace = λ bytes line clean fits is. one_of_two status BadTrace NoMemory (ends_with Check status input output kept h bytes clean fits BadTrace (λ text told. bad_trace_checks status bytes text line is told));
     }
 
-pub answers_trace : Never → (tracing : Tracing) (status : Status) (input : Input) (output : Output) → tracing_ends tracing status input output
+-- a run that keeps no heap, where the statuses mean this, ends with a status
+abbrev pub EndsAlone : Tracing → Status → Input → Output → Type 0
+EndsAlone tracing status input output = (kept : Keeping) → KeepsNothing kept → ends_by (traced_means tracing) status input output kept
+
+pub answers_trace : Never → (tracing : Tracing) (status : Status) (input : Input) (output : Output) → EndsAlone tracing status input output
     → tracing ≡ Make → (kept : Keeping) → KeepsNothing kept → AnswersTrace (tag_of the_type status) input output kept
 answers_trace never tracing status input output h is kept nothing =
-    subst (λ (n : ℕ). AnswersTrace n input output kept) (number_is status) (trace_so never status input output kept (subst (λ (t : Tracing). tracing_ends t status input output) is h) nothing)
+    subst (λ (n : ℕ). AnswersTrace n input output kept) (number_is status) (trace_so never status input output kept (subst (λ (t : Tracing). ends_by (traced_means t) status input output kept) is (h kept nothing)) nothing)
 
-pub answers_check : Either → (tracing : Tracing) (status : Status) (input : Input) (output : Output) → tracing_ends tracing status input output
+pub answers_check : Either → (tracing : Tracing) (status : Status) (input : Input) (output : Output) → EndsAlone tracing status input output
     → tracing ≡ Check → (kept : Keeping) → KeepsNothing kept → AnswersCheck (tag_of the_type status) input output kept
 answers_check either tracing status input output h is kept nothing =
-    subst (λ (n : ℕ). AnswersCheck n input output kept) (number_is status) (check_so either status input output kept (subst (λ (t : Tracing). tracing_ends t status input output) is h) nothing)
+    subst (λ (n : ℕ). AnswersCheck n input output kept) (number_is status) (check_so either status input output kept (subst (λ (t : Tracing). ends_by (traced_means t) status input output kept) is (h kept nothing)) nothing)
 
--- ---- the writing
-
-all_written : (tracing : Tracing) (status : Status) (input : Input) (output : Output) (text : List ℕ) → tracing_means tracing status input text
-    → Appends output.before output.after text → tracing_ends tracing status input output
-all_written tracing Done input output text is all = (text, record { meaning = is; all = all })
-all_written tracing Usage input output text is all = absurd is
-all_written tracing Refused input output text is all = (text, record { meaning = is; all = all })
-all_written tracing ReadFault input output text is all = (text, record { meaning = is; all = all })
-all_written tracing WriteFault input output text is all = absurd is
-all_written tracing NoMemory input output text is all = (text, record { meaning = is; all = all })
-all_written tracing TooLarge input output text is all = (text, record { meaning = is; all = all })
-all_written tracing OutOfHeap input output text is all = absurd is
-all_written tracing LongWord input output text is all = absurd is
-all_written tracing BadTrace input output text is all = (text, record { meaning = is; all = all })
-all_written tracing NotLawful input output text is all = (text, record { meaning = is; all = all })
-
--- the whole text of a status was written
-pub written_ends : (tracing : Tracing) (status : Status) (input : Input) (output : Output) (text given : List ℕ) → tracing_means tracing status input text
-    → given ≡ text → Appends output.before output.after given → tracing_ends tracing status input output
-written_ends tracing status input output text given is same all =
-    all_written tracing status input output text is (same_text output given text same all)
+-- no text of a trace belongs to a write fault
+pub no_fault : (tracing : Tracing) → HasNoFaultText (traced_means tracing)
+no_fault tracing input text kept h = h.0

@@ -10,11 +10,11 @@ use Rattle.group_jobs.specs.LongWords.{has_long_word}
 use Rattle.yak.specs.declared.forms.Options.{Options}
 use Rattle.yak.specs.Forms.{IsAsked, IsCount, IsGen, IsReading, IsReplay}
 use Rattle.yak.specs.Keeping.{Keeping}
-use Rattle.yak.specs.Endings.{EndsAs, EndsCounted, EndsCut, EndsGenerated, EndsLong, EndsOut, EndsRefused, EndsReplayed, Input, IsFaultless, IsTooLarge, KeepsNothing, Output, WritesNothing, usage_line}
+use Rattle.yak.specs.Endings.{CutBy, EndsBy, EndsCounted, EndsGenerated, EndsLong, EndsOut, EndsRefused, EndsReplayed, Input, IsFaultless, IsTooLarge, KeepsNothing, Output, WritesNothing, belongs, usage_line}
 
 -- A run on one core, on these words with this input and output, answered the number and kept this.
 pub record Answers (number : ℕ) (words : List (List ℕ)) (input : Input) (output : Output) (keeping : Keeping) : Type 0 where
-  pub ending : EndsAs number words input output keeping
+  pub ending : EndsBy (belongs words) number input output keeping
   pub replays : IsReplay words → number ≡ 0 → EndsReplayed input output keeping
   pub generates : (rounds : ℕ) → IsGen words rounds → number ≡ 0 → EndsGenerated rounds output keeping
   pub counts : (options : Options) → IsCount words options → number ≡ 0 → EndsCounted options input output keeping
@@ -22,7 +22,7 @@ pub record Answers (number : ℕ) (words : List (List ℕ)) (input : Input) (out
   pub refused : number ≡ 2 → IsReplay words × EndsRefused input output
   pub read_fault : number ≡ 3 → IsReading words × Rose input.faults_before input.faults_after × WritesNothing output
   pub write_fault : number ≡ 4 → Rose output.faults_before output.faults_after
-  pub cut : number ≡ 4 → EndsCut words input output
+  pub cut : number ≡ 4 → CutBy (belongs words) input output
   pub no_memory : number ≡ 5 → WritesNothing output
   pub too_large : number ≡ 6 → IsReading words × IsTooLarge input × WritesNothing output
   pub out_of_heap : number ≡ 7 → (options : Options) × IsCount words options × EndsOut options input output

@@ -31,7 +31,7 @@ use Rattle.yak.specs.Texts.{replies_text, summary}
 
 -- what is written for words of no form that is answered
 abbrev pub usage_line : List ℕ
-usage_line = codes "usage: yak replay | threads | count [--workers n] [--task lines] [--pages p] | gen n | trace | check\n"
+usage_line = codes "usage: yak replay | threads | count [--workers n] [--task lines] [--pages p] [--feed] | gen n | trace | check\n"
 
 -- what a source tells before and after a run, and its counts of faults
 pub record Input : Type 0 where
@@ -176,45 +176,53 @@ gives_none LongWord input = ⊥
 gives_none BadTrace input = ⊥
 gives_none NotLawful input = ⊥
 
+-- what a status says of the input, the text that belongs to it, and what is kept
+abbrev pub Meaning : Type 1
+Meaning = Status → Input → List ℕ → Keeping → Type 0
+
 -- what a status says of the words and of the input, the text that belongs to it, and the heap that is kept
-abbrev pub belongs : Status → List (List ℕ) → Input → List ℕ → Keeping → Type 0
-belongs Done words input text kept =
+abbrev pub belongs : List (List ℕ) → Meaning
+belongs words Done input text kept =
     (IsReplay words × ((bytes : List ℕ) × IsInput input bytes × ((held : Held) × (kept ≡ alone held) × Replays bytes text held)))
     ⊎ ((rounds : ℕ) × IsGen words rounds × ((held : Held) × (kept ≡ alone held) × Generates rounds text held))
     ⊎ ((options : Options) × IsCount words options × ((bytes : List ℕ) × IsInput input bytes × ((held : Held) × (kept ≡ alone held) × Counts options bytes text held)))
-belongs Usage words input text kept = (IsAsked words → ⊥) × (text ≡ usage_line) × KeepsNothing kept
-belongs Refused words input text kept = IsReplay words × ((bytes : List ℕ) × IsInput input bytes × Refuses bytes text) × KeepsNothing kept
-belongs ReadFault words input text kept = IsReading words × Rose input.faults_before input.faults_after × (text ≡ []) × KeepsNothing kept
-belongs WriteFault words input text kept = ⊥
-belongs NoMemory words input text kept = (text ≡ []) × KeepsNothing kept
-belongs TooLarge words input text kept = IsReading words × IsTooLarge input × (text ≡ []) × KeepsNothing kept
-belongs OutOfHeap words input text kept =
+belongs words Usage input text kept = (IsAsked words → ⊥) × (text ≡ usage_line) × KeepsNothing kept
+belongs words Refused input text kept = IsReplay words × ((bytes : List ℕ) × IsInput input bytes × Refuses bytes text) × KeepsNothing kept
+belongs words ReadFault input text kept = IsReading words × Rose input.faults_before input.faults_after × (text ≡ []) × KeepsNothing kept
+belongs words WriteFault input text kept = ⊥
+belongs words NoMemory input text kept = (text ≡ []) × KeepsNothing kept
+belongs words TooLarge input text kept = IsReading words × IsTooLarge input × (text ≡ []) × KeepsNothing kept
+belongs words OutOfHeap input text kept =
     ((options : Options) × IsCount words options × ((bytes : List ℕ) × IsInput input bytes × RunsOut options bytes)) × (text ≡ []) × KeepsNothing kept
-belongs LongWord words input text kept =
+belongs words LongWord input text kept =
     ((options : Options) × IsCount words options × ((bytes : List ℕ) × IsInput input bytes × TellsLong bytes text)) × KeepsNothing kept
-belongs BadTrace words input text kept = ⊥
-belongs NotLawful words input text kept = ⊥
+belongs words BadTrace input text kept = ⊥
+belongs words NotLawful input text kept = ⊥
 
--- the text of a status was written
-pub record IsWritten (words : List (List ℕ)) (input : Input) (output : Output) (status : Status) (text : List ℕ) (kept : Keeping) : Type 0 where
-  pub meaning : belongs status words input text kept
+-- the text of a status was written, where the statuses mean this
+pub record IsWritten (means : Meaning) (input : Input) (output : Output) (status : Status) (text : List ℕ) (kept : Keeping) : Type 0 where
+  pub meaning : means status input text kept
   pub all : Appends output.before output.after text
 
 -- the writing failed within the text of another status
-pub record IsCut (words : List (List ℕ)) (input : Input) (output : Output) (instead : Status) (text : List ℕ) (unkept : Keeping) : Type 0 where
-  pub meaning : belongs instead words input text unkept
+pub record IsCut (means : Meaning) (input : Input) (output : Output) (instead : Status) (text : List ℕ) (unkept : Keeping) : Type 0 where
+  pub meaning : means instead input text unkept
   pub some : 0 < length text
   pub front : TookFront output.before output.after text
   pub rose : Rose output.faults_before output.faults_after
 
 -- the writing failed: a front was written of the text that belongs to another status
-abbrev pub EndsCut : List (List ℕ) → Input → Output → Type 0
-EndsCut words input output = (instead : Status) × (text : List ℕ) × (unkept : Keeping) × IsCut words input output instead text unkept
+abbrev pub CutBy : Meaning → Input → Output → Type 0
+CutBy means input output = (instead : Status) × (text : List ℕ) × (unkept : Keeping) × IsCut means input output instead text unkept
 
--- a run on these words, with this input and output, ends with a status
+-- a run with this input and output, whose statuses mean this, ends with a status
+abbrev pub ends_by : Meaning → Status → Input → Output → Keeping → Type 0
+ends_by means WriteFault input output kept = KeepsNothing kept × CutBy means input output
+ends_by means status input output kept = (text : List ℕ) × IsWritten means input output status text kept
+
+-- a run on one core, on these words, ends with a status
 abbrev pub ends : Status → List (List ℕ) → Input → Output → Keeping → Type 0
-ends WriteFault words input output kept = KeepsNothing kept × EndsCut words input output
-ends status words input output kept = (text : List ℕ) × IsWritten words input output status text kept
+ends status words input output kept = ends_by (belongs words) status input output kept
 
 -- the number that stands for a status
 abbrev pub number_of : Status → ℕ
@@ -230,9 +238,9 @@ number_of LongWord = 8
 number_of BadTrace = 9
 number_of NotLawful = 10
 
--- a number stands for a status with which a run ends
-abbrev pub EndsAs : ℕ → List (List ℕ) → Input → Output → Keeping → Type 0
-EndsAs number words input output kept = (status : Status) × (number ≡ number_of status) × ends status words input output kept
+-- a number stands for a status with which a run ends, where the statuses mean this
+abbrev pub EndsBy : Meaning → ℕ → Input → Output → Keeping → Type 0
+EndsBy means number input output kept = (status : Status) × (number ≡ number_of status) × ends_by means status input output kept
 
 -- the headline: the input is a script, the replies to its calls were written, and the heap is kept
 abbrev pub EndsReplayed : Input → Output → Keeping → Type 0

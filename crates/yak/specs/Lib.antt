@@ -7,3 +7,4 @@ pub mod Endings
 pub mod Answers
 pub mod Threaded
 pub mod Traced
+pub mod SharedCounts

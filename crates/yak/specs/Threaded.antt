@@ -2,7 +2,6 @@
 use Rattle.std.specs.Prelude.{◌≡◌, ◌≢◌, ◌<◌, ◌≤◌, ◌⊎◌, ℕ, List, [], length}
 use Rattle.std.specs.Io.KnownBytes.{Appends}
 use Rattle.yak_io.specs.Causes.{Rose}
-use Rattle.yak_io.specs.Transfers.{TookFront}
 use Rattle.object_layout.specs.declared.replies.Reply.{Reply}
 use Rattle.safepoint_gate.specs.declared.rule.View.{View}
 use Rattle.script_text.specs.declared.TheConstants.{INPUT_LIMIT}
@@ -13,7 +12,7 @@ use Rattle.script_runner.specs.Threaded.{IsThreaded}
 use Rattle.yak.specs.declared.endings.Status.{Status}
 use Rattle.yak.specs.declared.endings.Status.TheVariants.{Done, Usage, Refused, ReadFault, WriteFault, NoMemory, TooLarge, OutOfHeap, LongWord, BadTrace, NotLawful}
 use Rattle.yak.specs.Keeping.{Keeping, shared}
-use Rattle.yak.specs.Endings.{EndsRefused, Input, IsFaultless, IsInput, IsTooLarge, KeepsNothing, Output, Refuses, WritesNothing, number_of}
+use Rattle.yak.specs.Endings.{CutBy, EndsBy, EndsRefused, Input, IsFaultless, IsInput, IsTooLarge, KeepsNothing, Meaning, Output, Refuses, WritesNothing}
 use Rattle.yak.specs.Texts.{replies_text}
 
 -- the bytes are a script, whose threads ran and left words of this view, and the text tells the replies
@@ -39,7 +38,7 @@ runs_to NotLawful bytes text kept = ⊥
 runs_to TooLarge bytes text kept = ⊥
 
 -- what a status says of the input, the text that belongs to it, and the heap that is kept
-abbrev pub threads_mean : Status → Input → List ℕ → Keeping → Type 0
+abbrev pub threads_mean : Meaning
 threads_mean Done input text kept = (bytes : List ℕ) × IsInput input bytes × ((v : View) × (kept ≡ shared v) × RunsThreads bytes text v)
 threads_mean Refused input text kept = ((bytes : List ℕ) × IsInput input bytes × Refuses bytes text) × KeepsNothing kept
 threads_mean ReadFault input text kept = Rose input.faults_before input.faults_after × (text ≡ []) × KeepsNothing kept
@@ -52,31 +51,6 @@ threads_mean LongWord input text kept = ⊥
 threads_mean BadTrace input text kept = ⊥
 threads_mean NotLawful input text kept = ⊥
 
--- the text of a status was written
-pub record AreWritten (input : Input) (output : Output) (status : Status) (text : List ℕ) (kept : Keeping) : Type 0 where
-  pub meaning : threads_mean status input text kept
-  pub all : Appends output.before output.after text
-
--- the writing failed within the text of another status
-pub record AreCut (input : Input) (output : Output) (instead : Status) (text : List ℕ) (unkept : Keeping) : Type 0 where
-  pub meaning : threads_mean instead input text unkept
-  pub some : 0 < length text
-  pub front : TookFront output.before output.after text
-  pub rose : Rose output.faults_before output.faults_after
-
--- the writing failed: a front was written of the text that belongs to another status
-abbrev pub ThreadsCut : Input → Output → Type 0
-ThreadsCut input output = (instead : Status) × (text : List ℕ) × (unkept : Keeping) × AreCut input output instead text unkept
-
--- a run in threads with this input and output ends with a status
-abbrev pub threads_end : Status → Input → Output → Keeping → Type 0
-threads_end WriteFault input output kept = KeepsNothing kept × ThreadsCut input output
-threads_end status input output kept = (text : List ℕ) × AreWritten input output status text kept
-
--- a number stands for a status with which a run in threads ends
-abbrev pub ThreadsEndAs : ℕ → Input → Output → Keeping → Type 0
-ThreadsEndAs number input output kept = (status : Status) × (number ≡ number_of status) × threads_end status input output kept
-
 -- the headline: the input is a script, its threads ran, the replies to its calls were written, and the heap is kept
 abbrev pub EndsThreaded : Input → Output → Keeping → Type 0
 EndsThreaded input output kept =
@@ -84,12 +58,12 @@ EndsThreaded input output kept =
 
 -- A run in threads with this input and output answered the number and kept this.
 pub record AnswersThreads (number : ℕ) (input : Input) (output : Output) (keeping : Keeping) : Type 0 where
-  pub ending : ThreadsEndAs number input output keeping
+  pub ending : EndsBy threads_mean number input output keeping
   pub runs : number ≡ 0 → EndsThreaded input output keeping
   pub refused : number ≡ 2 → EndsRefused input output
   pub read_fault : number ≡ 3 → Rose input.faults_before input.faults_after × WritesNothing output
   pub write_fault : number ≡ 4 → Rose output.faults_before output.faults_after
-  pub cut : number ≡ 4 → ThreadsCut input output
+  pub cut : number ≡ 4 → CutBy threads_mean input output
   pub no_memory : number ≡ 5 → WritesNothing output
   pub too_large : number ≡ 6 → IsTooLarge input × WritesNothing output
   pub no_others : (number ≡ 1) ⊎ (number ≡ 7) ⊎ (number ≡ 8) ⊎ (number ≡ 9) ⊎ (number ≡ 10) → ⊥

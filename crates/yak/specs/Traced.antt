@@ -2,7 +2,6 @@
 use Rattle.std.specs.Prelude.{◌≡◌, ◌<◌, ◌≤◌, ◌⊎◌, ℕ, List, [], ◌++◌, codes, decimal, length}
 use Rattle.std.specs.Io.KnownBytes.{Appends}
 use Rattle.yak_io.specs.Causes.{Rose}
-use Rattle.yak_io.specs.Transfers.{TookFront}
 use Rattle.script_text.specs.declared.TheConstants.{INPUT_LIMIT}
 use Rattle.script_text.specs.declared.faults.Bad.{Bad}
 use Rattle.script_text.specs.Contents.{Contents}
@@ -18,7 +17,7 @@ use Rattle.yak.specs.declared.endings.Status.TheVariants.{Done, Usage, Refused, 
 use Rattle.yak.specs.declared.forms.Tracing.{Tracing}
 use Rattle.yak.specs.declared.forms.Tracing.TheVariants.{Make, Check}
 use Rattle.yak.specs.Keeping.{Keeping}
-use Rattle.yak.specs.Endings.{EndsRefused, Input, IsFaultless, IsInput, IsTooLarge, KeepsNothing, Output, Refuses, WritesNothing, number_of, refusal_line}
+use Rattle.yak.specs.Endings.{CutBy, EndsBy, EndsRefused, Input, IsFaultless, IsInput, IsTooLarge, KeepsNothing, Meaning, Output, Refuses, WritesNothing, refusal_line}
 
 -- ---- what is written
 
@@ -128,32 +127,11 @@ tracing_means tracing WriteFault input text = ⊥
 tracing_means tracing OutOfHeap input text = ⊥
 tracing_means tracing LongWord input text = ⊥
 
+-- the same, where no heap is kept
+abbrev pub traced_means : Tracing → Meaning
+traced_means tracing status input text kept = tracing_means tracing status input text × KeepsNothing kept
+
 -- ---- how it ends
-
--- the text of a status was written
-pub record TracingWritten (tracing : Tracing) (input : Input) (output : Output) (status : Status) (text : List ℕ) : Type 0 where
-  pub meaning : tracing_means tracing status input text
-  pub all : Appends output.before output.after text
-
--- the writing failed within the text of another status
-pub record TracingCutWithin (tracing : Tracing) (input : Input) (output : Output) (instead : Status) (text : List ℕ) : Type 0 where
-  pub meaning : tracing_means tracing instead input text
-  pub some : 0 < length text
-  pub front : TookFront output.before output.after text
-  pub rose : Rose output.faults_before output.faults_after
-
--- the writing failed: a front was written of the text that belongs to another status
-abbrev pub TracingCut : Tracing → Input → Output → Type 0
-TracingCut tracing input output = (instead : Status) × (text : List ℕ) × TracingCutWithin tracing input output instead text
-
--- a run with this input and output ends with a status
-abbrev pub tracing_ends : Tracing → Status → Input → Output → Type 0
-tracing_ends tracing WriteFault input output = TracingCut tracing input output
-tracing_ends tracing status input output = (text : List ℕ) × TracingWritten tracing input output status text
-
--- a number stands for a status with which a run ends
-abbrev pub TracingEndsAs : Tracing → ℕ → Input → Output → Type 0
-TracingEndsAs tracing number input output = (status : Status) × (number ≡ number_of status) × tracing_ends tracing status input output
 
 -- the bytes of the input are a script, and its trace was written
 abbrev pub EndsTraced : Input → Output → Type 0
@@ -177,10 +155,10 @@ EndsBadScript input output = (bytes : List ℕ) × IsInput input bytes × ((text
 
 -- What both have in common: a run with this input and output answered the number and kept this.
 pub record AnswersTracing (tracing : Tracing) (number : ℕ) (input : Input) (output : Output) (keeping : Keeping) : Type 0 where
-  pub ending : TracingEndsAs tracing number input output
+  pub ending : EndsBy (traced_means tracing) number input output keeping
   pub read_fault : number ≡ 3 → Rose input.faults_before input.faults_after × WritesNothing output
   pub write_fault : number ≡ 4 → Rose output.faults_before output.faults_after
-  pub cut : number ≡ 4 → TracingCut tracing input output
+  pub cut : number ≡ 4 → CutBy (traced_means tracing) input output
   pub no_memory : number ≡ 5 → WritesNothing output
   pub too_large : number ≡ 6 → IsTooLarge input × WritesNothing output
   pub no_others : (number ≡ 1) ⊎ (number ≡ 7) ⊎ (number ≡ 8) → ⊥

@@ -1,18 +1,11 @@
 //! Traces that are made and checked.
 
 use crate::plain::{Kept, plain};
+use crate::tests::words_of;
 use object_layout::{Call, Reply};
-use std::alloc::{AllocError, Global};
 use std::test::Fail;
 use yak_io::{MemorySink, SureSource};
 use yak_model::SpaceState;
-
-// One word alone.
-fn word_alone(alloc: Global, word: &str) -> Result<Vec<String>, AllocError> {
-    let mut words = Vec::new(alloc);
-    words.push(String::from_str(alloc, word)?)?;
-    Ok(words)
-}
 
 #[test]
 fn traces_are_made_and_checked(rt: HostRuntime) -> Result<(), Fail> {
@@ -100,7 +93,7 @@ fn traces_are_made_and_checked(rt: HostRuntime) -> Result<(), Fail> {
         ("trace", "heap 4 1\n1 nil\n", 2, "line 2: bad command\n"),
         ("trace", "heap 4 1", 0, "heap 4 1\n==\n"),
     ] {
-        let args = word_alone(alloc, word)?;
+        let args = words_of(alloc, word)?;
         let mut source = SureSource::new(Vec::from_slice(alloc, text.as_bytes())?);
         let mut sink = MemorySink::new(alloc, 1000, Vec::new(alloc))?;
         let mut kept = Kept::Nothing;

@@ -1,10 +1,11 @@
 //! The forms of words that are understood.
-ghost use Rattle.std.specs.Prelude.{◌≡◌, ◌≢◌, ◌≤◌, ◌<◌, ◌++◌, ◌∷◌, ℕ, List, [], None, Some, map, codes, decimal, length, MatchBool, MatchOption, IfSome, string_bytes};
+ghost use Rattle.std.specs.Prelude.{◌≡◌, ◌≢◌, ◌≤◌, ◌<◌, ◌++◌, ◌∷◌, ℕ, true, List, [], None, Some, map, codes, decimal, length, MatchBool, MatchOption, IfSome, string_bytes};
 ghost use Rattle.yak.specs.declared.forms.Form.{Form};
+ghost use Rattle.yak.specs.declared.forms.Options.{Options};
 ghost use Rattle.yak.specs.declared.forms.Tracing.{Tracing};
 ghost use Rattle.yak.specs.declared.forms.Setting.{Setting};
 ghost use Rattle.yak.specs.declared.forms.Settings.{Settings};
-ghost use Rattle.yak.specs.Forms.{IsAsked, IsBuiltForm, IsForm, IsJoined, IsSetting, Sets, chosen, most_of, setting_word, tell, told, unset};
+ghost use Rattle.yak.specs.Forms.{GoesShared, IsAsked, IsBuiltForm, IsForm, IsJoined, IsSetting, Sets, Tells, chosen, feed_word, most_of, setting_word, tell, told, unset};
 
 use object_layout::MAX_THREADS;
 use script_text::{INPUT_LIMIT, MAX_PAGES, number_of};
@@ -23,6 +24,8 @@ pub struct Options {
     pub task: u32,
     /// From 1 to `MAX_PAGES`.
     pub pages: u32,
+    /// Whether the workers take the tasks from a queue.
+    pub feed: bool,
 }
 
 /// What is done with traces.
@@ -49,7 +52,7 @@ pub enum Form {
     Traced(Tracing),
 }
 
-/// An option of `count`.
+/// An option of `count` that has a number.
 #[derive(Clone, Copy, Debug, PartialEq, Eq, Drop)]
 pub enum Setting {
     Workers,
@@ -57,12 +60,13 @@ pub enum Setting {
     Pages,
 }
 
-/// The numbers of the options that were read.
+/// The options that were read.
 #[derive(Clone, Copy, Debug, PartialEq, Eq, Drop)]
 pub struct Settings {
     pub workers: Option<u32>,
     pub task: Option<u32>,
     pub pages: Option<u32>,
+    pub feed: bool,
 }
 
 impl Form {
@@ -72,7 +76,7 @@ impl Form {
     {
         match self {
             Form::Replay | Form::Gen(_) | Form::Traced(_) => true,
-            Form::Count(options) => options.workers == 1,
+            Form::Count(options) => options.workers == 1 && !options.feed,
             Form::Threads => false,
         }
     }
@@ -84,6 +88,16 @@ impl Form {
         match self {
             Form::Threads => true,
             Form::Replay | Form::Count(_) | Form::Gen(_) | Form::Traced(_) => false,
+        }
+    }
+
+    /// What a count by workers with threads of their own is made with, where the form is one.
+    pub fn shared_count(self) -> Option<Options>
+        ensures { MatchOption result ((options : Options) → self ≡ Form.Count options → GoesShared options → ⊥) (λ options. (self ≡ Form.Count options) × GoesShared options) }
+    {
+        match self {
+            Form::Count(options) if options.workers >= 2 || options.feed => Some(options),
+            Form::Replay | Form::Threads | Form::Count(_) | Form::Gen(_) | Form::Traced(_) => None,
         }
     }
 
@@ -153,6 +167,7 @@ impl Settings {
             workers: self.workers.unwrap_or(1),
             task: self.task.unwrap_or(DEFAULT_TASK),
             pages: self.pages.unwrap_or(MAX_PAGES),
+            feed: self.feed,
         }
     }
 }
@@ -196,7 +211,7 @@ fn split(words: &[String], setting: Setting) -> Option<(u32, &[String])>
     Some((number as u32, after))
 }
 
-/// The option that the words begin with, its number, and the words behind it.
+/// The option with a number that the words begin with, its number, and the words behind it.
 fn next_setting(words: &[String]) -> Option<(Setting, u32, &[String])>
     ensures { MatchOption result
         ((setting : Setting) (number : ℕ) (rest : List (List ℕ)) → IsSetting (map string_bytes words.now) setting number rest → ⊥)
@@ -214,7 +229,42 @@ fn next_setting(words: &[String]) -> Option<(Setting, u32, &[String])>
     }
 }
 
-/// The numbers of the options of `count`.
+/// The words behind the option without a number, where they begin with it.
+fn behind_feed(words: &[String]) -> Option<&[String]>
+    ensures { MatchOption result
+        ((rest : List (List ℕ)) → map string_bytes words.now ≢ feed_word ∷ rest)
+        (λ rest. map string_bytes words.now ≡ feed_word ∷ map string_bytes rest.now) }
+{
+    let (word, rest) = words.split_first()?;
+    if word.as_str() == "--feed" {
+        Some(rest)
+    } else {
+        None
+    }
+}
+
+/// The settings with the option that the words begin with, unless they have it already, and the words behind it.
+fn read_option(words: &[String], before: Settings) -> Option<(Settings, &[String])>
+    ensures { MatchOption result
+        ((after : Settings) (rest : List (List ℕ)) → Tells (map string_bytes words.now) before after rest → ⊥)
+        (λ found. Tells (map string_bytes words.now) before found.0 (map string_bytes found.1.now)) }
+{
+    if let Some(rest) = behind_feed(words) {
+        if before.feed {
+            return None;
+        }
+        let after = Settings {
+            feed: true,
+            ..before
+        };
+        return Some((after, rest));
+    }
+    let (setting, number, rest) = next_setting(words)?;
+    let after = before.with(setting, number)?;
+    Some((after, rest))
+}
+
+/// The options of `count`.
 fn read_settings(words: &[String]) -> Option<Settings>
     ensures { MatchOption result
         ((settings : Settings) → Sets settings unset (map string_bytes words.now) → ⊥)
@@ -224,16 +274,12 @@ fn read_settings(words: &[String]) -> Option<Settings>
         workers: None,
         task: None,
         pages: None,
+        feed: false,
     };
     let mut left = words;
     'settings: while !left.is_empty() {
-        let Some((setting, number, rest)) = next_setting(left) else {
-            return None;
-        };
-        settings = match settings.with(setting, number) {
-            Some(settings) => settings,
-            None => return None,
-        };
+        let (after, rest) = read_option(left, settings)?;
+        settings = after;
         left = rest;
     }
     Some(settings)

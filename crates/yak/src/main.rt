@@ -6,7 +6,10 @@ mod checked;
 mod endings;
 mod forms;
 mod generator;
+#[cfg(test)]
+mod hostile;
 mod plain;
+mod shared;
 mod summaries;
 #[cfg(test)]
 mod tests;
@@ -16,6 +19,8 @@ mod traced;
 mod watched;
 #[cfg(test)]
 mod worked;
+#[cfg(test)]
+mod workers;
 
 use plain::Kept;
 use std::alloc::AllocError;

@@ -13,6 +13,7 @@ ghost use Rattle.script_runner.specs.Runs.{held_of};
 ghost use Rattle.yak.specs.Keeping.{alone, kept_by, nothing};
 ghost use Rattle.yak.specs.Answers.{Answers};
 ghost use Rattle.yak.specs.Endings.{usage_line, input_of, output_of, IsInput, refusal_line, KeepsNothing, comes_to, counts, generates, gives_none, belongs, ends, Input};
+ghost use Rattle.yak.specs.SharedCounts.{shares_to};
 ghost use Rattle.yak.specs.Threaded.{runs_to};
 ghost use Rattle.yak.specs.Traced.{AnswersCheck, AnswersTrace};
 
@@ -38,12 +39,12 @@ pub enum Kept {
     Nothing,
     /// The heap after the last call of a replay, or of a count by one worker.
     Alone(Core<Image>),
-    /// The heap after the last call of a run in threads.
+    /// The heap after the last call of a run in threads, or of a count by workers with threads of their own.
     Shared(Finished),
 }
 
 const USAGE: &[u8] =
-    b"usage: yak replay | threads | count [--workers n] [--task lines] [--pages p] | gen n | trace | check\n";
+    b"usage: yak replay | threads | count [--workers n] [--task lines] [--pages p] [--feed] | gen n | trace | check\n";
 
 /// The whole input, or why there is none.
 pub fn read_input<S: Source>(alloc: Global, source: &mut S) -> Result<Vec<u8>, Status>
@@ -148,8 +149,9 @@ fn long_line(alloc: Global, line: u32) -> Result<Vec<u8>, AllocError>
 }
 
 /// A run that is refused for a word that is too long.
-fn too_long(alloc: Global, line: u32) -> Prepared
-    ensures { (options : Options) (bytes : List ℕ) → long_word_line bytes ≡ Some line → has_long_word bytes ≡ true → counts result.status options bytes result.text.items (kept_by ⟦<Image as Words>⟧.words result.kept) }
+pub fn too_long(alloc: Global, line: u32) -> Prepared
+    ensures alone { (options : Options) (bytes : List ℕ) → long_word_line bytes ≡ Some line → has_long_word bytes ≡ true → counts result.status options bytes result.text.items (kept_by ⟦<Image as Words>⟧.words result.kept) }
+    ensures shared { (options : Options) (bytes : List ℕ) → long_word_line bytes ≡ Some line → has_long_word bytes ≡ true → shares_to options result.status bytes result.text.items (kept_by ⟦<Image as Words>⟧.words result.kept) }
 {
     match long_line(alloc, line) {
         Ok(text) => Prepared {
@@ -198,7 +200,7 @@ pub fn refused(alloc: Global, bad: Bad) -> Prepared
 
 /// A run whose words are of no form that is answered.
 fn usage(alloc: Global) -> Prepared
-    ensures { (words : List (List ℕ)) (input : Input) → (IsAsked words → ⊥) → belongs result.status words input result.text.items (kept_by ⟦<Image as Words>⟧.words result.kept) }
+    ensures { (words : List (List ℕ)) (input : Input) → (IsAsked words → ⊥) → belongs words result.status input result.text.items (kept_by ⟦<Image as Words>⟧.words result.kept) }
 {
     match Vec::from_slice(alloc, USAGE) {
         Ok(text) => Prepared {
@@ -215,7 +217,7 @@ fn prepare<S: Source>(alloc: Global, args: &[String], source: &mut S) -> Prepare
     requires { IsUntraced (map string_bytes args.now) }
     ensures later { S.faults source.old ≤ S.faults source.new }
     ensures unread { (IsReading (map string_bytes args.now) → ⊥) → source.new ≡ source.old }
-    ensures text { belongs result.status (map string_bytes args.now)
+    ensures text { belongs (map string_bytes args.now) result.status
         (input_of (S.left source.old) (S.left source.new) (S.faults source.old) (S.faults source.new)) result.text.items (kept_by ⟦<Image as Words>⟧.words result.kept) }
 {
     match asked_form(args) {
@@ -259,11 +261,11 @@ fn written<S: Source, K: Sink>(
 /// Does on one core what the words ask for, and gives the number of the status with which that ended.
 ///
 /// `replay` reads the source's bytes as a script and runs it, and writes a line for the reply to each command. `count` with one
-/// worker counts the words of the source's bytes in a heap, and writes a line for each word. `gen n` makes a script of n rounds
-/// as bytes, runs it as `replay` does, and writes a summary of the replies. `trace` reads a script and runs it as `replay` does, and
-/// writes its trace: the script, and each entry of the history. `check` reads a trace, and writes whether it is lawful, or the
-/// first entry that breaks it. Other words get the usage line. Nothing may be kept at the call; afterwards the heap is kept where
-/// the status is 0, but nothing after `trace` and `check`. All output is made in memory before the first byte is written.
+/// worker and without `--feed` counts the words of the source's bytes in a heap, and writes a line for each word. `gen n` makes a
+/// script of n rounds as bytes, runs it as `replay` does, and writes a summary of the replies. `trace` reads a script and runs it as
+/// `replay` does, and writes its trace: the script, and each entry of the history. `check` reads a trace, and writes whether it is
+/// lawful, or the first entry that breaks it. Other words get the usage line. Nothing may be kept at the call; afterwards the heap is
+/// kept where the status is 0, but nothing after `trace` and `check`. All output is made in memory before the first byte is written.
 /// `docs/FORMAT.md` has the forms and the statuses.
 pub fn plain<S: Source, K: Sink>(
     alloc: Global,

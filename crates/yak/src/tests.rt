@@ -12,13 +12,13 @@ use std::alloc::{AllocError, Global};
 use std::test::Fail;
 use yak_io::{Failed, MemorySink, MemorySource, NoBrake, ReadAllError, SureSource};
 
-const FIRST_PATH: &[u8] = b"heap 4 1\n1 int 7\n1 get 1\n";
+pub(crate) const FIRST_PATH: &[u8] = b"heap 4 1\n1 int 7\n1 get 1\n";
 
 const USAGE: &[u8] =
-    b"usage: yak replay | threads | count [--workers n] [--task lines] [--pages p] | gen n | trace | check\n";
+    b"usage: yak replay | threads | count [--workers n] [--task lines] [--pages p] [--feed] | gen n | trace | check\n";
 
 // The words of a line.
-fn words_of(alloc: Global, line: &str) -> Result<Vec<String>, AllocError> {
+pub(crate) fn words_of(alloc: Global, line: &str) -> Result<Vec<String>, AllocError> {
     let mut words = Vec::new(alloc);
     for word in line.split_whitespace() {
         words.push(String::from_str(alloc, word)?)?;
@@ -61,6 +61,10 @@ fn other_words_give_the_usage_line(rt: HostRuntime) -> Result<(), Fail> {
         ("count 1", 1),
         ("count --workers 2 --task=1", 1),
         ("count --workers 8", 1),
+        ("count --feed", 1),
+        ("count --feed --workers 1", 1),
+        ("count --feed --feed", 1),
+        ("--feed", 1),
     ] {
         let args = words_of(alloc, line)?;
         let mut source = SureSource::new(Vec::from_slice(alloc, FIRST_PATH)?);
@@ -78,11 +82,18 @@ fn other_words_give_the_usage_line(rt: HostRuntime) -> Result<(), Fail> {
 fn counts_have_a_form(rt: HostRuntime) -> Result<(), Fail> {
     let alloc = rt.alloc();
     for (line, told) in [
-        ("count", Some((1, 64, 4096))),
-        ("count --workers 2 --task=1", Some((2, 1, 4096))),
+        ("count", Some((1, 64, 4096, false))),
+        ("count --workers 2 --task=1", Some((2, 1, 4096, false))),
         (
             "count --pages=1 --task 16777216 --workers 8",
-            Some((8, 16777216, 1)),
+            Some((8, 16777216, 1, false)),
+        ),
+        ("count --feed", Some((1, 64, 4096, true))),
+        ("count --feed --task=3", Some((1, 3, 4096, true))),
+        ("count --workers 3 --feed", Some((3, 64, 4096, true))),
+        (
+            "count --pages 2 --feed --task 1 --workers=2",
+            Some((2, 1, 2, true)),
         ),
         ("count --workers 0", None),
         ("count --workers 9", None),
@@ -96,10 +107,23 @@ fn counts_have_a_form(rt: HostRuntime) -> Result<(), Fail> {
         ("count --work 1", None),
         ("count 1", None),
         ("count --workers 1 --", None),
+        ("count --feed --feed", None),
+        ("count --feed --task 1 --feed", None),
+        ("count --feed 1", None),
+        ("count --feed=1", None),
+        ("count --feed=", None),
+        ("count --feeds", None),
+        ("count -feed", None),
+        ("count --task --feed", None),
     ] {
         let args = words_of(alloc, line)?;
         let found = match read_form(&args) {
-            Some(Form::Count(options)) => Some((options.workers, options.task, options.pages)),
+            Some(Form::Count(options)) => Some((
+                options.workers,
+                options.task,
+                options.pages,
+                options.feed,
+            )),
             _ => None,
         };
         assert!(rt; found == told, "{line}");
@@ -390,33 +414,6 @@ fn scripts_are_replayed_or_refused(rt: HostRuntime) -> Result<(), Fail> {
         assert_eq!(rt; ended, status, "{script}");
         assert_eq!(rt; sink.written(), written.as_bytes(), "{script}");
     }
-    Ok(())
-}
-
-#[test]
-fn faults_and_limits_have_statuses(rt: HostRuntime) -> Result<(), Fail> {
-    let alloc = rt.alloc();
-    let args = words_of(alloc, "replay")?;
-    // The script comes in five pieces, and the sixth call tells its end.
-    for failing in 1..=7u32 {
-        let fails = Vec::from_slice(alloc, &[failing])?;
-        let mut source = MemorySource::new(Vec::from_slice(alloc, FIRST_PATH)?, 5, fails);
-        let mut sink = MemorySink::new(alloc, 100, Vec::new(alloc))?;
-        let mut kept = Kept::Nothing;
-        let ended = plain(alloc, &args, &mut source, &mut sink, &mut kept);
-        assert_eq!(rt; ended, if failing == 7 { 0 } else { 3 }, "call {failing}");
-        assert_eq!(rt; sink.written().is_empty(), failing != 7, "call {failing}");
-    }
-    let mut source = SureSource::new(Vec::from_slice(alloc, FIRST_PATH)?);
-    let mut sink = MemorySink::new(alloc, 4, Vec::new(alloc))?;
-    let mut kept = Kept::Nothing;
-    assert_eq!(rt; plain(alloc, &args, &mut source, &mut sink, &mut kept), 4);
-    assert_eq!(rt; sink.written(), b"2 ok".as_slice());
-    let mut source = SureSource::new(vec![in alloc; b'#'; 16_777_217]?);
-    let mut sink = MemorySink::new(alloc, 100, Vec::new(alloc))?;
-    let mut kept = Kept::Nothing;
-    assert_eq!(rt; plain(alloc, &args, &mut source, &mut sink, &mut kept), 6);
-    assert!(rt; sink.written().is_empty());
     Ok(())
 }
 

@@ -2,16 +2,19 @@
 ghost use Rattle.std.specs.Prelude.{◌≡◌, ◌≤◌, map, [], IfOk, MatchBool, OnErr, length, string_bytes};
 ghost use Rattle.script_text.specs.declared.TheConstants.{INPUT_LIMIT};
 ghost use Rattle.yak.specs.Answers.{Answers};
-ghost use Rattle.yak.specs.Endings.{input_of, output_of, KeepsNothing};
-ghost use Rattle.yak.specs.Forms.{IsReading, IsThreads, IsTraced, IsUntraced};
+ghost use Rattle.yak.specs.Endings.{input_of, output_of, ends_by, KeepsNothing};
+ghost use Rattle.yak.specs.Forms.{IsReading, IsShared, IsThreads, IsTraced, IsUnshared, IsUntraced};
+ghost use Rattle.yak.specs.declared.forms.Options.{Options};
 ghost use Rattle.yak.specs.declared.forms.Tracing.TheVariants.{Check, Make};
 ghost use Rattle.yak.specs.Keeping.{kept_by, nothing, shared};
-ghost use Rattle.yak.specs.Threaded.{AnswersThreads, runs_to, threads_end, threads_mean};
+ghost use Rattle.yak.specs.SharedCounts.{AnswersShared};
+ghost use Rattle.yak.specs.Threaded.{AnswersThreads, runs_to, threads_mean};
 ghost use Rattle.yak.specs.Traced.{AnswersCheck, AnswersTrace};
 
 use crate::endings::Status;
 use crate::forms::read_form;
 use crate::plain::{Kept, Prepared, plain, read_input, refused, stopped};
+use crate::shared::{asked_count, count_shared};
 use crate::summaries::reply_lines;
 use heap_words::{Image, Words};
 use object_layout::NoMemory;
@@ -24,7 +27,7 @@ use std::thread::Threads;
 use yak_io::{Brake, Sink, Source, write_all};
 
 /// A run that wrote a text and left a heap that threads shared.
-fn done(text: Result<Vec<u8>, NoMemory>, alloc: Global, finished: Finished) -> Prepared
+pub fn done(text: Result<Vec<u8>, NoMemory>, alloc: Global, finished: Finished) -> Prepared
     ensures done { IfOk text (λ bytes. (result.status ≡ Status.Done) × (result.text.items ≡ bytes.items) × (kept_by ⟦<Image as Words>⟧.words result.kept ≡ shared finished.seat.me.0)) }
     ensures none { OnErr text ((result.status ≡ Status.NoMemory) × (result.text.items ≡ []) × (kept_by ⟦<Image as Words>⟧.words result.kept ≡ nothing)) }
 {
@@ -89,7 +92,7 @@ fn written<R: Threads + Wait + Sync, S: Source, K: Sink, B: Brake + Sync>(
     kept: &mut Kept,
 ) -> Status
     requires { KeepsNothing (kept_by ⟦<Image as Words>⟧.words kept.old) }
-    ensures { threads_end result
+    ensures { ends_by threads_mean result
         (input_of (S.left source.old) (S.left source.new) (S.faults source.old) (S.faults source.new))
         (output_of (K.written sink.old) (K.written sink.new) (K.faults sink.old) (K.faults sink.new)) (kept_by ⟦<Image as Words>⟧.words kept.new) }
 {
@@ -133,8 +136,11 @@ pub(crate) fn asks_threads(args: &[String]) -> bool
 /// Does what the words ask for, and gives the number of the status with which that ended.
 ///
 /// `threads` reads the source's bytes as a script and runs it, each thread's commands in order by a worker in a thread of its own,
-/// and writes a line for the reply to each command, in the order of the script. Before each command the brake is asked. All other
-/// words are answered as `plain` does. Nothing may be kept at the call; afterwards the heap is kept where the status is 0.
+/// and writes a line for the reply to each command, in the order of the script. Before each command the brake is asked. `count` with
+/// two or more workers, or with `--feed`, counts the words of the source's bytes, each worker in a thread of its own, and writes a line
+/// for each word. The tasks are dealt out to the workers in turn, or with `--feed` each worker takes the next one from a queue. Before
+/// each task of a worker the brake is asked. All other words are answered as `plain` does. Nothing may be kept at the call; afterwards
+/// the heap is kept where the status is 0, and where such a count ran out of heap.
 pub fn run<R: Threads + Wait + Sync, S: Source, K: Sink, B: Brake + Sync>(
     rt: &R,
     alloc: Global,
@@ -148,7 +154,10 @@ pub fn run<R: Threads + Wait + Sync, S: Source, K: Sink, B: Brake + Sync>(
     ensures threads { IsThreads (map string_bytes args.now) → AnswersThreads result
         (input_of (S.left source.old) (S.left source.new) (S.faults source.old) (S.faults source.new))
         (output_of (K.written sink.old) (K.written sink.new) (K.faults sink.old) (K.faults sink.new)) (kept_by ⟦<Image as Words>⟧.words kept.new) }
-    ensures answers { (IsThreads (map string_bytes args.now) → ⊥) → IsUntraced (map string_bytes args.now) → Answers result (map string_bytes args.now)
+    ensures shared { (options : Options) → IsShared (map string_bytes args.now) options → AnswersShared options result
+        (input_of (S.left source.old) (S.left source.new) (S.faults source.old) (S.faults source.new))
+        (output_of (K.written sink.old) (K.written sink.new) (K.faults sink.old) (K.faults sink.new)) (kept_by ⟦<Image as Words>⟧.words kept.new) }
+    ensures answers { (IsThreads (map string_bytes args.now) → ⊥) → IsUnshared (map string_bytes args.now) → IsUntraced (map string_bytes args.now) → Answers result (map string_bytes args.now)
         (input_of (S.left source.old) (S.left source.new) (S.faults source.old) (S.faults source.new))
         (output_of (K.written sink.old) (K.written sink.new) (K.faults sink.old) (K.faults sink.new)) (kept_by ⟦<Image as Words>⟧.words kept.new) }
     ensures traces { IsTraced (map string_bytes args.now) Make → AnswersTrace result
@@ -157,10 +166,13 @@ pub fn run<R: Threads + Wait + Sync, S: Source, K: Sink, B: Brake + Sync>(
     ensures checks { IsTraced (map string_bytes args.now) Check → AnswersCheck result
         (input_of (S.left source.old) (S.left source.new) (S.faults source.old) (S.faults source.new))
         (output_of (K.written sink.old) (K.written sink.new) (K.faults sink.old) (K.faults sink.new)) (kept_by ⟦<Image as Words>⟧.words kept.new) }
-    ensures unread { (IsReading (map string_bytes args.now) → ⊥) → (IsThreads (map string_bytes args.now) → ⊥) → IsUntraced (map string_bytes args.now) → source.new ≡ source.old }
+    ensures unread { (IsReading (map string_bytes args.now) → ⊥) → (IsThreads (map string_bytes args.now) → ⊥) → IsUnshared (map string_bytes args.now) → IsUntraced (map string_bytes args.now) → source.new ≡ source.old }
 {
     if asks_threads(args) {
         return threads(rt, alloc, source, sink, brake, kept);
+    }
+    if let Some(options) = asked_count(args) {
+        return count_shared(rt, alloc, options, source, sink, brake, kept);
     }
     plain(alloc, args, source, sink, kept)
 }

@@ -6,10 +6,10 @@ ghost use Rattle.script_text.specs.Words.{lines};
 ghost use Rattle.trace_check.specs.Breaks.{IsLawfulTrace, TraceBreaksAt};
 ghost use Rattle.trace_check.specs.Reading.{IsBadScript, IsBadTrace, IsTraceOf};
 ghost use Rattle.trace_check.specs.Traces.{Trace as Contents};
-ghost use Rattle.yak.specs.Endings.{KeepsNothing, input_of, output_of};
+ghost use Rattle.yak.specs.Endings.{KeepsNothing, ends_by, input_of, output_of};
 ghost use Rattle.yak.specs.Forms.{IsTraced, IsUntraced};
 ghost use Rattle.yak.specs.Keeping.{Keeping};
-ghost use Rattle.yak.specs.Traced.{AnswersCheck, AnswersTrace, IsTraceText, checks_to, traces_to, tracing_ends, tracing_means, tracing_to};
+ghost use Rattle.yak.specs.Traced.{AnswersCheck, AnswersTrace, IsTraceText, checks_to, traced_means, traces_to, tracing_means, tracing_to};
 
 use crate::endings::Status;
 use crate::forms::{Tracing, read_form};
@@ -183,9 +183,9 @@ fn written<S: Source, K: Sink>(
     source: &mut S,
     sink: &mut K,
 ) -> Status
-    ensures { tracing_ends tracing result
+    ensures { (kept : Keeping) → KeepsNothing kept → ends_by (traced_means tracing) result
         (input_of (S.left source.old) (S.left source.new) (S.faults source.old) (S.faults source.new))
-        (output_of (K.written sink.old) (K.written sink.new) (K.faults sink.old) (K.faults sink.new)) }
+        (output_of (K.written sink.old) (K.written sink.new) (K.faults sink.old) (K.faults sink.new)) kept }
 {
     let told = prepare(alloc, tracing, source);
     if write_all(sink, &told.text).is_err() {

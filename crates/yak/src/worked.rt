@@ -1,17 +1,10 @@
 //! The worked scripts of `examples`, each by its name.
 
 use crate::plain::{Kept, plain};
+use crate::tests::words_of;
 use crate::threaded::run;
-use std::alloc::{AllocError, Global};
 use std::test::Fail;
 use yak_io::{MemorySink, NoBrake, SureSource};
-
-// The words that are one word alone.
-fn words_of(alloc: Global, word: &str) -> Result<Vec<String>, AllocError> {
-    let mut words = Vec::new(alloc);
-    words.push(String::from_str(alloc, word)?)?;
-    Ok(words)
-}
 
 #[test]
 fn worked_scripts_have_their_replies(rt: HostRuntime) -> Result<(), Fail> {

@@ -1,7 +1,9 @@
-use Rattle.yak.proofs.Statuses.{of_success, written_ends}
+use Rattle.yak.specs.Endings.{belongs}
+use Rattle.yak.proofs.Statuses.{of_success}
+use Rattle.yak.proofs.Writing.{written_by}
 use Rattle.yak.proofs.plain.written.Goals as goal
 
 pub returns-clause-ends : goal.returns-clause-ends
 returns-clause-ends g c =
-    written_ends c.prepare-prepared.result.status _ _ _ _ _ c.deref.result.now c.prepare-prepared.ensures.text c.deref.ensures.value
+    written_by (belongs _) (λ input text kept h. h) c.prepare-prepared.result.status _ _ _ _ c.deref.result.now c.prepare-prepared.ensures.text c.deref.ensures.value
     (of_success c.write_all.result c.is_err.result _ c.write_all.ensures.all c.is_err.ensures.value c.if-is_err.false)
