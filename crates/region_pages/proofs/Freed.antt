@@ -15,7 +15,7 @@ use Rattle.yak_model.specs.Stands.{claim_counter, pool_length, free_pages, PoolS
 use Rattle.region_pages.specs.Freeing.{free_below, pool_with, freed, freed_table}
 use Rattle.region_pages.proofs.Counting.{below_contains, below_once}
 
-is_false : (b : Bool) → (b ≡ true → ⊥) → b ≡ false
+pub is_false : (b : Bool) → (b ≡ true → ⊥) → b ≡ false
 is_false true h = absurd (h refl)
 is_false false h = refl
 

@@ -4,6 +4,7 @@ pub mod Claims
 pub mod Placing
 pub mod Counting
 pub mod Freed
+pub mod Ends
 pub mod Released
 pub mod Standing
 pub mod Dense

@@ -11,6 +11,7 @@ ghost use Rattle.yak_model.specs.Stands.{PoolStands, free_pages, pages_of};
 ghost use Rattle.yak_model.specs.Packed.{IsSpaceOf, PackedAs};
 ghost use Rattle.region_pages.specs.Pages.{TableFits};
 ghost use Rattle.region_pages.specs.Counts.{HalfUsed, free_in, regions_in, used_of};
+ghost use Rattle.region_pages.specs.Ends.{used_end};
 
 use crate::{CLAIM_COUNTER, POOL_LENGTH, SPACE_WORD, USED_MARK};
 use epoch_lattice::{Space, index_of};
@@ -100,6 +101,54 @@ pub fn free_count<W: Words>(words: &mut W, map: Areas) -> u32
     let claimed = get_head(words, map, CLAIM_COUNTER);
     let length = get_head(words, map, POOL_LENGTH);
     length.saturating_sub(claimed) as u32
+}
+
+/// The number of pages up to the last one that isn't free. The page table is read up to that page.
+pub fn pages_end<W: Words>(words: &mut W, map: Areas) -> u32
+    requires sound { Sound map (W.words words.old) }
+    requires pool { let c = contents map (W.words words.old) in PoolStands map c.heads c.pool c.table }
+    ensures end { result ≡ used_end (contents map (W.words words.old)).table map.pages }
+    ensures most { result ≤ map.pages }
+    ensures words { W.words words.new ≡ W.words words.old }
+    ensures reads { W.reads words.new ≤ W.reads words.old + (2 + result) }
+    ensures base { W.base words.new ≡ W.base words.old }
+{
+    let used = used_count(words, map);
+    end_of_used(words, map, used)
+}
+
+/// How many pages aren't free.
+pub(crate) fn used_count<W: Words>(words: &mut W, map: Areas) -> u32
+    requires sound { Sound map (W.words words.old) }
+    requires pool { let c = contents map (W.words words.old) in PoolStands map c.heads c.pool c.table }
+    ensures used { result + free_in (contents map (W.words words.old)).table ≡ map.pages }
+    ensures words { W.words words.new ≡ W.words words.old }
+    ensures reads { W.reads words.new ≤ W.reads words.old + 2 }
+    ensures base { W.base words.new ≡ W.base words.old }
+{
+    let free = free_count(words, map);
+    map.pages - free
+}
+
+/// The number of pages up to the last one that isn't free, where just so many aren't.
+fn end_of_used<W: Words>(words: &mut W, map: Areas, used: u32) -> u32
+    requires sound { Sound map (W.words words.old) }
+    requires used { used + free_in (contents map (W.words words.old)).table ≡ map.pages }
+    ensures end { result ≡ used_end (contents map (W.words words.old)).table map.pages }
+    ensures most { result ≤ map.pages }
+    ensures words { W.words words.new ≡ W.words words.old }
+    ensures reads { W.reads words.new ≤ W.reads words.old + result }
+    ensures base { W.base words.new ≡ W.base words.old }
+{
+    let mut left = used;
+    let mut page = 0;
+    while left > 0 {
+        if get_page(words, map, page, SPACE_WORD) != 0 {
+            left -= 1;
+        }
+        page += 1;
+    }
+    page
 }
 
 /// The words in use in the pages of a space.

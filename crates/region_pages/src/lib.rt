@@ -7,8 +7,8 @@ mod freeing;
 mod placement;
 
 pub use claim::claim_page;
-pub use counts::{census, free_count, packed, pages_of};
-pub use freeing::{rebuild_pool, release_space};
+pub use counts::{census, free_count, packed, pages_end, pages_of};
+pub use freeing::{rebuild_pool, release_pages, release_space};
 pub use placement::place;
 
 /// Where the claim counter stands in the heads.

@@ -1,5 +1,5 @@
 -- Chains without the slots that lie in pages.
-use Rattle.std.proofs.Common.{◌≡◌, ◌⊎◌, ℕ, ◌+◌, ◌-◌, ◌*◌, ◌/◌, ◌≤◌, ◌<◌, ◌&&◌, Bool, true, false, not, cond, eqb, ltb, List, [], ◌∷◌, refl, sym, ap, ◌∙◌, arith}
+use Rattle.std.proofs.Common.{◌≡◌, ℕ, ◌+◌, ◌*◌, ◌/◌, ◌≤◌, ◌<◌, ◌&&◌, Bool, true, false, not, cond, eqb, ltb, List, [], ◌∷◌, refl, sym, ap, ◌∙◌, arith}
 use Rattle.std.specs.List.{All, filter}
 use Rattle.std.proofs.Math.Logic.{⊎_elim}
 use Rattle.std.proofs.Math.Nat.{div-lt_iff_lt-mul}
@@ -72,3 +72,8 @@ past-more is w p a = past-cases (is a) (a / w) p
 
 pub past-all : (is : ℕ → Bool) (w p a : ℕ) → a / w < p → past is w p a ≡ not (is a)
 past-all is w p a lt = ap (λ b. not (b && is a)) (lt-ltb (a / w) p lt)
+
+pub past-known : (is : ℕ → Bool) (w p a : ℕ) → (p ≤ a / w → is a ≡ false) → past is w p a ≡ not (is a)
+past-known is w p a none = ⊎_elim (λ (lt : a / w < p). past-all is w p a lt)
+    (λ (le : p ≤ a / w). ap not (and_right (ltb (a / w) p) (is a) (none le)) ∙ sym (ap not (none le)))
+    (cases_lt (a / w) p)

@@ -1,5 +1,5 @@
 -- The chains of recorded slots, the store buffers and the readers of regions.
-use Rattle.std.specs.Prelude.{◌≡◌, ℕ, ◌+◌, ◌-◌, ◌*◌, ◌/◌, ◌%◌, ◌≤◌, ◌<◌, ◌==◌, ◌&&◌, Bool, not, nat_lt, cond, List, [], ◌∷◌, map, replicate, slice_index}
+use Rattle.std.specs.Prelude.{◌≡◌, ◌≢◌, ℕ, ◌+◌, ◌-◌, ◌*◌, ◌/◌, ◌%◌, ◌≤◌, ◌<◌, ◌==◌, ◌&&◌, Bool, not, nat_lt, cond, List, [], ◌∷◌, map, replicate, slice_index}
 use Rattle.std.specs.List.{All, Contains, filter, flat_map}
 use Rattle.heap_words.specs.declared.map.Areas.{Areas}
 use Rattle.heap_words.specs.Map.{page_words, max_depth, heap_length}
@@ -76,6 +76,10 @@ logged c = flat_map (λ (es : List ℕ). es) c.buffers
 -- The contents with empty store buffers.
 abbrev pub with_no_logs : Areas → Contents → Contents
 with_no_logs m c = record c { buffers = replicate m.threads [] }
+
+-- No page from one on has this word of the space.
+abbrev pub NoneFrom : Areas → List (List ℕ) → ℕ → ℕ → Type 0
+NoneFrom m table word end = (p : ℕ) → end ≤ p → p < m.pages → space_word table p ≢ word
 
 -- The slots outside the pages of a space.
 abbrev pub outside : Areas → Contents → Space → List ℕ → List ℕ

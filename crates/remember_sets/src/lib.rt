@@ -9,7 +9,7 @@ mod logging;
 mod reading;
 
 pub use chains::{drop_slot, first_slot, is_filed, move_slot, next_slot};
-pub use dropping::drop_slots_in;
+pub use dropping::{drop_slots_below, drop_slots_in};
 pub use filing::add_slot;
 pub use logging::{file_logs, log};
 pub use reading::{clear_readers, readers, set_reader};

@@ -1,11 +1,10 @@
-use Rattle.std.proofs.Common.{◌≡◌, ℕ, ◌+◌, ◌/◌, ◌<◌, ◌&&◌, Bool, true, false, not, cond, eqb, List, [], count_by, take, length, get_or, arith, ap, sym, refl, ◌∙◌}
+use Rattle.std.proofs.Common.{◌≡◌, ◌≢◌, ℕ, ◌+◌, ◌*◌, ◌/◌, ◌≤◌, ◌<◌, ◌&&◌, Bool, true, false, not, cond, eqb, List, [], count_by, take, length, get_or, arith, ap, sym, refl, subst, ◌∙◌}
 use Rattle.std.specs.List.{filter}
 use Rattle.std.proofs.Math.Logic.{⊎_elim}
-use Rattle.std.proofs.lemmas.Bool.{cases_Bool, cond-false, cond-true}
-use Rattle.std.proofs.lemmas.List.{take_all}
+use Rattle.std.proofs.lemmas.Bool.{cases_Bool, cond-false, cond-true, ne_eqb}
 use Rattle.std.proofs.lemmas.List.Elements.{filter_agree}
-use Rattle.std.proofs.lemmas.List.Sums.{count_by_more_no, count_by_more_yes}
-use Rattle.std.proofs.Math.Nat.{div-lt_iff_lt-mul}
+use Rattle.std.proofs.lemmas.List.Sums.{count_by_more_no, count_by_more_yes, sum_by-take-le}
+use Rattle.std.proofs.Math.Nat.{div-lt_iff_lt-mul, mul-le-mul_left}
 use Rattle.heap_words.specs.declared.map.Areas.{Areas}
 use Rattle.heap_words.specs.Map.{IsAreas, heap_length, page_words}
 use Rattle.heap_words.specs.Contents.{Contents, contents}
@@ -14,8 +13,8 @@ use Rattle.epoch_lattice.specs.Lattice.{space_index}
 use Rattle.yak_model.specs.Placed.{space_word}
 use Rattle.remember_sets.specs.Filed.{chain, page_word}
 use Rattle.remember_sets.proofs.Folded.{with_sets-step}
-use Rattle.remember_sets.proofs.Outside.{filter-all, filter-alike, filter-filter, past, past-all, past-more, past-none}
-use Rattle.remember_sets.proofs.dropping.drop_slots_in.Goals as goal
+use Rattle.remember_sets.proofs.Outside.{filter-all, filter-alike, filter-filter, past, past-known, past-more, past-none}
+use Rattle.remember_sets.proofs.dropping.drop_slots_below.Goals as goal
 
 pub loop-page-init : goal.loop-page-init
 loop-page-init g c =
@@ -73,21 +72,25 @@ returns-clause-dropped g c x q =
     let m : Areas = c.args.map in
     let was : Contents = contents m (g.W.Words.words c.args.words.now) in
     let w : ℕ = page_words m in
+    let end : ℕ = c.args.end in
     let word : ℕ = c.from-word.result + 1 in
     let is : ℕ → Bool = λ a. eqb (page_word m was a) word in
     let l : List ℕ = chain m was x in
     let areas : IsAreas m = c.requires.sound.areas in
-    let all : c.loop-page.page ≡ m.pages = omega arith in
+    let all : c.loop-page.page ≡ end = omega arith in
     let index : c.from-word.result ≡ space_index c.args.space = c.from-word.ensures ∙ c.index_of.ensures.index in
-    c.loop-page.invariant.dropped x q ∙ ap (λ n. filter (past is w n) l) all ∙ filter-alike (past is w m.pages) (λ a. not (is a)) (λ a. a < heap_length m) (λ a lt. past-all is w m.pages a ((div-lt_iff_lt-mul (omega arith)).1 (omega (arith, lt)))) l (c.requires.sets.within x q) ∙ ap (λ n. filter (λ a. not (eqb (page_word m was a) (n + 1))) l) index
+    let none : (p : ℕ) → end ≤ p → p < m.pages → space_word was.table p ≢ word = λ p from lt. subst (λ n. space_word was.table p ≢ n + 1) (sym index) (c.requires.none_from p from lt) in
+    c.loop-page.invariant.dropped x q ∙ ap (λ n. filter (past is w n) l) all ∙ filter-alike (past is w end) (λ a. not (is a)) (λ a. a < heap_length m) (λ a lt. past-known is w end a (λ from. ne_eqb (page_word m was a) word (none (a / w) from ((div-lt_iff_lt-mul (omega arith)).1 (omega (arith, lt)))))) l (c.requires.sets.within x q) ∙ ap (λ n. filter (λ a. not (eqb (page_word m was a) (n + 1))) l) index
 
 pub returns-clause-reads : goal.returns-clause-reads
 returns-clause-reads g c =
     let m : Areas = c.args.map in
     let ws : List ℕ = g.W.Words.words c.args.words.now in
     let was : Contents = contents m ws in
-    let all : c.loop-page.page ≡ m.pages = omega arith in
+    let all : c.loop-page.page ≡ c.args.end = omega arith in
     let index : c.from-word.result ≡ space_index c.args.space = c.from-word.ensures ∙ c.index_of.ensures.index in
-    let whole = ap (λ (t : List (List ℕ)). count_by (λ (r : List ℕ). eqb (get_or r 0 0) (c.from-word.result + 1)) t) (take_all c.loop-page.page was.table (omega (arith, length-table m ws, all))) in
+    let is : List ℕ → Bool = λ (r : List ℕ). eqb (get_or r 0 0) (c.from-word.result + 1) in
+    let few = sum_by-take-le (λ (r : List ℕ). cond {A = ℕ} (is r) 1 0) was.table c.loop-page.page in
     let named = ap (λ n. count_by (λ (r : List ℕ). eqb (get_or r 0 0) (n + 1)) was.table) index in
-    omega (arith, c.loop-page.invariant.reads, all, whole, named)
+    let some : page_words m * count_by is (take c.loop-page.page was.table) ≤ page_words m * count_by is was.table = mul-le-mul_left (page_words m) few in
+    omega (arith, c.loop-page.invariant.reads, all, some, named)

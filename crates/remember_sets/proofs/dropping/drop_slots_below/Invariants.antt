@@ -4,7 +4,7 @@ use Rattle.heap_words.specs.Map.{page_words}
 use Rattle.heap_words.specs.Contents.{contents, Sound}
 use Rattle.remember_sets.specs.Filed.{ChainsBecome, SetsHold, page_word, with_sets}
 use Rattle.remember_sets.proofs.Outside.{past}
-use Rattle.remember_sets.proofs.dropping.drop_slots_in.Given as goal
+use Rattle.remember_sets.proofs.dropping.drop_slots_below.Given as goal
 
 abbrev pub invariant-loop-page : goal.invariant-loop-page
 invariant-loop-page g l =

@@ -10,7 +10,7 @@ use Rattle.yak_model.specs.Chains.{IsRegionOf}
 use Rattle.region_pages.specs.Freeing.{freed_table, with_pool_rebuilt, with_released}
 use Rattle.region_pages.proofs.Shapes.{Shape, shape}
 use Rattle.region_pages.proofs.Released.{freed_free, table-freed, currents-freed, released_at, released_stands}
-use Rattle.region_pages.proofs.freeing.release_space.Goals as goal
+use Rattle.region_pages.proofs.freeing.release_used.Goals as goal
 
 pub returns-clause-released : goal.returns-clause-released
 returns-clause-released g c =
