@@ -70,6 +70,7 @@ dense_at m c s st (Region u d) own some = let dense = (st.stands.dense u d own.0
 pub record RegionCosts (m : Areas) (c mid planned : Contents) (s : SpaceState) (l l' : Places) (t count : ℕ) : Type 0 where
   pub used : used_of mid.table (innermost s.graph t) ≡ words_of l.pages (object_of s) (innermost s.graph t)
   pub moved : 3 * count ≤ words_of l.pages (object_of s) (innermost s.graph t)
+  pub few : pages_of mid.table (innermost s.graph t) ≤ 2 * words_of l.pages (object_of s) (innermost s.graph t) + 1
   pub later : words_of l'.pages (object_of s) (innermost s.graph t) ≡ words_of l.pages (object_of s) (innermost s.graph t)
   pub slots : length (chain m planned (innermost s.graph t)) ≤ records_of m c (innermost s.graph t)
   pub pages : page_words m * pages_of planned.table (innermost s.graph t) ≤ 2 * words_of l.pages (object_of s) (innermost s.graph t) + page_words m
@@ -233,9 +234,12 @@ module _ (m : Areas) (c : Contents) (s : SpaceState) (st : Stands m c s) (t esca
       let slots = ap (λ (x : Contents). length (chain m x region)) frame in
       let fewer = b.few in
       let was : pages_of mid.table region ≡ pages_of c.table region = ap (λ (x : Contents). pages_of x.table region) b.written.frame ∙ ap (λ (x : Contents). pages_of x.table region) b.frame in
+      let half = pages_few (innermost_region m c s st t has low) mid.table was in
+      let fewest : pages_of mid.table region ≤ 2 * words_of st.places.pages (object_of s) region + 1 = omega (arith, half) in
       record {
         used = used_is m mid.table mid.heap (object_of s) b.later.places (λ n. get_or mid.heap (b.later.places.at n + 2) 0) region long b.written.heap ∙ words;
         moved = omega (arith, few, words);
+        few = fewest;
         later = words;
         slots = omega (arith, slots, fewer);
         pages = pages_few (innermost_region m c s st t has low) planned.table (own_pages m b.filing mid planned s b.later t count areas has deep r planned_long long ∙ was);

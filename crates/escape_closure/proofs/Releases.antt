@@ -1,5 +1,6 @@
 -- The page table after the end of a region, whose pages are given back.
 use Rattle.std.proofs.Common.{◌≡◌, ◌≢◌, ◌⊎◌, ℕ, zero, suc, cond, ◌+◌, ◌-◌, ◌/◌, ◌≤◌, ◌<◌, ◌==◌, false, Option, Some, List, [], ◌∷◌, length, get_or, refl, sym, ap, subst, ◌∙◌, arith, inl, inr}
+use Rattle.std.specs.Prelude.{max}
 use Rattle.std.proofs.lemmas.Bool.{cases_eq, ne_eqb}
 use Rattle.std.proofs.lemmas.List.{get_or-map, length-map}
 use Rattle.std.proofs.lemmas.List.Sums.{sum_by-cons}
@@ -21,7 +22,9 @@ use Rattle.yak_model.specs.Plans.{Move, cleared, forwarded}
 use Rattle.yak_model.specs.Stands.{RegionsDense, Stands, current, pages_of}
 use Rattle.yak_model.specs.Packed.{IsSpaceOf}
 use Rattle.heap_walks.proofs.Seen.{present_of}
+use Rattle.region_pages.specs.Ends.{used_end}
 use Rattle.region_pages.specs.Freeing.{freed, freed_table}
+use Rattle.region_pages.proofs.Ends.{end_least, end_within}
 use Rattle.region_pages.proofs.Entries.{current-cases}
 use Rattle.region_pages.proofs.Freed.{freed_same, freed_zero}
 use Rattle.region_pages.proofs.Released.{table-freed}
@@ -128,6 +131,18 @@ module _ (m : Areas) (before mid c : Contents) (s : SpaceState) (st : Stands m b
 
   kept_row : (p : ℕ) → p < m.pages → (IsPageOf slid mid.table p → ⊥) → row now p ≡ row c.table p
   kept_row p lt other = freed_kept slid c.table p (in_table p lt) (other_word p lt other)
+
+  -- the pages in use after the plan are so before it or after the end
+  pub end_after : (left : List (List ℕ)) → left ≡ freed_table slid c.table → used_end c.table m.pages ≤ max (used_end mid.table m.pages) (used_end left m.pages)
+  end_after left is = end_least c.table m.pages (max (used_end mid.table m.pages) (used_end left m.pages)) (λ p from lt. ⊎_elim
+      (λ (z : space_word c.table p ≡ 0). z)
+      (λ (nz : space_word c.table p ≢ 0). ⊎_elim
+      (λ (own : space_word mid.table p ≡ slid). absurd (let some : p < used_end mid.table m.pages = end_within mid.table m.pages p lt (λ z. omega (arith, z, own)) in omega (arith, some, from)))
+      (λ (other : space_word mid.table p ≢ slid).
+      let same : space_word left p ≡ space_word c.table p = ap (λ (ts : List (List ℕ)). space_word ts p) is ∙ ap (λ (x : List ℕ). get_or x 0 0) (kept_row p lt other) in
+      absurd (let some : p < used_end left m.pages = end_within left m.pages p lt (λ z. nz (sym same ∙ z)) in omega (arith, some, from)))
+      (cases_eq (space_word mid.table p) slid))
+      (cases_eq (space_word c.table p) 0))
 
   placed_in : (k : ℕ) → k < count → PlacedIn m slid mid.table mid.heap now moves k
   placed_in k lt =

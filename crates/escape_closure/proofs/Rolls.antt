@@ -15,6 +15,7 @@ use Rattle.heap_words.specs.Contents.{Contents, with_scratch}
 use Rattle.yak_model.specs.Names.{root_name}
 use Rattle.yak_model.specs.State.{Thing}
 use Rattle.yak_model.specs.Placed.{space_word}
+use Rattle.yak_model.specs.Stands.{pages_of}
 use Rattle.heap_walks.specs.Laid.{IsAmong, IsThing, work_of}
 use Rattle.heap_walks.specs.Walked.{IsPagePassed}
 use Rattle.heap_walks.proofs.Objects.{in_heap}
@@ -178,6 +179,23 @@ flat false k = refl
 
 used_none : (x : Space) → used_by x [] ≡ 0
 used_none x = flat (0 == space_index x + 1) 0
+
+no_page : (k : ℕ) → cond {A = ℕ} (0 == k + 1) 1 0 ≡ 0
+no_page k = grind (arith, nat_tests)
+
+-- the pages of a region among the first pages, and among one page more
+pub pages_next : (table : List (List ℕ)) (x : Space) (page : ℕ) → pages_of (take page table) x + cond (space_word table page == space_index x + 1) 1 0 ≤ pages_of (take (page + 1) table) x
+pages_next table x page = elim (cases_lt page (length table)) [
+  | inl lt ↦ let more = sum_by_more (λ (r : List ℕ). cond {A = ℕ} (get_or r 0 0 == space_index x + 1) 1 0) table page [] lt in omega (arith, more)
+  | inr le ↦
+      let none : row table page ≡ [] = get_or_past table page [] le in
+      let zero : cond {A = ℕ} (space_word table page == space_index x + 1) 1 0 ≡ 0 = ap (λ (r : List ℕ). cond {A = ℕ} (get_or r 0 0 == space_index x + 1) 1 0) none ∙ no_page (space_index x) in
+      let all : take page table ≡ table = take_all page table le in
+      let whole : take (page + 1) table ≡ table = take_all (page + 1) table (omega (arith, le)) in
+      let a : pages_of (take page table) x ≡ pages_of table x = ap (λ (t : List (List ℕ)). pages_of t x) all in
+      let b : pages_of (take (page + 1) table) x ≡ pages_of table x = ap (λ (t : List (List ℕ)). pages_of t x) whole in
+      omega (arith, zero, a, b)
+]
 
 -- the words in use in the first pages of a region, and in one page more
 pub used_next : (table : List (List ℕ)) (x : Space) (page : ℕ) → used_of (take page table) x + used_by x (row table page) ≤ used_of (take (page + 1) table) x

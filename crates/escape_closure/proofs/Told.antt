@@ -3,7 +3,7 @@ use Rattle.std.proofs.Common.{◌≡◌, ◌≢◌, ◌⊎◌, ℕ, ◌+◌, ◌
 use Rattle.std.specs.List.{All, Contains}
 use Rattle.std.proofs.Props.{props}
 use Rattle.std.proofs.lemmas.Bool.{cases_eq}
-use Rattle.std.proofs.Math.Logic.{⊎_elim, ∥∥₁_elim}
+use Rattle.std.proofs.Math.Logic.{⊎_elim, ∥∥₁_elim, ∥∥₁_map}
 use Rattle.heap_words.specs.declared.map.Areas.{Areas}
 use Rattle.heap_words.specs.Map.{IsAreas, max_depth, page_words}
 use Rattle.heap_words.specs.Contents.{Contents}
@@ -39,19 +39,23 @@ find_in (x ∷ xs) p = ⊎_elim
 pool_at : (m : Areas) (c b : Contents) (s : SpaceState) → Stands m b s → c ≡ record b { scratch = c.scratch; heap = c.heap } → PoolStands m c.heads c.pool c.table
 pool_at m c b s st frame = subst (λ (x : Contents). PoolStands m x.heads x.pool x.table) (sym frame) st.stands.pool
 
-pub pool_told : (m : Areas) (c : Contents) → SomeAimed m c → PoolStands m c.heads c.pool c.table
-pool_told m c some = record {
-  within = ∥∥₁_elim some (hlevel props) (λ q. (pool_at m c q.1 q.0 q.2 q.3).within);
-  passed = ∥∥₁_elim some (hlevel props) (λ q. (pool_at m c q.1 q.0 q.2 q.3).passed);
+-- a pool of which it is only told that it stands
+pub pool_stands : (m : Areas) (heads pool : List ℕ) (table : List (List ℕ)) → ∥ PoolStands m heads pool table ∥₁ → PoolStands m heads pool table
+pool_stands m heads pool table some = record {
+  within = ∥∥₁_elim some (hlevel props) (λ h. h.within);
+  passed = ∥∥₁_elim some (hlevel props) (λ h. h.passed);
   free = λ p. (
-    λ h. ∥∥₁_elim some (hlevel props) (λ q. ((pool_at m c q.1 q.0 q.2 q.3).free p).0 h),
-    λ h. ⊎_elim
-        (λ (i : Contains (free_pages c.heads c.pool) p). i)
-        (λ (none : Contains (free_pages c.heads c.pool) p → ⊥). absurd (∥∥₁_elim some (hlevel props) (λ q. none (((pool_at m c q.1 q.0 q.2 q.3).free p).1 h))))
-        (find_in (free_pages c.heads c.pool) p),
+    λ i. ∥∥₁_elim some (hlevel props) (λ h. (h.free p).0 i),
+    λ i. ⊎_elim
+        (λ (found : Contains (free_pages heads pool) p). found)
+        (λ (none : Contains (free_pages heads pool) p → ⊥). absurd (∥∥₁_elim some (hlevel props) (λ h. none ((h.free p).1 i))))
+        (find_in (free_pages heads pool) p),
   );
-  once = λ i j d lt within e. ∥∥₁_elim some (hlevel props) (λ q. (pool_at m c q.1 q.0 q.2 q.3).once i j d lt within e);
+  once = λ i j d lt within e. ∥∥₁_elim some (hlevel props) (λ h. h.once i j d lt within e);
 }
+
+pub pool_told : (m : Areas) (c : Contents) → SomeAimed m c → PoolStands m c.heads c.pool c.table
+pool_told m c some = pool_stands m c.heads c.pool c.table (∥∥₁_map some (λ q. pool_at m c q.1 q.0 q.2 q.3))
 
 currents_at : (m : Areas) (c b : Contents) (s : SpaceState) → Stands m b s → c ≡ record b { scratch = c.scratch; heap = c.heap } → CurrentsStand m c.currents c.table
 currents_at m c b s st frame = subst (λ (x : Contents). CurrentsStand m x.currents x.table) (sym frame) st.stands.currents

@@ -38,10 +38,10 @@ pages_needed m c s l t count o = (filling m (rooms_at m c t) (λ k. space_index 
 abbrev pub IsWeighed : ℕ → ℕ → ℕ → Result ℕ Shortage → Type 0
 IsWeighed count needed free result = MatchResult result (λ n. (n ≡ count) × (needed ≤ free)) (λ shortage. (shortage.needed ≡ needed) × (shortage.free ≡ free) × (free < needed))
 
--- A roll of all objects that have a target, and the pages that they need.
+-- A roll of all objects that have a target, and the pages that they need. The reads before count those of the space words.
 pub record RollWeighed (m : Areas) (q : Aimed) (t before : ℕ) (now : Contents) (after : ℕ) (result : Result ℕ Shortage) : Type 0 where
   pub count : ℕ
   pub roll : Rolled q now (heap_length m) count
   pub all : (n : Name) (o : Thing) → IsThing q.laid n o → IsOnRoll q roll.name count n
   pub weighed : IsWeighed count (filling m (rooms_at m q.words t) (index_on q now (heap_length m) count roll) (size_on q now (heap_length m) count roll) count).claimed (length (free_pages q.words.heads q.words.pool)) result
-  pub reads : after ≤ before + (2 * m.pages + used_of q.words.table q.region + 4 * count + 2 * (MAX_SPACE + 2))
+  pub reads : after ≤ before + (used_of q.words.table q.region + 4 * count + 2 * (MAX_SPACE + 2))

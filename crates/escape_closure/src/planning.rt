@@ -3,15 +3,17 @@
 ghost use Rattle.std.specs.Prelude.{◌≡◌, ◌≤◌, ◌<◌, ◌+◌, ◌*◌, ℕ, MatchOption, MatchResult, Option, Some, None, Err, IfErr, IfOk, IfSome, ◌⊎◌, length};
 ghost use Rattle.object_layout.specs.declared.TheConstants.{MAX_SPACE, OBJECT_WORDS};
 ghost use Rattle.epoch_lattice.specs.declared.TheConstants.{MAX_DEPTH};
+ghost use Rattle.epoch_lattice.specs.declared.Space.TheVariants.{Region};
 ghost use Rattle.epoch_lattice.specs.Lattice.{IsValid, space_index};
 ghost use Rattle.heap_words.specs.Map.{HasThread, heap_length, page_words};
 ghost use Rattle.heap_words.specs.Contents.{Contents, contents, depth_of, Sound};
 ghost use Rattle.yak_model.specs.Spaces.{Counts, SpaceState, innermost};
-ghost use Rattle.yak_model.specs.Stands.{CurrentsStand, PoolStands, Stands, free_pages};
+ghost use Rattle.yak_model.specs.Stands.{CurrentsStand, PoolStands, Stands, free_pages, pages_of};
 ghost use Rattle.yak_model.specs.Packed.{IsSpaceOf};
 ghost use Rattle.region_pages.specs.Counts.{used_of};
 ghost use Rattle.region_pages.specs.Pages.{TableFits};
 ghost use Rattle.region_pages.specs.Placement.{IsOwn};
+ghost use Rattle.remember_sets.specs.Filed.{NoneFrom};
 ghost use Rattle.relocation.specs.declared.plans.TheConstants.{MOVE_WORDS};
 ghost use Rattle.relocation.specs.Moves.{heap_of, move_at, scratch_of, Numbered};
 ghost use Rattle.escape_closure.specs.Placing.{owner};
@@ -114,7 +116,7 @@ fn place_all<W: Words>(words: &mut W, map: Areas, thread: u8, count: usize) -> P
 }
 
 /// Puts the objects of a region that have a target on the roll, by ascending address, and plans their moves in this order
-/// where the free pages are enough.
+/// where the free pages are enough. All pages of the region are among the first `end` pages.
 ///
 /// # Errors
 ///
@@ -125,14 +127,17 @@ fn plan_region<W: Words>(
     map: Areas,
     thread: u8,
     region: u8,
+    end: u32,
 ) -> Result<Plan, Shortage>
     requires sound { Sound map (W.words words.old) }
     requires thread { HasThread map thread }
+    requires within { end ≤ map.pages }
+    requires none_from { NoneFrom map (contents map (W.words words.old)).table (region + 1) end }
     requires table { TableFits map (contents map (W.words words.old)).table }
     requires pool { let c = contents map (W.words words.old) in PoolStands map c.heads c.pool c.table }
     requires currents { let c = contents map (W.words words.old) in CurrentsStand map c.currents c.table }
     requires some { ∥ ((q : Aimed) × (space_index q.region ≡ region) × AimsInside map q × TargetsExist map q × (q.words ≡ contents map (W.words words.old))) ∥₁ }
-    ensures planned { (q : Aimed) → space_index q.region ≡ region → AimsInside map q → TargetsExist map q → q.words ≡ contents map (W.words words.old) → MatchResult result (λ plan. RollPlaced map q thread (W.reads words.old) (contents map (W.words words.new)) (W.reads words.new) plan.count) (λ shortage. RollWeighed map q thread (W.reads words.old) (contents map (W.words words.new)) (W.reads words.new) (Err shortage)) }
+    ensures planned { (q : Aimed) → space_index q.region ≡ region → AimsInside map q → TargetsExist map q → q.words ≡ contents map (W.words words.old) → MatchResult result (λ plan. RollPlaced map q thread (W.reads words.old + (end + pages_of q.words.table q.region)) (contents map (W.words words.new)) (W.reads words.new) plan.count) (λ shortage. RollWeighed map q thread (W.reads words.old + (end + pages_of q.words.table q.region)) (contents map (W.words words.new)) (W.reads words.new) (Err shortage)) }
     ensures short { IfErr result (λ shortage. OnlyScratch (contents map (W.words words.old)) (contents map (W.words words.new))) }
     ensures plan { IfOk result (λ plan. Numbered map (heap_of map (W.words words.new)) plan.count (move_at (scratch_of map (W.words words.new)))) }
     ensures sound { Sound map (W.words words.new) }
@@ -141,7 +146,7 @@ fn plan_region<W: Words>(
     ensures currents { let c = contents map (W.words words.new) in CurrentsStand map c.currents c.table }
     ensures base { W.base words.new ≡ W.base words.old }
 {
-    let count = weigh_region(words, map, thread, region)?;
+    let count = weigh_region(words, map, thread, region, end)?;
     Ok(place_all(words, map, thread, count))
 }
 
@@ -166,15 +171,44 @@ pub fn plan_moves<W: Words>(words: &mut W, map: Areas, thread: u8) -> Result<Pla
     ensures sound { Sound map (W.words words.new) }
     ensures base { W.base words.new ≡ W.base words.old }
 {
+    plan_moves_below(words, map, thread, map.pages)
+}
+
+/// As `plan_moves`, where all pages of the region are among the first `end` pages.
+///
+/// # Errors
+///
+/// `Shortage` exactly where the pages that this claims are more than the free ones, with both numbers. Then only words of the
+/// scratch area have changed.
+fn plan_moves_below<W: Words>(
+    words: &mut W,
+    map: Areas,
+    thread: u8,
+    end: u32,
+) -> Result<Plan, Shortage>
+    requires sound { Sound map (W.words words.old) }
+    requires thread { HasThread map thread }
+    requires depth { 1 ≤ depth_of (contents map (W.words words.old)) thread }
+    requires within { end ≤ map.pages }
+    requires none_from { let c = contents map (W.words words.old) in NoneFrom map c.table (space_index (Region thread (depth_of c thread)) + 1) end }
+    requires aimed { ∥ ((s : SpaceState) × (before : Contents) × (stands : Stands map before s) × (escaping : ℕ) × TargetsWritten map s stands.places thread before (contents map (W.words words.old)) escaping) ∥₁ }
+    ensures planned { let c = contents map (W.words words.old) in let d = contents map (W.words words.new) in (s : SpaceState) (before : Contents) (stands : Stands map before s) (escaping : ℕ) → TargetsWritten map s stands.places thread before c escaping → MatchResult result (λ plan. (plan.count ≡ escaping) × EndPlanned map c d s stands.places thread plan.count) (λ shortage. FallsShort map c s stands.places thread shortage × OnlyScratch c d) }
+    ensures counted { (s : SpaceState) (before : Contents) (stands : Stands map before s) (escaping : ℕ) → TargetsWritten map s stands.places thread before (contents map (W.words words.old)) escaping → IfOk result (λ plan. Counts (IsEscaping s thread) plan.count) }
+    ensures numbered { IfOk result (λ plan. Numbered map (heap_of map (W.words words.new)) plan.count (move_at (scratch_of map (W.words words.new)))) }
+    ensures reads { let c = contents map (W.words words.old) in (s : SpaceState) (before : Contents) (stands : Stands map before s) (escaping : ℕ) → TargetsWritten map s stands.places thread before c escaping → W.reads words.new ≤ W.reads words.old + (end + pages_of c.table (innermost s.graph thread) + used_of c.table (innermost s.graph thread) + 12 * escaping + (1 + 2 * (MAX_SPACE + 2))) }
+    ensures sound { Sound map (W.words words.new) }
+    ensures base { W.base words.new ≡ W.base words.old }
+{
     let innermost = depth(words, map, thread);
     let region = index_of(Space::Region {
         thread,
         depth: innermost,
     });
-    plan_region(words, map, thread, region)
+    plan_region(words, map, thread, region, end)
 }
 
-/// As `plan_moves`, where it is told how many objects escape: no page is looked at where these are none.
+/// As `plan_moves`, where all pages of the region are among the first `end` pages, and where it is told how many objects
+/// escape: no page is looked at where these are none.
 ///
 /// # Errors
 ///
@@ -185,18 +219,21 @@ pub(crate) fn plan_escaping<W: Words>(
     map: Areas,
     thread: u8,
     escaping: u32,
+    end: u32,
 ) -> Result<Plan, Shortage>
     requires sound { Sound map (W.words words.old) }
     requires thread { HasThread map thread }
     requires depth { 1 ≤ depth_of (contents map (W.words words.old)) thread }
+    requires within { end ≤ map.pages }
+    requires none_from { let c = contents map (W.words words.old) in NoneFrom map c.table (space_index (Region thread (depth_of c thread)) + 1) end }
     requires aimed { ∥ ((s : SpaceState) × (before : Contents) × (stands : Stands map before s) × TargetsWritten map s stands.places thread before (contents map (W.words words.old)) escaping) ∥₁ }
     ensures planned { let c = contents map (W.words words.old) in let d = contents map (W.words words.new) in (s : SpaceState) (before : Contents) (stands : Stands map before s) → TargetsWritten map s stands.places thread before c escaping → MatchResult result (λ plan. (plan.count ≡ escaping) × EndPlanned map c d s stands.places thread plan.count) (λ shortage. FallsShort map c s stands.places thread shortage × OnlyScratch c d) }
-    ensures reads { let c = contents map (W.words words.old) in (s : SpaceState) (before : Contents) (stands : Stands map before s) → TargetsWritten map s stands.places thread before c escaping → W.reads words.new ≤ W.reads words.old + (2 * map.pages + used_of c.table (innermost s.graph thread) + 12 * escaping + (1 + 2 * (MAX_SPACE + 2))) }
+    ensures reads { let c = contents map (W.words words.old) in (s : SpaceState) (before : Contents) (stands : Stands map before s) → TargetsWritten map s stands.places thread before c escaping → W.reads words.new ≤ W.reads words.old + (end + pages_of c.table (innermost s.graph thread) + used_of c.table (innermost s.graph thread) + 12 * escaping + (1 + 2 * (MAX_SPACE + 2))) }
     ensures sound { Sound map (W.words words.new) }
     ensures base { W.base words.new ≡ W.base words.old }
 {
     if escaping == 0 {
         return Ok(empty_plan(words, map));
     }
-    plan_moves(words, map, thread)
+    plan_moves_below(words, map, thread, end)
 }

@@ -1,6 +1,6 @@
 //! The roll of the escaping objects, by ascending address, in the scratch area.
 
-ghost use Rattle.std.specs.Prelude.{◌≡◌, ◌≢◌, ◌≤◌, ◌<◌, ◌+◌, ◌*◌, ℕ, length, slice_index};
+ghost use Rattle.std.specs.Prelude.{◌≡◌, ◌≢◌, ◌≤◌, ◌<◌, ◌+◌, ◌*◌, ◌==◌, ℕ, cond, length, slice_index};
 ghost use Rattle.object_layout.specs.declared.names.Name.{Name};
 ghost use Rattle.object_layout.specs.declared.TheConstants.{OBJECT_WORDS};
 ghost use Rattle.epoch_lattice.specs.Lattice.{space_index};
@@ -10,7 +10,9 @@ ghost use Rattle.heap_words.specs.Contents.{contents, Sound};
 ghost use Rattle.heap_walks.specs.Laid.{IsThing};
 ghost use Rattle.heap_walks.specs.Walked.{IsPagePassed};
 ghost use Rattle.yak_model.specs.State.{Thing};
-ghost use Rattle.yak_model.specs.Placed.{used_mark};
+ghost use Rattle.yak_model.specs.Placed.{space_word, used_mark};
+ghost use Rattle.yak_model.specs.Stands.{pages_of};
+ghost use Rattle.remember_sets.specs.Filed.{NoneFrom};
 ghost use Rattle.region_pages.specs.Counts.{used_by, used_of};
 ghost use Rattle.escape_closure.specs.Rolls.{Aimed, AimsInside, Rolled, IsOnRoll, Grows, OnlyScratch};
 
@@ -66,7 +68,7 @@ fn roll_where_in<W: Words>(words: &mut W, map: Areas, count: usize, page: u32, r
     requires sound { Sound map (W.words words.old) }
     requires page { HasPage map page }
     requires some { ∥ ((q : Aimed) × (space_index q.region ≡ region) × AimsInside map q × Rolled q (contents map (W.words words.old)) (page_words map * page) count) ∥₁ }
-    ensures rolled { (q : Aimed) → space_index q.region ≡ region → AimsInside map q → (r : Rolled q (contents map (W.words words.old)) (page_words map * page) count) → (s : Grows q (contents map (W.words words.new)) (page_words map * (page + 1)) result r.name count) × IsPagePassed q.laid (IsOnRoll q s.roll.name result) page × (W.reads words.new ≤ W.reads words.old + (2 + used_by q.region (row (contents map (W.words words.old)).table page))) }
+    ensures rolled { (q : Aimed) → space_index q.region ≡ region → AimsInside map q → (r : Rolled q (contents map (W.words words.old)) (page_words map * page) count) → (s : Grows q (contents map (W.words words.new)) (page_words map * (page + 1)) result r.name count) × IsPagePassed q.laid (IsOnRoll q s.roll.name result) page × (W.reads words.new ≤ W.reads words.old + (1 + cond (space_word (contents map (W.words words.old)).table page == space_index q.region + 1) 1 0 + used_by q.region (row (contents map (W.words words.old)).table page))) }
     ensures frame { OnlyScratch (contents map (W.words words.old)) (contents map (W.words words.new)) }
     ensures sound { Sound map (W.words words.new) }
     ensures base { W.base words.new ≡ W.base words.old }
@@ -79,17 +81,20 @@ fn roll_where_in<W: Words>(words: &mut W, map: Areas, count: usize, page: u32, r
     count
 }
 
-/// Puts the objects of a region that have a target on the roll, and answers how many these are.
-pub(crate) fn roll_region<W: Words>(words: &mut W, map: Areas, region: u8) -> usize
+/// Puts the objects of a region that have a target on the roll, and answers how many these are. All pages of the region are
+/// among the first `end` pages.
+pub(crate) fn roll_region<W: Words>(words: &mut W, map: Areas, region: u8, end: u32) -> usize
     requires sound { Sound map (W.words words.old) }
+    requires within { end ≤ map.pages }
+    requires none_from { NoneFrom map (contents map (W.words words.old)).table (region + 1) end }
     requires some { ∥ ((q : Aimed) × (space_index q.region ≡ region) × AimsInside map q × (q.words ≡ contents map (W.words words.old))) ∥₁ }
-    ensures rolled { (q : Aimed) → space_index q.region ≡ region → AimsInside map q → q.words ≡ contents map (W.words words.old) → (s : Rolled q (contents map (W.words words.new)) (heap_length map) result) × ((n : Name) (o : Thing) → IsThing q.laid n o → IsOnRoll q s.name result n) × (W.reads words.new ≤ W.reads words.old + (2 * map.pages + used_of q.words.table q.region)) }
+    ensures rolled { (q : Aimed) → space_index q.region ≡ region → AimsInside map q → q.words ≡ contents map (W.words words.old) → (s : Rolled q (contents map (W.words words.new)) (heap_length map) result) × ((n : Name) (o : Thing) → IsThing q.laid n o → IsOnRoll q s.name result n) × (W.reads words.new ≤ W.reads words.old + (end + pages_of q.words.table q.region + used_of q.words.table q.region)) }
     ensures frame { OnlyScratch (contents map (W.words words.old)) (contents map (W.words words.new)) }
     ensures sound { Sound map (W.words words.new) }
     ensures base { W.base words.new ≡ W.base words.old }
 {
     let mut count = 0;
-    for page in 0..map.pages {
+    for page in 0..end {
         count = roll_where_in(words, map, count, page, region);
     }
     count

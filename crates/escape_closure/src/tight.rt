@@ -90,7 +90,7 @@ fn finish_tight<W: Words>(words: &mut W, map: Areas, packing: Packing, thread: u
 {
     let innermost = depth(words, map, thread);
     let plan = packing.plan;
-    carry_out(words, map, plan, thread);
+    carry_out(words, map, plan, thread, map.pages);
     settle_region(words, map, &plan, thread, innermost, packing.cursor.next);
     refile_slots(
         words,

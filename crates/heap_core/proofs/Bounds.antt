@@ -1,13 +1,14 @@
 -- What lawful histories bound: the words of a full heap, the numbers of a census, and what falls short at an end.
 use Rattle.std.proofs.Common.{◌≡◌, ◌≢◌, ℕ, ◌+◌, ◌*◌, ◌≤◌, ◌<◌, List, length, refl, ap, arith}
 use Rattle.std.proofs.Math.Logic.{⊎_elim}
+use Rattle.std.proofs.Math.Nat.{max-le}
 use Rattle.std.specs.List.{sum_by}
 use Rattle.std.proofs.lemmas.Bool.{cases_eq}
 use Rattle.std.proofs.lemmas.List.Sums.{sum_by-cons}
 use Rattle.object_layout.specs.declared.replies.Shortage.{Shortage}
 use Rattle.heap_words.specs.declared.map.Areas.{Areas}
 use Rattle.heap_words.specs.Map.{HasThread, IsAreas, page_words}
-use Rattle.heap_words.specs.Contents.{Contents}
+use Rattle.heap_words.specs.Contents.{Contents, stack_of}
 use Rattle.epoch_lattice.specs.declared.Space.{Space}
 use Rattle.epoch_lattice.specs.declared.Space.TheVariants.{Control, Region}
 use Rattle.yak_model.specs.Graph.{Limits, standard_limits, thread_of}
@@ -19,8 +20,11 @@ use Rattle.yak_model.specs.Stands.{Stands, free_pages, pages_of, words_of}
 use Rattle.yak_model.specs.Packed.{IsFull, IsPacked, IsSpaceOf}
 use Rattle.region_pages.specs.Counts.{regions_in}
 use Rattle.region_pages.proofs.Counting.{free_is, parts}
+use Rattle.region_pages.proofs.Ends.{end_le}
 use Rattle.escape_closure.specs.Ends.{FallsShort}
+use Rattle.escape_closure.specs.Leaving.{records_of}
 use Rattle.heap_core.specs.Done.{RegionsPacked}
+use Rattle.heap_core.specs.EpochEnds.{end_reads}
 use Rattle.yak_model.specs.Continued.{PackedIfAsked}
 use Rattle.heap_core.proofs.RoomsOpen.{open_spaces, regions_of}
 use Rattle.heap_core.proofs.RoomsNames.{present-paged}
@@ -93,3 +97,7 @@ tight-bound m c s h t shortage areas has some packed short =
     let together = spaces-together m c s h packed in
     let many = regions-counted m c s h in
     (escaped, has-words m c s h t short.count areas has some short.order, rw (page_limit m s h.whole.limits) (omega (arith, needed, counted, together, many, short.needed, short.free, short.more)))
+
+-- an end reads no more than if it looked at all pages
+pub reads-by_pages : (m : Areas) (c d : Contents) (s : SpaceState) (h : Stands m c s) (t : ℕ) → end_reads m c d s h t ≤ 100 * (words_of h.places.pages (object_of s) (innermost s.graph t) + records_of m c (innermost s.graph t) + length (stack_of c t) + 72) + 4 * m.pages
+reads-by_pages m c d s h t = omega (arith, max-le (end_le c.table m.pages) (end_le d.table m.pages))

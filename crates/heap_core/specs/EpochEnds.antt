@@ -1,5 +1,5 @@
 -- How a thread's innermost epoch ends.
-use Rattle.std.specs.Prelude.{◌≡◌, ◌⊎◌, ℕ, ◌+◌, ◌*◌, ◌≤◌, ◌<◌, Bool, true, false, length, Option, Some, None}
+use Rattle.std.specs.Prelude.{◌≡◌, ◌⊎◌, ℕ, ◌+◌, ◌*◌, ◌≤◌, ◌<◌, Bool, true, false, length, max, Option, Some, None}
 use Rattle.object_layout.specs.declared.calls.Call.{Call}
 use Rattle.object_layout.specs.declared.calls.Call.TheVariants.{End}
 use Rattle.object_layout.specs.declared.replies.Refusal.TheVariants.{NoEpoch}
@@ -13,6 +13,7 @@ use Rattle.yak_model.specs.State.{object_of}
 use Rattle.yak_model.specs.Placed.{Places}
 use Rattle.yak_model.specs.Stands.{Stands, words_of}
 use Rattle.yak_model.specs.Recorded.{Recorded}
+use Rattle.region_pages.specs.Ends.{used_end}
 use Rattle.mark_compact.specs.Collected.{RoomCollected, StateCollected}
 use Rattle.escape_closure.specs.Ends.{FallsShort, RegionEnded, RegionShort, TightEnded}
 use Rattle.escape_closure.specs.Leaving.{records_of}
@@ -77,12 +78,13 @@ IsEnd m was now t said =
 -- ---- how much an end reads
 
 -- The most reads of an end that makes no collection: the words of the region, the slots of its chain and of the store buffers,
--- and the slots of the thread's stack count. No other object does, and no slot that is recorded for another region.
-abbrev pub end_reads : (m : Areas) (c : Contents) (s : SpaceState) → Stands m c s → ℕ → ℕ
-end_reads m c s stands t =
-    100 * (words_of stands.places.pages (object_of s) (innermost s.graph t) + records_of m c (innermost s.graph t) + length (stack_of c t) + 72) + 4 * m.pages
+-- and the slots of the thread's stack count. No other object does, and no slot that is recorded for another region. Pages count
+-- up to the last one that is in use before or after.
+abbrev pub end_reads : (m : Areas) (c d : Contents) (s : SpaceState) → Stands m c s → ℕ → ℕ
+end_reads m c d s stands t =
+    100 * (words_of stands.places.pages (object_of s) (innermost s.graph t) + records_of m c (innermost s.graph t) + length (stack_of c t) + 72) + 4 * max (used_end c.table m.pages) (used_end d.table m.pages)
 
 -- A call that ends an open epoch without a collection reads no more.
-abbrev pub ReadsFew : (m : Areas) (c : Contents) (s : SpaceState) → Stands m c s → ℕ → Call → Stepped → ℕ → ℕ → Type 0
-ReadsFew m c s stands t End said before after = said.collected ≡ false → 0 < depth_of c t → after ≤ before + end_reads m c s stands t
-ReadsFew m c s stands t asked said before after = Unit {0}
+abbrev pub ReadsFew : (m : Areas) (c d : Contents) (s : SpaceState) → Stands m c s → ℕ → Call → Stepped → ℕ → ℕ → Type 0
+ReadsFew m c d s stands t End said before after = said.collected ≡ false → 0 < depth_of c t → after ≤ before + end_reads m c d s stands t
+ReadsFew m c d s stands t asked said before after = Unit {0}

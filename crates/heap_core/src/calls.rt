@@ -43,7 +43,7 @@ pub fn answer<W: Words>(words: &mut W, map: Areas, thread: u8, call: Call) -> St
     requires recorded { SomeRecorded map (contents map (W.words words.old)) }
     requires number { IsCall call }
     ensures done { Done map (contents map (W.words words.old)) (contents map (W.words words.new)) thread call result }
-    ensures reads { (s : SpaceState) (h : Stands map (contents map (W.words words.old)) s) → Recorded map (contents map (W.words words.old)) s h → ReadsFew map (contents map (W.words words.old)) s h thread call result (W.reads words.old) (W.reads words.new) }
+    ensures reads { (s : SpaceState) (h : Stands map (contents map (W.words words.old)) s) → Recorded map (contents map (W.words words.old)) s h → ReadsFew map (contents map (W.words words.old)) (contents map (W.words words.new)) s h thread call result (W.reads words.old) (W.reads words.new) }
     ensures sound { Sound map (W.words words.new) }
     ensures base { W.base words.new ≡ W.base words.old }
 {

@@ -58,7 +58,7 @@ pub fn end<W: Words>(words: &mut W, map: Areas, thread: u8) -> Stepped
     requires thread { HasThread map thread }
     requires recorded { SomeRecorded map (contents map (W.words words.old)) }
     ensures ended { IsEnd map (contents map (W.words words.old)) (contents map (W.words words.new)) thread result }
-    ensures reads { (s : SpaceState) (h : Stands map (contents map (W.words words.old)) s) → Recorded map (contents map (W.words words.old)) s h → ReadsFew map (contents map (W.words words.old)) s h thread Call.End result (W.reads words.old) (W.reads words.new) }
+    ensures reads { (s : SpaceState) (h : Stands map (contents map (W.words words.old)) s) → Recorded map (contents map (W.words words.old)) s h → ReadsFew map (contents map (W.words words.old)) (contents map (W.words words.new)) s h thread Call.End result (W.reads words.old) (W.reads words.new) }
     ensures sound { Sound map (W.words words.new) }
     ensures base { W.base words.new ≡ W.base words.old }
 {

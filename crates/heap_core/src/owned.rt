@@ -110,7 +110,7 @@ impl<W: Words> Core<W> {
         ensures records { (s : SpaceState) (h : Stands self.old.map (contents self.old.map (W.words self.old.words)) s) → StepRecords self.old.map (contents self.old.map (W.words self.old.words)) (contents self.new.map (W.words self.new.words)) s h thread call result.reply result.collected }
         ensures idle { IsIdle call result.reply → contents self.new.map (W.words self.new.words) ≡ contents self.old.map (W.words self.old.words) }
         ensures room { StepRoom self.old.map (contents self.old.map (W.words self.old.words)) (contents self.new.map (W.words self.new.words)) thread call result.reply result.collected }
-        ensures reads { (s : SpaceState) (h : Stands self.old.map (contents self.old.map (W.words self.old.words)) s) → ReadsFew self.old.map (contents self.old.map (W.words self.old.words)) s h thread call result (W.reads self.old.words) (W.reads self.new.words) }
+        ensures reads { (s : SpaceState) (h : Stands self.old.map (contents self.old.map (W.words self.old.words)) s) → ReadsFew self.old.map (contents self.old.map (W.words self.old.words)) (contents self.new.map (W.words self.new.words)) s h thread call result (W.reads self.old.words) (W.reads self.new.words) }
         ensures map { self.new.map ≡ self.old.map }
         ensures base { W.base self.new.words ≡ W.base self.old.words }
     {
@@ -198,6 +198,35 @@ mod tests {
             }
         );
         assert!(rt; core.words.reads() <= before.saturating_add(8956));
+        Ok(())
+    }
+
+    // Of 4,096 pages the control space has one and the region another one.
+    #[test]
+    fn an_end_reads_no_page_behind_the_last_one_in_use(rt: HostRuntime) -> Result<(), Fail> {
+        let mut core = match Core::new(rt.alloc(), 4096, 1) {
+            Ok(core) => core,
+            Err(error) => panic!(rt; "no heap: {error}"),
+        };
+        assert_eq!(rt; core.step(1, Call::Begin).reply, Reply::Ok);
+        assert_eq!(rt; core.step(1, Call::New(0)).reply, Reply::Ok);
+        let before = core.words.reads();
+        assert_eq!(rt;
+            core.step(1, Call::End).reply,
+            Reply::Ended {
+                moved: 1,
+                tight: false
+            }
+        );
+        assert!(rt; core.words.reads() <= before.saturating_add(1000));
+        assert_eq!(rt;
+            core.step(1, Call::Census).reply,
+            Reply::Pages {
+                free: 4095,
+                region: 0,
+                control: 1
+            }
+        );
         Ok(())
     }
 }

@@ -11,8 +11,8 @@ use Rattle.escape_closure.proofs.Told.{SomeAimed, currents_told, pool_told, tabl
 use Rattle.escape_closure.proofs.Written.{region_is}
 use Rattle.escape_closure.proofs.planning.plan_escaping.Goals as goal
 
-pub plan_moves-requires-clause-aimed : goal.plan_moves-requires-clause-aimed
-plan_moves-requires-clause-aimed g c = ∥∥₁_map c.requires.aimed (λ z. (z.0, z.1, z.2, c.args.escaping, z.3))
+pub plan_moves_below-requires-clause-aimed : goal.plan_moves_below-requires-clause-aimed
+plan_moves_below-requires-clause-aimed g c = ∥∥₁_map c.requires.aimed (λ z. (z.0, z.1, z.2, c.args.escaping, z.3))
 
 pub returns-then-escaping-eq0-clause-planned : goal.returns-then-escaping-eq0-clause-planned
 returns-then-escaping-eq0-clause-planned g c s before st written =
@@ -31,7 +31,7 @@ returns-then-escaping-eq0-clause-planned g c s before st written =
     rw c.empty_plan.ensures.words (c.empty_plan.ensures.none ∙ sym c.if-escaping-eq0.true, subst (λ n. EndPlanned m old old s st.places t n) (sym c.empty_plan.ensures.none) planned)
 
 pub returns-clause-planned : goal.returns-clause-planned
-returns-clause-planned g c s before st written = c.plan_moves.ensures.planned s before st c.args.escaping written
+returns-clause-planned g c s before st written = c.plan_moves_below.ensures.planned s before st c.args.escaping written
 
 pub returns-clause-reads : goal.returns-clause-reads
-returns-clause-reads g c s before st written = c.plan_moves.ensures.reads s before st c.args.escaping written
+returns-clause-reads g c s before st written = c.plan_moves_below.ensures.reads s before st c.args.escaping written

@@ -1,9 +1,9 @@
 use Rattle.std.proofs.Math.Logic.{∥∥₁_map}
-use Rattle.std.proofs.Common.{◌≡◌, ◌≤◌, ℕ, Ok, arith, sym, ap, ◌∙◌, subst, length}
+use Rattle.std.proofs.Common.{◌≡◌, ◌≤◌, ◌+◌, ℕ, Ok, arith, sym, ap, ◌∙◌, subst, length}
 use Rattle.heap_words.specs.declared.map.Areas.{Areas}
 use Rattle.heap_words.specs.Map.{heap_length}
 use Rattle.heap_words.specs.Contents.{Contents, contents}
-use Rattle.yak_model.specs.Stands.{free_pages}
+use Rattle.yak_model.specs.Stands.{free_pages, pages_of}
 use Rattle.escape_closure.specs.Rolls.{Aimed, Rolled}
 use Rattle.escape_closure.specs.Needs.{RollWeighed}
 use Rattle.escape_closure.specs.Placing.{Filling, index_on, rooms_at, size_on}
@@ -26,8 +26,9 @@ place_all-requires-clause-some g c = ∥∥₁_map c.requires.some (λ z.
     let m = c.args.map in
     let t = c.args.thread in
     let mid = contents m (g.W.Words.words c.weigh_region.new.words) in
-    let w : RollWeighed m z.0 t (g.W.Words.reads c.args.words.now) mid (g.W.Words.reads c.weigh_region.new.words) (Ok c.in_ok-count.count) = c.in_ok-count.ensures.weighed z.0 z.1 z.2 z.4 in
-    let enough = enough_now m z.0 t (g.W.Words.reads c.args.words.now) (g.W.Words.reads c.weigh_region.new.words) c.in_ok-count.count mid w in
+    let before : ℕ = g.W.Words.reads c.args.words.now + (c.args.end + pages_of z.0.words.table z.0.region) in
+    let w : RollWeighed m z.0 t before mid (g.W.Words.reads c.weigh_region.new.words) (Ok c.in_ok-count.count) = c.in_ok-count.ensures.weighed z.0 z.1 z.2 z.4 in
+    let enough = enough_now m z.0 t before (g.W.Words.reads c.weigh_region.new.words) c.in_ok-count.count mid w in
     let roll = subst (λ n. (r : Rolled z.0 mid (heap_length m) n) × ((filled_by m z.0 t mid n r n).claimed ≤ length (free_pages mid.heads mid.pool))) (sym w.weighed.0) (w.roll, enough) in
     (z.0, z.2, z.3, roll.0, roll.1))
 
@@ -37,7 +38,7 @@ returns-clause-planned g c q index ready exist same =
     let t = c.args.thread in
     let mid = contents m (g.W.Words.words c.weigh_region.new.words) in
     let new = contents m (g.W.Words.words c.place_all.new.words) in
-    let before = g.W.Words.reads c.args.words.now in
+    let before : ℕ = g.W.Words.reads c.args.words.now + (c.args.end + pages_of q.words.table q.region) in
     let read = g.W.Words.reads c.weigh_region.new.words in
     let w : RollWeighed m q t before mid read (Ok c.in_ok-count.count) = c.in_ok-count.ensures.weighed q index ready same in
     let enough = enough_now m q t before read c.in_ok-count.count mid w in

@@ -1,13 +1,16 @@
 use Rattle.escape_closure.proofs.Rolls.{scratch_then}
 use Rattle.std.proofs.Math.Logic.{∥∥₁_map}
-use Rattle.std.proofs.Common.{◌≡◌, ◌*◌, ℕ, List, arith, refl, ap, ◌∙◌, subst}
-use Rattle.heap_words.specs.Map.{page_words}
+use Rattle.std.proofs.Common.{◌≡◌, ◌+◌, ◌*◌, ◌==◌, ℕ, cond, List, get_or, arith, refl, sym, ap, ◌∙◌, inl, inr}
+use Rattle.std.proofs.lemmas.Bool.{cases_lt}
+use Rattle.epoch_lattice.specs.Lattice.{space_index}
+use Rattle.yak_model.specs.Placed.{space_word}
+use Rattle.heap_words.specs.Map.{heap_length, page_words}
 use Rattle.heap_words.specs.Cells.{row}
-use Rattle.heap_words.specs.Contents.{contents}
-use Rattle.escape_closure.specs.Rolls.{Rolled, ArePagesRolled}
+use Rattle.heap_words.specs.Contents.{Contents, contents}
+use Rattle.escape_closure.specs.Rolls.{ArePagesRolled}
 use Rattle.std.proofs.lemmas.List.Sums.{sum_by-take-le}
 use Rattle.region_pages.specs.Counts.{used_by}
-use Rattle.escape_closure.proofs.Rolls.{all_rolled, first_roll, pages_more, table_is, used_next}
+use Rattle.escape_closure.proofs.Rolls.{all_rolled, first_roll, other_page, pages_more, pages_next, table_is, used_next, wider}
 use Rattle.escape_closure.proofs.rolling.roll_region.Goals as goal
 
 pub roll_where_in-count-requires-clause-some : goal.roll_where_in-count-requires-clause-some
@@ -35,16 +38,24 @@ loop-page-preserved g c = record {
       let next = c.roll_where_in-count.ensures.rolled q index ready now.0 in
       let table = table_is m q mid (page_words m * page) c.loop-page.count ready now.0 in
       let own : used_by q.region (row mid.table page) ≡ used_by q.region (row q.words.table page) = ap (λ (t : List (List ℕ)). used_by q.region (row t page)) table in
+      let mine : cond {A = ℕ} (space_word mid.table page == space_index q.region + 1) 1 0 ≡ cond (space_word q.words.table page == space_index q.region + 1) 1 0 = ap (λ (t : List (List ℕ)). cond {A = ℕ} (space_word t page == space_index q.region + 1) 1 0) table in
       let more = used_next q.words.table q.region page in
-      (next.0.roll, pages_more q now.0.name next.0.roll.name c.loop-page.count c.roll_where_in-count.result page now.1 next.0.more next.1, omega (arith, next.2, now.2, own, more));
+      let pages = pages_next q.words.table q.region page in
+      (next.0.roll, pages_more q now.0.name next.0.roll.name c.loop-page.count c.roll_where_in-count.result page now.1 next.0.more next.1, omega (arith, next.2, now.2, own, more, mine, pages));
 }
 
 pub returns-clause-rolled : goal.returns-clause-rolled
 returns-clause-rolled g c q index ready same =
     let m = c.args.map in
+    let count = c.loop-page.count in
     let now = c.loop-page.invariant.rolled q index ready same in
     let all = sum_by-take-le (used_by q.region) q.words.table c.loop-page.page in
-    let ends : c.loop-page.page ≡ m.pages = omega arith in
+    let pages = sum_by-take-le (λ (r : List ℕ). cond {A = ℕ} (get_or r 0 0 == space_index q.region + 1) 1 0) q.words.table c.loop-page.page in
+    let ends : c.loop-page.page ≡ c.args.end = omega arith in
     let new = contents m (g.W.Words.words c.loop-page.words) in
-    let done : (s : Rolled q new (page_words m * m.pages) c.loop-page.count) × ArePagesRolled q s.name c.loop-page.count m.pages = subst (λ p. (s : Rolled q new (page_words m * p) c.loop-page.count) × ArePagesRolled q s.name c.loop-page.count p) ends (now.0, now.1) in
-    (done.0, all_rolled m q done.0.name c.loop-page.count ready done.1, omega (arith, now.2, all, ends))
+    let word : (p : ℕ) → space_word (contents m (g.W.Words.words c.args.words.now)).table p ≡ space_word q.words.table p = λ p. ap (λ (x : Contents). space_word x.table p) (sym same) in
+    let rolled : ArePagesRolled q now.0.name count m.pages = λ p lt. elim (cases_lt p c.loop-page.page) [
+      | inl below ↦ now.1 p below
+      | inr from ↦ other_page m q now.0.name count p (space_word q.words.table p) ready refl (λ e. c.requires.none_from p (omega (arith, from, ends)) lt (word p ∙ e ∙ ap (λ k. k + 1) index))
+    ] in
+    (wider m q new (page_words m * c.loop-page.page) count ready now.0 (heap_length m) (omega (arith, ends, c.requires.within)), all_rolled m q now.0.name count ready rolled, omega (arith, now.2, all, pages, ends))

@@ -1,7 +1,7 @@
 use Rattle.std.proofs.Common.{refl}
 use Rattle.escape_closure.specs.Rolls.{OnlyScratch}
 use Rattle.std.proofs.Math.Logic.{∥∥₁_map}
-use Rattle.std.proofs.Common.{◌≡◌, ◌≢◌, ◌+◌, ◌*◌, ℕ, List, arith, sym, ap, ◌∙◌, subst}
+use Rattle.std.proofs.Common.{◌≡◌, ◌≢◌, ◌+◌, ◌*◌, ◌==◌, ℕ, cond, List, arith, sym, ap, ◌∙◌, subst}
 use Rattle.epoch_lattice.specs.Lattice.{space_index}
 use Rattle.heap_words.specs.Map.{page_words}
 use Rattle.heap_words.specs.Cells.{row}
@@ -28,9 +28,10 @@ returns-then-space-own-clause-rolled g c q index ready r =
     let next : (x : Rolled q old (page_words m * page) c.args.count) → (s : Grows q new (page_words m * (page + 1)) more x.name c.args.count) × IsPagePassed q.laid (IsOnRoll q s.roll.name more) page =
     subst (λ y. (x : Rolled q y (page_words m * page) c.args.count) → (s : Grows q new (page_words m * (page + 1)) more x.name c.args.count) × IsPagePassed q.laid (IsOnRoll q s.roll.name more) page) same (c.roll_page.ensures.rolled q ready) in
     let used : used_by q.region (row old.table page) ≡ used_mark old.table page = same_is (space_word old.table page) (space_index q.region + 1) (used_mark old.table page) 0 (sym c.get_page-space.ensures.value ∙ c.if-space-own.true ∙ ap (λ k. k + 1) (sym index)) in
+    let one : cond {A = ℕ} (space_word old.table page == space_index q.region + 1) 1 0 ≡ 1 = same_is (space_word old.table page) (space_index q.region + 1) 1 0 (sym c.get_page-space.ensures.value ∙ c.if-space-own.true ∙ ap (λ k. k + 1) (sym index)) in
     let mark : used_mark (contents m (g.W.Words.words c.get_page-space.new.words)).table page ≡ used_mark old.table page = ap (λ (x : Contents). used_mark x.table page) same in
     let done = next r in
-    (done.0, done.1, omega (arith, c.roll_page.ensures.reads, c.get_page-space.ensures.reads, used, mark))
+    (done.0, done.1, omega (arith, c.roll_page.ensures.reads, c.get_page-space.ensures.reads, used, one, mark))
 
 pub returns-clause-rolled : goal.returns-clause-rolled
 returns-clause-rolled g c q index ready r =

@@ -36,6 +36,9 @@ carry_out-requires-clause-ready g c =
     let old = contents m (g.W.Words.words c.args.words.now) in
     rw c.depth-innermost.ensures.words (∥∥₁_map c.requires.ready (λ q. (q.0, q.2, q.3, true, tight_ready m q.0 q.1 old q.2 q.3 c.args.thread c.args.packing.plan.count c.args.packing.cursor.next c.requires.sound.areas c.requires.thread q.4.deep q.4)))
 
+pub carry_out-requires-clause-none_from : goal.carry_out-requires-clause-none_from
+carry_out-requires-clause-none_from g c p from lt = absurd (omega (arith, from, lt))
+
 pub settle_region-requires-clause-room : goal.settle_region-requires-clause-room
 settle_region-requires-clause-room g c =
     let m = c.args.map in

@@ -3,7 +3,7 @@ use Rattle.std.proofs.Common.{◌≡◌, ◌≤◌, ◌+◌, ◌*◌, ℕ, arith
 use Rattle.heap_words.specs.Map.{heap_length}
 use Rattle.heap_words.specs.Contents.{Contents, contents}
 use Rattle.heap_words.proofs.Contents.{length-scratch}
-use Rattle.yak_model.specs.Stands.{CurrentsStand, PoolStands, free_pages}
+use Rattle.yak_model.specs.Stands.{CurrentsStand, PoolStands, free_pages, pages_of}
 use Rattle.escape_closure.specs.Rolls.{OnlyScratch, Rolled}
 use Rattle.object_layout.specs.declared.TheConstants.{MAX_SPACE}
 use Rattle.region_pages.specs.Counts.{used_of}
@@ -60,7 +60,7 @@ returns-then-needed-free-clause-weighed g c q index ready same =
     let rooms : (i : ℕ) → rooms_at m mid c.args.thread i ≡ rooms_at m q.words c.args.thread i = λ i. rooms_scratch m q.words mid c.args.thread i (subst (λ x. OnlyScratch x mid) (sym same) c.roll_region-count.ensures.frame) in
     let needed : c.needed_pages-needed.result ≡ (filling m (rooms_at m q.words c.args.thread) (index_on q done (heap_length m) count roll) (size_on q done (heap_length m) count roll) count).claimed = c.needed_pages-needed.ensures.needed q ready rolled.0 ∙ ap (λ (f : Filling). f.claimed) (filling_rooms m (rooms_at m mid c.args.thread) (rooms_at m q.words c.args.thread) (index_on q done (heap_length m) count roll) (size_on q done (heap_length m) count roll) count rooms) in
     let free : c.free_count-free.result ≡ length (free_pages q.words.heads q.words.pool) = c.free_count-free.ensures.count ∙ ap (λ (x : Contents). length (free_pages x.heads x.pool)) (frame ∙ ap (λ (x : Contents). record x { scratch = done.scratch }) (sym same)) in
-    let reads : g.W.Words.reads c.free_count-free.new.words ≤ g.W.Words.reads c.args.words.now + (2 * m.pages + used_of q.words.table q.region + 4 * count + 2 * (MAX_SPACE + 2)) = omega (arith, rolled.2, c.needed_pages-needed.ensures.reads, c.free_count-free.ensures.reads) in
+    let reads : g.W.Words.reads c.free_count-free.new.words ≤ g.W.Words.reads c.args.words.now + (c.args.end + pages_of q.words.table q.region) + (used_of q.words.table q.region + 4 * count + 2 * (MAX_SPACE + 2)) = omega (arith, rolled.2, c.needed_pages-needed.ensures.reads, c.free_count-free.ensures.reads) in
     rw c.free_count-free.ensures.words (record { count = count; roll = roll; all = rolled.1; weighed = (needed, free, omega (arith, c.if-needed-free.true, needed, free)); reads = reads })
 
 pub returns-clause-weighed : goal.returns-clause-weighed
@@ -78,5 +78,5 @@ returns-clause-weighed g c q index ready same =
     let rooms : (i : ℕ) → rooms_at m mid c.args.thread i ≡ rooms_at m q.words c.args.thread i = λ i. rooms_scratch m q.words mid c.args.thread i (subst (λ x. OnlyScratch x mid) (sym same) c.roll_region-count.ensures.frame) in
     let needed : c.needed_pages-needed.result ≡ (filling m (rooms_at m q.words c.args.thread) (index_on q done (heap_length m) count roll) (size_on q done (heap_length m) count roll) count).claimed = c.needed_pages-needed.ensures.needed q ready rolled.0 ∙ ap (λ (f : Filling). f.claimed) (filling_rooms m (rooms_at m mid c.args.thread) (rooms_at m q.words c.args.thread) (index_on q done (heap_length m) count roll) (size_on q done (heap_length m) count roll) count rooms) in
     let free : c.free_count-free.result ≡ length (free_pages q.words.heads q.words.pool) = c.free_count-free.ensures.count ∙ ap (λ (x : Contents). length (free_pages x.heads x.pool)) (frame ∙ ap (λ (x : Contents). record x { scratch = done.scratch }) (sym same)) in
-    let reads : g.W.Words.reads c.free_count-free.new.words ≤ g.W.Words.reads c.args.words.now + (2 * m.pages + used_of q.words.table q.region + 4 * count + 2 * (MAX_SPACE + 2)) = omega (arith, rolled.2, c.needed_pages-needed.ensures.reads, c.free_count-free.ensures.reads) in
+    let reads : g.W.Words.reads c.free_count-free.new.words ≤ g.W.Words.reads c.args.words.now + (c.args.end + pages_of q.words.table q.region) + (used_of q.words.table q.region + 4 * count + 2 * (MAX_SPACE + 2)) = omega (arith, rolled.2, c.needed_pages-needed.ensures.reads, c.free_count-free.ensures.reads) in
     rw c.free_count-free.ensures.words (record { count = count; roll = roll; all = rolled.1; weighed = (refl, omega (arith, c.if-needed-free.false, needed, free)); reads = reads })
