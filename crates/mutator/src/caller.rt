@@ -10,7 +10,7 @@ ghost use Rattle.mutator.specs.Callers.{IsAtEnd, KnowsPart, standing_shared};
 ghost use Rattle.mutator.specs.Running.{IsOfHeap, view_in};
 
 use crate::heap::Heap;
-use crate::running::Mutator;
+use crate::running::{CALLS_BETWEEN_POLLS, Mutator};
 use heap_core::{count_up, words_asked, words_made};
 use object_layout::{Call, Census, Reply};
 use std::sync::Wait;
@@ -23,6 +23,8 @@ pub struct MutatorCaller<'h, R: Wait> {
     rt: &'h R,
     heap: &'h Heap,
     mutator: Mutator,
+    /// How many calls it made since it last let other threads close the gate.
+    calls: u16,
     /// The words of the objects that it made, or the greatest number where they are more.
     made: u64,
     /// How many calls were answered by `OutOfHeap`, or the greatest number where they are more.
@@ -61,6 +63,7 @@ impl<'h, R: Wait> Caller for MutatorCaller<'h, R> {
 
     ghost told = { λ s. record { some = s.some; none_free = s.none_free } };
 
+    #[inline(always)]
     fn make_call(&mut self, call: Call) -> Reply
         requires { IsCall call }
         ensures stays { Stays ⟦<MutatorCaller<'h, R> as Caller>⟧.base ⟦<MutatorCaller<'h, R> as Caller>⟧.tells ⟦<MutatorCaller<'h, R> as Caller>⟧.tells_known self.old self.new }
@@ -68,6 +71,8 @@ impl<'h, R: Wait> Caller for MutatorCaller<'h, R> {
         ensures known { (known : KnownObjects) → ⟦<MutatorCaller<'h, R> as Caller>⟧.knows self.old known → MovesKnown (⟦<MutatorCaller<'h, R> as Caller>⟧.standing self.old) known call result (⟦<MutatorCaller<'h, R> as Caller>⟧.standing self.new).own (⟦<MutatorCaller<'h, R> as Caller>⟧.knows self.new) }
         ensures at_end { IsAtEnd (view_in self.new.mutator.inside).map (view_in self.old.mutator.inside).own (view_in self.new.mutator.inside).own call result }
     {
+        self.mutator.give_way(self.rt, self.heap, self.calls);
+        self.calls = self.calls % CALLS_BETWEEN_POLLS + 1;
         let (stepped, depth) = self.mutator.call_told(self.rt, self.heap, call);
         self.made = count_up(self.made, words_made(call, stepped.reply));
         if let Some(census) = stepped.full {
@@ -94,6 +99,7 @@ impl Mutator {
             rt,
             heap,
             mutator: self,
+            calls: 0,
             made: 0,
             refusals: 0,
             last: None,

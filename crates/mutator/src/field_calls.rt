@@ -15,6 +15,7 @@ use object_layout::{Addr, Call, LogFull, Refusal, Reply, address, field_count};
 use safepoint_gate::{Gate, Inside};
 
 // The object to which a slot refers, where it has the field, or the refusal of the call, which is told.
+#[inline(always)]
 fn field_of(inside: &mut Inside, gate: &Gate, s: u32, f: u32, call: Call) -> Result<Addr, Reply>
     requires gate { IsOf gate.now inside.old.seat.table_id inside.old.seat.me.0 }
     requires quiet { IsQuiet inside.old.seat.me.0 }
@@ -47,6 +48,7 @@ fn field_of(inside: &mut Inside, gate: &Gate, s: u32, f: u32, call: Call) -> Res
 }
 
 /// Pushes a field of a slot's object.
+#[inline(always)]
 pub(crate) fn load(inside: &mut Inside, gate: &Gate, s: u32, f: u32) -> Reply
     requires gate { IsOf gate.now inside.old.seat.table_id inside.old.seat.me.0 }
     requires quiet { IsQuiet inside.old.seat.me.0 }
@@ -87,6 +89,7 @@ pub(crate) fn load(inside: &mut Inside, gate: &Gate, s: u32, f: u32) -> Reply
 /// # Errors
 ///
 /// `LogFull` exactly where no refusal applies, the slot must be recorded and the store buffer is full. Nothing has changed then.
+#[inline(always)]
 pub(crate) fn store(
     inside: &mut Inside,
     gate: &Gate,

@@ -13,6 +13,7 @@ use object_layout::{LogFull, NoPage, Reply};
 
 impl Mutator {
     /// Pushes an integer, at most `MAX_INT`.
+    #[inline(always)]
     pub fn push_int(&mut self, heap: &Heap, i: u64) -> Reply
         requires heap { IsOfHeap heap.now self.old.inside }
         requires number { i ≤ MAX_INT }
@@ -26,6 +27,7 @@ impl Mutator {
     }
 
     /// Pushes null.
+    #[inline(always)]
     pub fn push_null(&mut self, heap: &Heap) -> Reply
         requires heap { IsOfHeap heap.now self.old.inside }
         ensures heap { IsOfHeap heap.now self.new.inside }
@@ -38,6 +40,7 @@ impl Mutator {
     }
 
     /// Pushes the value of a slot.
+    #[inline(always)]
     pub fn dup(&mut self, heap: &Heap, s: u32) -> Reply
         requires heap { IsOfHeap heap.now self.old.inside }
         ensures heap { IsOfHeap heap.now self.new.inside }
@@ -50,6 +53,7 @@ impl Mutator {
     }
 
     /// Drops the top slot.
+    #[inline(always)]
     pub fn pop(&mut self, heap: &Heap) -> Reply
         requires heap { IsOfHeap heap.now self.old.inside }
         ensures heap { IsOfHeap heap.now self.new.inside }
@@ -62,6 +66,7 @@ impl Mutator {
     }
 
     /// Shows the value of a slot.
+    #[inline(always)]
     pub fn get(&mut self, heap: &Heap, s: u32) -> Reply
         requires heap { IsOfHeap heap.now self.old.inside }
         ensures heap { IsOfHeap heap.now self.new.inside }
@@ -74,6 +79,7 @@ impl Mutator {
     }
 
     /// Tells whether two slots hold the same value.
+    #[inline(always)]
     pub fn same(&mut self, heap: &Heap, s: u32, x: u32) -> Reply
         requires heap { IsOfHeap heap.now self.old.inside }
         ensures heap { IsOfHeap heap.now self.new.inside }
@@ -86,6 +92,7 @@ impl Mutator {
     }
 
     /// Opens an epoch.
+    #[inline(always)]
     pub fn begin(&mut self, heap: &Heap) -> Reply
         requires heap { IsOfHeap heap.now self.old.inside }
         ensures heap { IsOfHeap heap.now self.new.inside }
@@ -98,6 +105,7 @@ impl Mutator {
     }
 
     /// Pushes a field of a slot's object.
+    #[inline(always)]
     pub fn load(&mut self, heap: &Heap, s: u32, f: u32) -> Reply
         requires heap { IsOfHeap heap.now self.old.inside }
         ensures heap { IsOfHeap heap.now self.new.inside }
@@ -115,6 +123,7 @@ impl Mutator {
     ///
     /// `LogFull` exactly where no refusal applies, the slot must be recorded and the thread's store buffer is full. Nothing has
     /// changed then.
+    #[inline(always)]
     pub fn store(&mut self, heap: &Heap, s: u32, f: u32, x: u32) -> Result<Reply, LogFull>
         requires heap { IsOfHeap heap.now self.old.inside }
         ensures heap { IsOfHeap heap.now self.new.inside }

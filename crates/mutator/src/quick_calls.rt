@@ -21,6 +21,7 @@ use object_layout::{Call, Event, Refusal, Reply, Value, decode_value, encode_val
 use safepoint_gate::{Gate, Inside};
 
 // The event of a call that made no collection.
+#[inline(always)]
 pub(crate) fn told(call: Call, reply: Reply) -> Event
     ensures { result ≡ told_by call reply }
 {
@@ -32,6 +33,7 @@ pub(crate) fn told(call: Call, reply: Reply) -> Event
 }
 
 // Loads an own word again that shows a reply, and adds the entry of the call with the reply.
+#[inline(always)]
 pub(crate) fn tell(inside: &mut Inside, gate: &Gate, at: usize, call: Call, reply: Reply) -> Reply
     requires gate { IsOf gate.now inside.old.seat.table_id inside.old.seat.me.0 }
     requires own { MayLoad inside.old.seat.me.0.map (actor inside.old.seat.me.0) at }
@@ -46,6 +48,7 @@ pub(crate) fn tell(inside: &mut Inside, gate: &Gate, at: usize, call: Call, repl
 }
 
 // Puts a word on the stack, whose length is known, as the call asks.
+#[inline(always)]
 fn grow(inside: &mut Inside, gate: &Gate, length: usize, word: u64, call: Call) -> Reply
     requires gate { IsOf gate.now inside.old.seat.table_id inside.old.seat.me.0 }
     requires quiet { IsQuiet inside.old.seat.me.0 }
@@ -66,6 +69,7 @@ fn grow(inside: &mut Inside, gate: &Gate, length: usize, word: u64, call: Call) 
 }
 
 // The length of the stack.
+#[inline(always)]
 pub(crate) fn stack_length(inside: &mut Inside, gate: &Gate) -> usize
     requires gate { IsOf gate.now inside.old.seat.table_id inside.old.seat.me.0 }
     requires quiet { IsQuiet inside.old.seat.me.0 }
@@ -92,6 +96,7 @@ pub(crate) fn refuse(inside: &mut Inside, gate: &Gate, call: Call, why: Refusal)
 }
 
 // Pushes a word, of an integer or null.
+#[inline(always)]
 fn push_word(inside: &mut Inside, gate: &Gate, word: u64, call: Call) -> Reply
     requires gate { IsOf gate.now inside.old.seat.table_id inside.old.seat.me.0 }
     requires quiet { IsQuiet inside.old.seat.me.0 }
@@ -108,6 +113,7 @@ fn push_word(inside: &mut Inside, gate: &Gate, word: u64, call: Call) -> Reply
 }
 
 /// Pushes an integer.
+#[inline(always)]
 pub(crate) fn push_int(inside: &mut Inside, gate: &Gate, i: u64) -> Reply
     requires gate { IsOf gate.now inside.old.seat.table_id inside.old.seat.me.0 }
     requires quiet { IsQuiet inside.old.seat.me.0 }
@@ -120,6 +126,7 @@ pub(crate) fn push_int(inside: &mut Inside, gate: &Gate, i: u64) -> Reply
 }
 
 /// Pushes null.
+#[inline(always)]
 pub(crate) fn push_null(inside: &mut Inside, gate: &Gate) -> Reply
     requires gate { IsOf gate.now inside.old.seat.table_id inside.old.seat.me.0 }
     requires quiet { IsQuiet inside.old.seat.me.0 }
@@ -131,6 +138,7 @@ pub(crate) fn push_null(inside: &mut Inside, gate: &Gate) -> Reply
 }
 
 /// Pushes the value of a slot.
+#[inline(always)]
 pub(crate) fn dup(inside: &mut Inside, gate: &Gate, s: u32) -> Reply
     requires gate { IsOf gate.now inside.old.seat.table_id inside.old.seat.me.0 }
     requires quiet { IsQuiet inside.old.seat.me.0 }
@@ -151,6 +159,7 @@ pub(crate) fn dup(inside: &mut Inside, gate: &Gate, s: u32) -> Reply
 }
 
 /// Drops the top slot.
+#[inline(always)]
 pub(crate) fn pop(inside: &mut Inside, gate: &Gate) -> Reply
     requires gate { IsOf gate.now inside.old.seat.table_id inside.old.seat.me.0 }
     requires quiet { IsQuiet inside.old.seat.me.0 }
@@ -173,6 +182,7 @@ pub(crate) fn pop(inside: &mut Inside, gate: &Gate) -> Reply
 }
 
 // What the word of a slot shows.
+#[inline(always)]
 fn shown(inside: &mut Inside, gate: &Gate, word: u64) -> Reply
     requires gate { IsOf gate.now inside.old.seat.table_id inside.old.seat.me.0 }
     requires so { IsSo inside.old.seat.me.0 }
@@ -194,6 +204,7 @@ fn shown(inside: &mut Inside, gate: &Gate, word: u64) -> Reply
 }
 
 /// Shows the value of a slot.
+#[inline(always)]
 pub(crate) fn get(inside: &mut Inside, gate: &Gate, s: u32) -> Reply
     requires gate { IsOf gate.now inside.old.seat.table_id inside.old.seat.me.0 }
     requires quiet { IsQuiet inside.old.seat.me.0 }
@@ -211,6 +222,7 @@ pub(crate) fn get(inside: &mut Inside, gate: &Gate, s: u32) -> Reply
 }
 
 /// Tells whether two slots hold the same value.
+#[inline(always)]
 pub(crate) fn same(inside: &mut Inside, gate: &Gate, s: u32, x: u32) -> Reply
     requires gate { IsOf gate.now inside.old.seat.table_id inside.old.seat.me.0 }
     requires quiet { IsQuiet inside.old.seat.me.0 }

@@ -22,6 +22,9 @@ use object_layout::{Call, NoPage, Reply};
 use safepoint_gate::Inside;
 use std::sync::Wait;
 
+/// How many calls a caller of a running thread makes before it lets other threads close the gate.
+pub(crate) const CALLS_BETWEEN_POLLS: u16 = 256;
+
 /// One thread's way to a heap, while the thread makes calls. It takes its seat out and puts it back where a call closes the gate.
 #[derive(Drop)]
 pub struct Mutator {
@@ -80,6 +83,19 @@ impl Mutator {
     {
         if let Some(inside) = self.inside.take() {
             self.inside = Some(inside.leave(&heap.gate).enter(rt, &heap.gate));
+        }
+    }
+
+    /// Lets another thread close the gate where so many calls were made since the last time.
+    #[inline(always)]
+    pub(crate) fn give_way<R: Wait>(&mut self, rt: &R, heap: &Heap, calls: u16)
+        requires heap { IsOfHeap heap.now self.old.inside }
+        ensures heap { IsOfHeap heap.now self.new.inside }
+        ensures own { (view_in self.new.inside).own ≡ (view_in self.old.inside).own }
+        ensures map { (view_in self.new.inside).map ≡ (view_in self.old.inside).map }
+    {
+        if calls == CALLS_BETWEEN_POLLS {
+            self.poll(rt, heap);
         }
     }
 
@@ -160,6 +176,7 @@ impl Mutator {
     }
 
     // The depth of the thread.
+    #[inline(always)]
     fn depth(&mut self, heap: &Heap) -> u8
         requires heap { IsOfHeap heap.now self.old.inside }
         ensures heap { IsOfHeap heap.now self.new.inside }
@@ -176,6 +193,7 @@ impl Mutator {
     }
 
     // Stores, and files all buffers before where the own one is full.
+    #[inline(always)]
     fn store_or_flush<R: Wait>(&mut self, rt: &R, heap: &Heap, s: u32, f: u32, x: u32) -> Reply
         requires heap { IsOfHeap heap.now self.old.inside }
         ensures heap { IsOfHeap heap.now self.new.inside }
@@ -192,6 +210,7 @@ impl Mutator {
 
     /// Makes a call, by whichever way, and tells the thread's depth at the call beside what the step says. Where the store buffer is
     /// full, all buffers are filed before.
+    #[inline(always)]
     pub fn call_told<R: Wait>(&mut self, rt: &R, heap: &Heap, call: Call) -> (Stepped, u8)
         requires heap { IsOfHeap heap.now self.old.inside }
         requires number { IsCall call }
