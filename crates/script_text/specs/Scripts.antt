@@ -18,11 +18,6 @@ use Rattle.script_text.specs.Words.{lines, words}
 abbrev pub IsSilent : List ℕ → Type 0
 IsSilent line = (words line ≡ []) ⊎ (slice_index line 0 ≡ 35)
 
--- the second word of a line that is not silent
-pub record HasCommandWord (line word : List ℕ) : Type 0 where
-  pub loud : IsSilent line → ⊥
-  pub second : (first : List ℕ) × (rest : List (List ℕ)) × (words line ≡ first ∷ word ∷ rest)
-
 -- a command line of one of so many threads
 pub record IsCommand (threads : ℕ) (line : List ℕ) (thread : ℕ) (call : Call) : Type 0 where
   pub loud : IsSilent line → ⊥

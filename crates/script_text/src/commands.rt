@@ -1,5 +1,5 @@
 //! The commands, read and printed by one table.
-ghost use Rattle.std.specs.Prelude.{◌≡◌, ◌≢◌, ◌≤◌, ◌∷◌, ◌++◌, ℕ, [], List, All, decimal, map, MatchOption, MatchResult, IfSome, IfOk, IfErr, OnOk, string_bytes};
+ghost use Rattle.std.specs.Prelude.{◌≡◌, ◌≢◌, ◌∷◌, ◌++◌, [], All, decimal, map, MatchOption, MatchResult, IfSome, IfOk, IfErr, OnOk, string_bytes};
 ghost use Rattle.object_layout.specs.declared.calls.Call.{Call};
 ghost use Rattle.object_layout.specs.Calls.{IsCall};
 ghost use Rattle.script_text.specs.Commands.{IsInteger, IsIndex, most, word_of, limits_of, numbers_of, number_words, command_words, IsWithin, IsSayable};
@@ -68,7 +68,7 @@ macro_rules! print_row {
 }
 
 /// The call whose command word this is, with zeros for its numbers.
-pub fn find_call(word: &[u8]) -> Option<Call>
+fn find_call(word: &[u8]) -> Option<Call>
     ensures found { MatchOption result ((call : Call) → word.now ≢ word_of call) (λ call. word.now ≡ word_of call) }
     ensures zeros { IfSome result (λ call. All (λ number. number.value ≡ 0) (numbers_of call)) }
 {

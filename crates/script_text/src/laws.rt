@@ -3,6 +3,7 @@ ghost use Rattle.std.specs.Prelude.{◌≡◌, ℕ, List};
 ghost use Rattle.script_text.specs.declared.faults.Bad.{Bad};
 ghost use Rattle.script_text.specs.Contents.{Contents};
 ghost use Rattle.object_layout.specs.declared.replies.Reply.{Reply as Said};
+ghost use Rattle.script_text.specs.Printing.{AreWithin, IsValid, script_text};
 ghost use Rattle.script_text.specs.Replies.{IsReply, reply_text, reply_words};
 ghost use Rattle.script_text.specs.Scripts.{IsScript, IsBadLine};
 ghost use Rattle.script_text.specs.Words.{words};
@@ -11,6 +12,12 @@ ghost use Rattle.script_text.specs.Words.{words};
 #[tactic(auto, using(crate::proofs::Single::same_script))]
 pub fn law_one_script()
     ensures { (bytes : List ℕ) (one other : Contents) → IsScript bytes one → IsScript bytes other → one ≡ other }
+{}
+
+/// The text of a script that can be written, with numbers that a command can have, is that script.
+#[tactic(auto, using(crate::proofs::Spelling::printed_script))]
+pub fn law_printed_script()
+    ensures { (script : Contents) → IsValid script → AreWithin script.lines → IsScript (script_text script) script }
 {}
 
 /// A text is refused at one line and for one reason at most.

@@ -1,17 +1,17 @@
 //! Reading a script.
-ghost use Rattle.std.specs.Prelude.{◌≡◌, ◌≤◌, ◌+◌, ◌⊎◌, ◌∷◌, ℕ, [], List, Ok, Err, MatchOption, MatchResult, MatchBool, IfOk, IfErr, IfSome, OnOk, length, take};
+ghost use Rattle.std.specs.Prelude.{◌≡◌, ◌≤◌, ◌+◌, ◌⊎◌, ◌∷◌, [], Ok, Err, MatchOption, MatchResult, MatchBool, IfOk, IfErr, IfSome, OnOk, length, take};
 ghost use Rattle.script_text.specs.declared.faults.Bad.{Bad};
 ghost use Rattle.script_text.specs.declared.faults.ReadError.TheVariants.{Refused, Memory};
 ghost use Rattle.script_text.specs.Contents.{Contents, Heap};
 ghost use Rattle.script_text.specs.Printing.{IsValid};
 ghost use Rattle.script_text.specs.Words.{lines};
-ghost use Rattle.script_text.specs.Scripts.{IsSilent, HasCommandWord, IsCommand, IsFault, IsHeader, IsScript, IsScriptOf, IsBadLine, Refuses, RefusesOf, Adds, Stops};
+ghost use Rattle.script_text.specs.Scripts.{IsSilent, IsCommand, IsFault, IsHeader, IsScript, IsScriptOf, IsBadLine, Refuses, RefusesOf, Adds, Stops};
 
 use crate::commands::read_command;
 use crate::faults::{Bad, ReadError, Reason};
 use crate::numbers::number_of;
 use crate::scripts::{Line, Script};
-use crate::words::{Words, second_word};
+use crate::words::Words;
 use crate::{INPUT_LIMIT, MAX_PAGES};
 use bstr::{ByteSlice, Lines};
 use object_layout::{Call, MAX_THREADS};
@@ -49,17 +49,6 @@ pub fn is_silent(line: &[u8]) -> bool
     ensures { MatchBool result (IsSilent line.now) (IsSilent line.now → ⊥) }
 {
     Words::of(line).next().is_none() || line.first() == Some(&b'#')
-}
-
-/// The second word of a line that is neither empty nor a comment: where a command's word stands.
-pub fn command_word(line: &[u8]) -> Option<&[u8]>
-    ensures { MatchOption result ((word : List ℕ) → HasCommandWord line.now word → ⊥) (λ word. HasCommandWord line.now word.now) }
-{
-    if is_silent(line) {
-        None
-    } else {
-        second_word(line)
-    }
 }
 
 /// The thread and the call of a line, or none where the line is silent.

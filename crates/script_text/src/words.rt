@@ -1,5 +1,5 @@
 //! The words of a line.
-ghost use Rattle.std.specs.Prelude.{◌≡◌, ◌≢◌, ◌∷◌, ℕ, [], List, MatchOption, IfSome, length, ◌<◌};
+ghost use Rattle.std.specs.Prelude.{◌≡◌, ◌∷◌, ℕ, [], List, MatchOption, IfSome, length, ◌<◌};
 ghost use Rattle.script_text.specs.Words.{words, pieces};
 
 use std::marker::Model;
@@ -68,13 +68,4 @@ impl<'a> Words<'a> {
         self.rest = &[];
         Some(word)
     }
-}
-
-/// The second word of a line.
-pub(crate) fn second_word(line: &[u8]) -> Option<&[u8]>
-    ensures { MatchOption result ((first second : List ℕ) (rest : List (List ℕ)) → words line.now ≢ first ∷ second ∷ rest) (λ word. (first : List ℕ) × (rest : List (List ℕ)) × (words line.now ≡ first ∷ word.now ∷ rest)) }
-{
-    let mut words = Words::of(line);
-    words.next()?;
-    words.next()
 }

@@ -8,7 +8,6 @@ ghost use Rattle.std.specs.Prelude.{IfOk};
 ghost use Rattle.heap_words.specs.Map.{IsAreas};
 ghost use Rattle.sums_by_key.specs.Printed.{PrintsSums};
 
-mod epochs;
 mod lines;
 mod listing;
 mod sums;

@@ -7,10 +7,9 @@ ghost use Rattle.heap_tables.specs.declared.TheConstants.{MOST_MADE};
 ghost use Rattle.sums_by_key.specs.Held.{AreSummable, HoldsSums};
 ghost use Rattle.sums_by_key.specs.declared.lines.Line.{Line};
 
-use crate::epochs::{begin, end};
 use crate::lines::Line;
 use crate::{LINES, TABLE_SLOT};
-use heap_tables::add;
+use heap_tables::{add, begin, end};
 use object_layout::OutOfHeap;
 use yak_model::Caller;
 

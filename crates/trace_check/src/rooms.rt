@@ -39,7 +39,7 @@ fn inside(last: Option<Step>) -> Option<u8>
 }
 
 /// Whether a step may follow the last one: after a collection that was made inside a call only that call may.
-pub(crate) fn is_caused(last: Option<Step>, step: Step) -> bool
+fn is_caused(last: Option<Step>, step: Step) -> bool
     ensures { MatchBool result (IsCaused last step) (IsCaused last step → ⊥) }
 {
     match inside(last) {

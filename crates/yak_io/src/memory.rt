@@ -1,5 +1,5 @@
 //! A source and a sink in memory.
-ghost use Rattle.std.specs.Prelude.{◌≡◌, ◌∷◌, List, [], ℕ, ◌++◌, ◌+◌, ◌≤◌, Some, drop, IfOk, IsOk, IsErr, Contains, vec_len, vec_capacity, length, min, ◌<◌, ◌⊎◌, ◌↔◌, ◌^◌, ◌-◌};
+ghost use Rattle.std.specs.Prelude.{◌≡◌, [], ◌+◌, ◌≤◌, Some, drop, IfOk, IsOk, IsErr, Contains, vec_len, vec_capacity, length, min, ◌<◌, ◌⊎◌, ◌↔◌, ◌^◌, ◌-◌};
 ghost use Rattle.std.specs.Io.KnownBytes.{ReadConsumes, WriteAppends};
 ghost use Rattle.yak_io.specs.Causes.{HasCause};
 ghost use Rattle.std.specs.Io.{ReadsAtMost, WritesAtMost};

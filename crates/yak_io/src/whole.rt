@@ -1,5 +1,5 @@
 //! A whole input and a whole output.
-ghost use Rattle.std.specs.Prelude.{◌≡◌, ◌<◌, ◌≤◌, length, IfOk, IfSome, IsErrOf, OnOk, OnErr};
+ghost use Rattle.std.specs.Prelude.{◌<◌, ◌≤◌, length, IfOk, IfSome, IsErrOf, OnOk, OnErr};
 ghost use Rattle.std.specs.Io.KnownBytes.{Appends};
 ghost use Rattle.yak_io.specs.Causes.{Rose};
 ghost use Rattle.yak_io.specs.Transfers.{TookAll, TookFront};
