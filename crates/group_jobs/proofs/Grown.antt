@@ -1,22 +1,20 @@
 -- Own lists that grow.
-use Rattle.std.proofs.Common.{◌≡◌, inl, inr, ⊎_elim, ℕ, ◌<◌, ◌≤◌, Bool, true, false, cond, leb, MatchOption, List, [], ◌∷◌, ◌++◌, Option, None, Some, refl, sym, ap, ◌∙◌, subst, arith}
+use Rattle.std.proofs.Common.{zero, suc, ◌≡◌, inl, inr, ⊎_elim, ℕ, ◌+◌, ◌<◌, ◌≤◌, Bool, true, false, cond, List, [], ◌∷◌, ◌++◌, Option, None, Some, refl, sym, ap, ◌∙◌, subst, arith}
 use Rattle.std.specs.List.{All}
-use Rattle.std.proofs.lemmas.Bool.Decides.{nat_tests}
 use Rattle.std.proofs.lemmas.List.{append_assoc, append-nil}
 use Rattle.std.proofs.lemmas.List.Elements.{All-head, All-tail, filter-append}
 use Rattle.object_layout.specs.declared.calls.Call.{Call}
 use Rattle.object_layout.specs.declared.calls.Call.TheVariants as call
-use Rattle.object_layout.specs.declared.replies.Refusal.TheVariants as refusal
-use Rattle.object_layout.specs.declared.replies.Reply.{Reply}
 use Rattle.object_layout.specs.declared.replies.Reply.TheVariants as reply
 use Rattle.yak_model.specs.declared.history.Entry.{Entry}
 use Rattle.yak_model.specs.declared.history.Entry.TheVariants.{Said, Collected}
-use Rattle.yak_model.specs.Graph.{Does, Graph, Thread, answers, thread_of}
+use Rattle.yak_model.specs.Graph.{Thread}
 use Rattle.yak_model.specs.Private.{KnownObjects}
-use Rattle.yak_model.specs.Standing.{AddsEntries, Counted, MovesKnown, Standing, entries_of}
+use Rattle.yak_model.specs.Standing.{Standing, entries_of}
 use Rattle.heap_tables.specs.Adds.{AddRan, AddRanOut}
 use Rattle.heap_tables.specs.Runs.{GrowsPlainly, IsPlain, IsPlainEntry, Ran, RanOut}
-use Rattle.group_jobs.specs.Epochs.{GrowsBy, IsBegun, IsEnded, IsHalted, IsOneEpoch, IsWithin, bounds_in, is_bound}
+use Rattle.heap_tables.specs.Epochs.{GrowsBy, IsBegun, IsEnd}
+use Rattle.group_jobs.specs.Epochs.{AreEpochs, AreHalted, HaltsWithin, IsEnded, IsHalted, IsOneEpoch, IsWithin, MakesEpochs, bounds_in, is_bound}
 
 pub bounds_cat : (one two : List Entry) → bounds_in (one ++ two) ≡ bounds_in one ++ bounds_in two
 bounds_cat one two = filter-append is_bound one two
@@ -95,28 +93,16 @@ module _ {S B : Type 0} (base : S → B) (tells : S → ℕ → Thread → Type 
 
 -- ---- epochs
 
--- The end of an epoch that is open isn't refused.
-said_ended : (g h : Graph) (t : ℕ) (said : Reply) → 0 < (thread_of g t).depth → answers g t call.End said h → (moved : ℕ) × (tight : Bool) × (said ≡ reply.Ended moved tight)
-said_ended g h t said deep answer =
-    (subst (λ b. MatchOption (cond b (Some refusal.NoEpoch) None) (Does g t call.End said h) (λ why. (said ≡ reply.Refused why) × (h ≡ g))) (not_none (thread_of g t).depth deep) answer).0
+-- an end alone is one after nothing else
+end_ended : (t : ℕ) (x : List Entry) → IsEnd t x → IsEnded t x
+end_ended t x is = subst (IsEnded t) (sym is.3) (by is.0)
   where
-    not_none : (d : ℕ) → 0 < d → leb d 0 ≡ false
-    not_none d h = grind (arith, nat_tests)
+    by : (collected : Bool) → IsEnded t (entries_of collected t call.End (reply.Ended is.1 is.2))
+    by true = (Collected t ∷ [], is.1, is.2, refl, refl)
+    by false = ([], is.1, is.2, refl, refl)
 
-ended_entries : (t : ℕ) (said : Reply) (list after : Option (List Entry)) → (moved : ℕ) × (tight : Bool) × (said ≡ reply.Ended moved tight) → AddsEntries t call.End said list after → GrowsBy (IsEnded t) list after
-ended_entries t said None after ended adds = adds
-ended_entries t said (Some list) after ended adds = (entries_of adds.0 t call.End said, adds.1, by adds.0)
-  where
-    by : (collected : Bool) → IsEnded t (entries_of collected t call.End said)
-    by true = (Collected t ∷ [], ended.0, ended.1, refl, ap (λ s. Collected t ∷ Said t call.End s ∷ []) ended.2)
-    by false = ([], ended.0, ended.1, refl, ap (λ s. Said t call.End s ∷ []) ended.2)
-
-pub ended_list : (s after : Standing) (known : KnownObjects) (said : Reply) (own : Thread) (knows : KnownObjects → Type 0) → 0 < s.own.depth → Counted s call.End said after → MovesKnown s known call.End said own knows
-    → GrowsBy (IsEnded s.thread) s.list after.list
-ended_list s after known said own knows deep counted moves =
-    ended_entries s.thread said s.list after.list
-    (said_ended moves.before moves.later s.thread said (let d = ap (λ (o : Thread). o.depth) moves.own in omega arith) moves.moves.1)
-    counted.list
+pub end_list : (t : ℕ) (a b : Option (List Entry)) → GrowsBy (IsEnd t) a b → GrowsBy (IsEnded t) a b
+end_list t a b grows = grows_as (IsEnd t) (IsEnded t) (end_ended t) a b grows
 
 within_ended : (t : ℕ) (x y : List Entry) → IsWithin x → IsEnded t y → IsEnded t (x ++ y)
 within_ended t x y a b =
@@ -142,3 +128,51 @@ halted_within t u e a b c first last =
     grows_then IsWithin (IsHalted t) (IsHalted t)
     (λ x y x_is y_is. ⊎_elim (λ n. inl (within_cat x y x_is n)) (λ n. inr (bounds_cat x y ∙ (λ i. x_is i ++ n i))) y_is)
     a b c first (subst (λ v. GrowsBy (IsHalted v) b c) e last)
+
+-- ---- so many epochs
+
+-- one epoch more
+more_epochs : (t n : ℕ) (bounds : List Entry) (moved : ℕ) (tight : Bool) → AreEpochs t n bounds → AreEpochs t (suc n) (bounds ++ Said t call.Begin reply.Ok ∷ Said t call.End (reply.Ended moved tight) ∷ [])
+more_epochs t zero bounds moved tight e =
+    (moved, tight, [], ap (λ l. l ++ Said t call.Begin reply.Ok ∷ Said t call.End (reply.Ended moved tight) ∷ []) e, refl)
+more_epochs t (suc n) bounds moved tight e =
+    let last : List Entry = Said t call.Begin reply.Ok ∷ Said t call.End (reply.Ended moved tight) ∷ [] in
+    (e.0, e.1, e.2 ++ last, ap (λ l. l ++ last) e.3, more_epochs t n e.2 moved tight e.4)
+
+bounds_epoch : (t : ℕ) (more : List Entry) (one : IsOneEpoch t more) → bounds_in more ≡ Said t call.Begin reply.Ok ∷ Said t call.End (reply.Ended one.1.1 one.1.2) ∷ []
+bounds_epoch t more one =
+    ap bounds_in one.2
+    ∙ ap (λ l. Said t call.Begin reply.Ok ∷ bounds_in l) one.1.4
+    ∙ ap (λ l. Said t call.Begin reply.Ok ∷ l) (bounds_cat one.1.0 (Said t call.End (reply.Ended one.1.1 one.1.2) ∷ []) ∙ ap (λ l. l ++ Said t call.End (reply.Ended one.1.1 one.1.2) ∷ []) one.1.3)
+
+pub epochs_more : (t : ℕ) (was plain ready more now : List Entry) → ready ≡ was ++ plain → IsWithin plain → now ≡ ready ++ more → IsOneEpoch t more
+    → (k : ℕ) → AreEpochs t k (bounds_in was) → AreEpochs t (k + 1) (bounds_in now)
+epochs_more t was plain ready more now ready_is within now_is one k epochs =
+    let ready_bounds : bounds_in ready ≡ bounds_in was = ap bounds_in ready_is ∙ bounds_cat was plain ∙ ap (λ l. bounds_in was ++ l) within ∙ append-nil (bounds_in was) in
+    let now_bounds : bounds_in now ≡ bounds_in was ++ Said t call.Begin reply.Ok ∷ Said t call.End (reply.Ended one.1.1 one.1.2) ∷ [] =
+    ap bounds_in now_is ∙ bounds_cat ready more ∙ (λ i. ready_bounds i ++ bounds_epoch t more one i) in
+    let next : k + 1 ≡ suc k = omega arith in
+    subst (λ n. AreEpochs t n (bounds_in now)) (sym next) (subst (AreEpochs t (suc k)) (sym now_bounds) (more_epochs t k (bounds_in was) one.1.1 one.1.2 epochs))
+
+pub halted_bounds : (t : ℕ) (was more now : List Entry) → now ≡ was ++ more → IsHalted t more → (k : ℕ) → AreEpochs t k (bounds_in was) → AreHalted t k (bounds_in now)
+halted_bounds t was more now is halted k epochs =
+    let joined : bounds_in now ≡ bounds_in was ++ bounds_in more = ap bounds_in is ∙ bounds_cat was more in
+    ⊎_elim
+    (λ (none : bounds_in more ≡ []). inl (subst (AreEpochs t k) (sym (joined ∙ ap (λ l. bounds_in was ++ l) none ∙ append-nil (bounds_in was))) epochs))
+    (λ (one : bounds_in more ≡ Said t call.Begin reply.Ok ∷ []). inr (bounds_in was, epochs, joined ∙ ap (λ l. bounds_in was ++ l) one))
+    halted
+
+pub none_made : (t : ℕ) (list : Option (List Entry)) → GrowsBy (MakesEpochs t 0) list list
+none_made t None = refl
+none_made t (Some list) = ([], ap Some (sym (append-nil list)), refl)
+
+-- one epoch after others, which was begun after calls within none
+pub made_next : (t n : ℕ) (a b mid c : Option (List Entry)) → GrowsBy (MakesEpochs t n) a b → GrowsBy IsWithin b mid → GrowsBy (IsOneEpoch t) mid c → GrowsBy (MakesEpochs t (n + 1)) a c
+made_next t n a b mid c first within one =
+    grows_then (MakesEpochs t n) (λ more. (plain : List Entry) × (rest : List Entry) × IsWithin plain × IsOneEpoch t rest × (more ≡ plain ++ rest)) (MakesEpochs t (n + 1))
+    (λ x y x_is y_is. epochs_more t x y_is.0 (x ++ y_is.0) y_is.1 (x ++ y) refl y_is.2 (ap (λ l. x ++ l) y_is.4 ∙ sym (append_assoc x y_is.0 y_is.1)) y_is.3 n x_is) a b c first
+    (grows_then IsWithin (IsOneEpoch t) (λ more. (plain : List Entry) × (rest : List Entry) × IsWithin plain × IsOneEpoch t rest × (more ≡ plain ++ rest)) (λ x y x_is y_is. (x, y, x_is, y_is, refl)) b mid c within one)
+
+pub made_halted : (t n m : ℕ) → n < m → (a b c : Option (List Entry)) → GrowsBy (MakesEpochs t n) a b → GrowsBy (IsHalted t) b c → GrowsBy (HaltsWithin t m) a c
+made_halted t n m below a b c first last =
+    grows_then (MakesEpochs t n) (IsHalted t) (HaltsWithin t m) (λ x y x_is y_is. (n, below, halted_bounds t x y (x ++ y) refl y_is n x_is)) a b c first last

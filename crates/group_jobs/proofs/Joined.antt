@@ -5,7 +5,8 @@ use Rattle.yak_model.specs.Private.{KnownObjects}
 use Rattle.yak_model.specs.Standing.{Standing, Stays, counted_on}
 use Rattle.object_layout.specs.declared.TheConstants.{OBJECT_WORDS}
 use Rattle.heap_tables.specs.Runs.{Ran, RanOut}
-use Rattle.group_jobs.specs.Goings.{Makes, Went, WentOut}
+use Rattle.heap_tables.specs.Epochs.{Makes, Went}
+use Rattle.group_jobs.specs.Goings.{WentOut}
 
 counted-cases : (a b c v w M : ℕ) → min (b + 0) M ≡ min (a + v) M → min (c + 0) M ≡ min (b + w) M → min (c + 0) M ≡ min (a + (v + w)) M
 counted-cases a b c v w M r q = omega (arith, r, q)

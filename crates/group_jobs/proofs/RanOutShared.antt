@@ -29,12 +29,12 @@ use Rattle.safepoint_gate.specs.declared.rule.View.{View}
 use Rattle.safepoint_gate.specs.declared.seats.Away.{Away}
 use Rattle.mutator.specs.Finishing.{Finishes}
 use Rattle.group_jobs.specs.Dealings.{tasks_at}
-use Rattle.group_jobs.specs.Epochs.{AreEpochs, bounds_in}
+use Rattle.group_jobs.specs.Epochs.{AreEpochs, AreHalted, bounds_in}
 use Rattle.group_jobs.specs.Followed.{entry_made, made_in}
 use Rattle.group_jobs.specs.Tallies.{busy_tasks, tasks_room}
 use Rattle.group_jobs.specs.Tasks.{AreTasks}
 use Rattle.group_jobs.specs.Shared.{RanOutShared}
-use Rattle.group_jobs.specs.Workers.{AllCountedBy, AreHalted, AreSeats, SomeRefused}
+use Rattle.group_jobs.specs.Workers.{AllCountedBy, AreSeats, SomeRefused}
 use Rattle.group_jobs.specs.declared.shares.Worker.{Worker}
 use Rattle.group_jobs.specs.declared.tasks.Task.{Task}
 use Rattle.group_jobs.proofs.Dealing.{dealt_room_within}

@@ -20,12 +20,12 @@ use Rattle.safepoint_gate.specs.Seats.{IsOf}
 use Rattle.safepoint_gate.specs.Steps.{first_calls, first_thread}
 use Rattle.mutator.specs.declared.resting.Resting.{Resting}
 use Rattle.mutator.specs.Callers.{first_past}
-use Rattle.group_jobs.specs.Epochs.{AreEpochs, bounds_in}
+use Rattle.group_jobs.specs.Epochs.{AreEpochs, AreHalted, bounds_in}
 use Rattle.group_jobs.specs.Followed.{Follows, IsSettled, made_in}
 use Rattle.group_jobs.specs.Shared.{HasEpoch}
 use Rattle.group_jobs.specs.Tallies.{AreShort, busy_tasks, is_busy, new_total, task_room, tasks_room, words_in, words_room}
 use Rattle.group_jobs.specs.Tasks.{task_bytes}
-use Rattle.group_jobs.specs.Workers.{AreHalted, AreSmall, CountsTask, HaltsTask, HasCounted, HasRefused, IsAtRest, IsGoing, IsThere, ReadsTotal, exact_most, own_of}
+use Rattle.group_jobs.specs.Workers.{AreSmall, CountsTask, HaltsTask, HasCounted, HasRefused, IsAtRest, IsGoing, IsThere, ReadsTotal, exact_most, own_of}
 use Rattle.group_jobs.specs.declared.shares.Worker.{Worker}
 use Rattle.group_jobs.specs.declared.tasks.Task.{Task}
 use Rattle.group_jobs.specs.declared.TheConstants.{MOST_WORDS, OBJECTS_FOR_WORD}

@@ -14,10 +14,10 @@ use Rattle.safepoint_gate.specs.Steps.{first_calls, first_thread}
 use Rattle.mutator.specs.declared.resting.Resting.{Resting}
 use Rattle.mutator.specs.Finishing.{Finishes}
 use Rattle.group_jobs.specs.Dealings.{tasks_at}
-use Rattle.group_jobs.specs.Epochs.{bounds_in}
+use Rattle.group_jobs.specs.Epochs.{AreHalted, bounds_in}
 use Rattle.group_jobs.specs.Followed.{made_in}
 use Rattle.group_jobs.specs.Tallies.{tasks_room}
-use Rattle.group_jobs.specs.Workers.{AllCountedBy, AreHalted, AreSeats, HasRefused, IsThere, SomeRefused, own_of}
+use Rattle.group_jobs.specs.Workers.{AllCountedBy, AreSeats, HasRefused, IsThere, SomeRefused, own_of}
 use Rattle.group_jobs.specs.declared.shares.Worker.{Worker}
 use Rattle.group_jobs.specs.declared.tasks.Task.{Task}
 use Rattle.group_jobs.proofs.Hired.{element}

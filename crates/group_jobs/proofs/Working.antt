@@ -1,7 +1,6 @@
 -- A thread that counted the words of one more task.
-use Rattle.std.proofs.Common.{zero, suc, ◌≡◌, inl, inr, ⊎_elim, ℕ, ◌+◌, ◌-◌, ◌^◌, ◌<◌, ◌≤◌, min, Bool, true, false, cond, eqb, List, [], ◌∷◌, ◌++◌, length, get_or, refl, sym, ap, ◌∙◌, subst, arith, Option, None, Some, Result, Ok, Err}
+use Rattle.std.proofs.Common.{◌≡◌, ⊎_elim, ℕ, ◌+◌, ◌-◌, ◌^◌, ◌<◌, ◌≤◌, min, Bool, true, false, cond, eqb, List, [], ◌∷◌, ◌++◌, length, get_or, refl, sym, ap, ◌∙◌, subst, arith, Option, None, Some, Result, Ok, Err}
 use Rattle.std.specs.List.{Contains}
-use Rattle.std.proofs.lemmas.List.{append-nil}
 use Rattle.std.proofs.lemmas.List.Sums.{sum_by-cons}
 use Rattle.std.proofs.Math.Logic.{∥∥₁_elim, ∥∥₁_map}
 use Rattle.std.proofs.Math.Nat.{ℕ_set}
@@ -25,15 +24,14 @@ use Rattle.safepoint_gate.specs.declared.rule.Own.{Own}
 use Rattle.safepoint_gate.specs.Steps.{first_calls, first_thread}
 use Rattle.mutator.specs.Callers.{first_past, first_told, standing_shared}
 use Rattle.heap_tables.specs.Runs.{slot_in}
-use Rattle.group_jobs.specs.Epochs.{AreEpochs, GrowsBy, IsHalted, IsOneEpoch, IsWithin, bounds_in}
+use Rattle.heap_tables.specs.Epochs.{GrowsBy}
 use Rattle.group_jobs.specs.Followed.{Follows, IsSettled, KnowsOwn, entry_refused, refused_in}
 use Rattle.group_jobs.specs.Listing.{IsSmallTally}
 use Rattle.group_jobs.specs.Tallies.{IsProgress, new_total}
 use Rattle.group_jobs.specs.declared.TheConstants.{MOST_WORDS, TOTAL_SLOT}
-use Rattle.group_jobs.specs.Workers.{AreHalted, HasRefused, IsAtRest, exact_most}
+use Rattle.group_jobs.specs.Workers.{HasRefused, IsAtRest, exact_most}
 use Rattle.group_jobs.proofs.Depths.{names_in, same_thread}
 use Rattle.group_jobs.proofs.TaskEpochs.{settled_made, told_settled}
-use Rattle.group_jobs.proofs.Grown.{bounds_cat}
 
 -- ---- lists that grew
 
@@ -42,39 +40,6 @@ same_list a b e = cc
 
 pub grown : (kind : List Entry → Type 0) (was now : List Entry) → GrowsBy kind (Some was) (Some now) → (more : List Entry) × (now ≡ was ++ more) × kind more
 grown kind was now grows = (grows.0, same_list now (was ++ grows.0) grows.1, grows.2)
-
--- ---- epochs
-
--- one epoch more
-more_epochs : (t n : ℕ) (bounds : List Entry) (moved : ℕ) (tight : Bool) → AreEpochs t n bounds → AreEpochs t (suc n) (bounds ++ Said t call.Begin reply.Ok ∷ Said t call.End (reply.Ended moved tight) ∷ [])
-more_epochs t zero bounds moved tight e =
-    (moved, tight, [], ap (λ l. l ++ Said t call.Begin reply.Ok ∷ Said t call.End (reply.Ended moved tight) ∷ []) e, refl)
-more_epochs t (suc n) bounds moved tight e =
-    let last : List Entry = Said t call.Begin reply.Ok ∷ Said t call.End (reply.Ended moved tight) ∷ [] in
-    (e.0, e.1, e.2 ++ last, ap (λ l. l ++ last) e.3, more_epochs t n e.2 moved tight e.4)
-
-bounds_epoch : (t : ℕ) (more : List Entry) (one : IsOneEpoch t more) → bounds_in more ≡ Said t call.Begin reply.Ok ∷ Said t call.End (reply.Ended one.1.1 one.1.2) ∷ []
-bounds_epoch t more one =
-    ap bounds_in one.2
-    ∙ ap (λ l. Said t call.Begin reply.Ok ∷ bounds_in l) one.1.4
-    ∙ ap (λ l. Said t call.Begin reply.Ok ∷ l) (bounds_cat one.1.0 (Said t call.End (reply.Ended one.1.1 one.1.2) ∷ []) ∙ ap (λ l. l ++ Said t call.End (reply.Ended one.1.1 one.1.2) ∷ []) one.1.3)
-
-pub epochs_more : (t : ℕ) (was plain ready more now : List Entry) → ready ≡ was ++ plain → IsWithin plain → now ≡ ready ++ more → IsOneEpoch t more
-    → (k : ℕ) → AreEpochs t k (bounds_in was) → AreEpochs t (k + 1) (bounds_in now)
-epochs_more t was plain ready more now ready_is within now_is one k epochs =
-    let ready_bounds : bounds_in ready ≡ bounds_in was = ap bounds_in ready_is ∙ bounds_cat was plain ∙ ap (λ l. bounds_in was ++ l) within ∙ append-nil (bounds_in was) in
-    let now_bounds : bounds_in now ≡ bounds_in was ++ Said t call.Begin reply.Ok ∷ Said t call.End (reply.Ended one.1.1 one.1.2) ∷ [] =
-    ap bounds_in now_is ∙ bounds_cat ready more ∙ (λ i. ready_bounds i ++ bounds_epoch t more one i) in
-    let next : k + 1 ≡ suc k = omega arith in
-    subst (λ n. AreEpochs t n (bounds_in now)) (sym next) (subst (AreEpochs t (suc k)) (sym now_bounds) (more_epochs t k (bounds_in was) one.1.1 one.1.2 epochs))
-
-pub halted_bounds : (t : ℕ) (was more now : List Entry) → now ≡ was ++ more → IsHalted t more → (k : ℕ) → AreEpochs t k (bounds_in was) → AreHalted t k (bounds_in now)
-halted_bounds t was more now is halted k epochs =
-    let joined : bounds_in now ≡ bounds_in was ++ bounds_in more = ap bounds_in is ∙ bounds_cat was more in
-    ⊎_elim
-    (λ (none : bounds_in more ≡ []). inl (subst (AreEpochs t k) (sym (joined ∙ ap (λ l. bounds_in was ++ l) none ∙ append-nil (bounds_in was))) epochs))
-    (λ (one : bounds_in more ≡ Said t call.Begin reply.Ok ∷ []). inr (bounds_in was, epochs, joined ∙ ap (λ l. bounds_in was ++ l) one))
-    halted
 
 -- ---- the words of what was made
 

@@ -1,5 +1,5 @@
 -- The epochs in a thread's own list, and what runs of calls add to it.
-use Rattle.std.specs.Prelude.{◌≡◌, ◌⊎◌, ℕ, zero, suc, Bool, true, false, List, [], ◌∷◌, ◌++◌, filter, Option, None, Some}
+use Rattle.std.specs.Prelude.{◌≡◌, ◌⊎◌, ◌<◌, ℕ, zero, suc, Bool, true, false, List, [], ◌∷◌, ◌++◌, filter}
 use Rattle.object_layout.specs.declared.calls.Call.TheVariants as call
 use Rattle.object_layout.specs.declared.replies.Reply.TheVariants as reply
 use Rattle.yak_model.specs.declared.history.Entry.{Entry}
@@ -20,20 +20,15 @@ AreEpochs t zero bounds = bounds ≡ []
 AreEpochs t (suc n) bounds =
     (moved : ℕ) × (tight : Bool) × (rest : List Entry) × (bounds ≡ Said t call.Begin reply.Ok ∷ Said t call.End (reply.Ended moved tight) ∷ rest) × AreEpochs t n rest
 
--- ---- what is added
+-- After so many epochs there may be one that was begun and not ended.
+abbrev pub AreHalted : ℕ → ℕ → List Entry → Type 0
+AreHalted t n bounds = AreEpochs t n bounds ⊎ ((former : List Entry) × AreEpochs t n former × (bounds ≡ former ++ Said t call.Begin reply.Ok ∷ []))
 
--- The own list, where it is told, grew by entries of this kind.
-abbrev pub GrowsBy : (List Entry → Type 0) → Option (List Entry) → Option (List Entry) → Type 0
-GrowsBy kind None after = after ≡ None
-GrowsBy kind (Some list) after = (more : List Entry) × (after ≡ Some (list ++ more)) × kind more
+-- ---- what is added
 
 -- None of them begins or ends an epoch.
 abbrev pub IsWithin : List Entry → Type 0
 IsWithin more = bounds_in more ≡ []
-
--- The thread began an epoch.
-abbrev pub IsBegun : ℕ → List Entry → Type 0
-IsBegun t more = more ≡ Said t call.Begin reply.Ok ∷ []
 
 -- The last call ended an epoch.
 abbrev pub IsEnded : ℕ → List Entry → Type 0
@@ -47,3 +42,11 @@ IsOneEpoch t more = (inside : List Entry) × IsEnded t inside × (more ≡ Said 
 -- The thread began an epoch at most, and ended none.
 abbrev pub IsHalted : ℕ → List Entry → Type 0
 IsHalted t more = (bounds_in more ≡ []) ⊎ (bounds_in more ≡ Said t call.Begin reply.Ok ∷ [])
+
+-- The thread began and ended so many epochs, one after the other.
+abbrev pub MakesEpochs : ℕ → ℕ → List Entry → Type 0
+MakesEpochs t n more = AreEpochs t n (bounds_in more)
+
+-- It did so with fewer, and may have begun one more.
+abbrev pub HaltsWithin : ℕ → ℕ → List Entry → Type 0
+HaltsWithin t n more = (k : ℕ) × (k < n) × AreHalted t k (bounds_in more)

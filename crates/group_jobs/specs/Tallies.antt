@@ -15,7 +15,8 @@ use Rattle.yak_model.specs.Tables.{IsCountTable, Link}
 use Rattle.yak_model.specs.Texts.{word_counts, words_of}
 use Rattle.heap_tables.specs.Adds.{AreAfter, IsNowhere}
 use Rattle.heap_tables.specs.Runs.{next_of, slot_in, stack_in}
-use Rattle.group_jobs.specs.Epochs.{GrowsBy, IsOneEpoch, IsWithin}
+use Rattle.heap_tables.specs.Epochs.{GrowsBy}
+use Rattle.group_jobs.specs.Epochs.{IsOneEpoch, IsWithin}
 use Rattle.group_jobs.specs.Tasks.{task_bytes}
 use Rattle.group_jobs.specs.declared.tasks.Task.{Task}
 use Rattle.group_jobs.specs.declared.TheConstants.{MOST_WORDS, PART_SLOT, TOTAL_SLOT}

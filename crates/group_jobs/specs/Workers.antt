@@ -1,5 +1,5 @@
 -- The workers of a count, and what each of them leaves.
-use Rattle.std.specs.Prelude.{◌≡◌, ◌⊎◌, ℕ, ◌+◌, ◌*◌, ◌-◌, ◌^◌, ◌<◌, ◌≤◌, ◌||◌, Bool, true, cond, List, [], ◌∷◌, ◌++◌, length, map, slice_index_or, Option, None, Some}
+use Rattle.std.specs.Prelude.{◌≡◌, ℕ, ◌+◌, ◌*◌, ◌-◌, ◌^◌, ◌<◌, ◌≤◌, ◌||◌, Bool, true, cond, List, [], ◌∷◌, ◌++◌, length, map, slice_index_or, Option, None, Some}
 use Rattle.std.specs.List.{Contains, range_with_len, slice_get}
 use Rattle.std.specs.Option.{ForSome}
 use Rattle.object_layout.specs.declared.calls.Call.TheVariants as call
@@ -27,7 +27,7 @@ use Rattle.mutator.specs.Callers.{first_past, first_told, standing_shared}
 use Rattle.task_feed.specs.Dealt.{IsDealt}
 use Rattle.task_feed.specs.Shares.{share_of}
 use Rattle.group_jobs.specs.Dealings.{tasks_at}
-use Rattle.group_jobs.specs.Epochs.{AreEpochs, bounds_in}
+use Rattle.group_jobs.specs.Epochs.{AreEpochs, AreHalted, bounds_in}
 use Rattle.group_jobs.specs.Followed.{IsSettled, KnowsOwn, made_in, refused_in}
 use Rattle.group_jobs.specs.Shared.{HasEpoch, IsCountedDealt, TellsWhyShared}
 use Rattle.group_jobs.specs.Tallies.{AreShort, IsProgress, is_busy, new_total, task_room, tasks_room, words_in}
@@ -56,10 +56,6 @@ HasRest own has more = (done : List (List ℕ)) × IsAtRest own has done × (len
 -- A call for an object on the list was out of heap.
 abbrev pub HasRefused : ℕ → List Entry → Type 0
 HasRefused t list = (k : ℕ) × Contains list (Said t (call.New k) reply.OutOfHeap)
-
--- After so many epochs there may be one that was begun and not ended.
-abbrev pub AreHalted : ℕ → ℕ → List Entry → Type 0
-AreHalted t n bounds = AreEpochs t n bounds ⊎ ((former : List Entry) × AreEpochs t n former × (bounds ≡ former ++ Said t call.Begin reply.Ok ∷ []))
 
 -- the most words of objects that are counted exactly
 abbrev pub exact_most : ℕ

@@ -4,7 +4,6 @@
 mod count;
 mod counted;
 mod dealers;
-mod epochs;
 mod feeding;
 mod followed;
 mod laws;

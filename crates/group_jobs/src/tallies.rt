@@ -9,17 +9,17 @@ ghost use Rattle.yak_model.specs.Standing.{Standing};
 ghost use Rattle.yak_model.specs.Texts.{words_of};
 ghost use Rattle.heap_tables.specs.declared.TheConstants.{MOST_MADE};
 ghost use Rattle.heap_tables.specs.Runs.{KeepsKnown, KnowsSome, next_of, stack_in};
-ghost use Rattle.group_jobs.specs.Epochs.{GrowsBy, IsHalted, IsOneEpoch, IsWithin};
-ghost use Rattle.group_jobs.specs.Goings.{Went, WentOut};
+ghost use Rattle.heap_tables.specs.Epochs.{GrowsBy, Went};
+ghost use Rattle.group_jobs.specs.Epochs.{HaltsWithin, IsHalted, IsOneEpoch, IsWithin, MakesEpochs};
+ghost use Rattle.group_jobs.specs.Goings.{WentOut};
 ghost use Rattle.group_jobs.specs.Tallies.{AreShort, CountsEpoch, HasProgress, HasTallies, HasTally, IsProgress, KeepsPlace, KnowsPart, KnowsProgress, KnowsTallies, KnowsTally, Tallies, Tally, AreWithin, is_busy, new_total, part_room, task_room, tasks_room, words_in, words_room};
 ghost use Rattle.group_jobs.specs.Tasks.{task_bytes};
 ghost use Rattle.group_jobs.specs.declared.TheConstants.{MOST_WORDS, OBJECTS_FOR_WORD, PART_SLOT, TOTAL_SLOT};
 
-use crate::epochs::{begin, drop_top, end};
 use crate::tasks::Task;
 use crate::words::Words;
 use crate::{PART_SLOT, TOTAL_SLOT};
-use heap_tables::{add, make, merge};
+use heap_tables::{add, begin, end, make, merge, pop};
 use object_layout::OutOfHeap;
 use yak_model::Caller;
 
@@ -85,7 +85,7 @@ fn close_part<C: Caller>(caller: &mut C) -> Result<(), OutOfHeap>
     ensures out { OnErr result ((known : KnownObjects) (name : Name) (done doing : List (List ℕ)) → C.knows caller.old known → Tallies (C.standing caller.old) known name done doing → length done + length doing ≤ MOST_WORDS → WentOut C.base C.tells C.tells_known C.standing caller.old caller.new (C.standing caller.old).own.depth (entry_words * length doing)) }
 {
     merge(caller, PART_SLOT, TOTAL_SLOT)?;
-    drop_top(caller);
+    pop(caller);
     Ok(())
 }
 
@@ -213,6 +213,8 @@ pub(crate) fn count_tasks<C: Caller>(
     ensures depth { OnOk result ((C.standing caller.new).own.depth ≡ 0) }
     ensures has { IfOk result (λ has. has ≡ is_busy (words_in bytes.now tasks.now)) }
     ensures counted { IfOk result (λ has. (known : KnownObjects) → C.knows caller.old known → KnowsProgress has (C.standing caller.old) known (C.standing caller.new) (C.knows caller.new) (words_in bytes.now tasks.now)) }
+    ensures epochs { OnOk result (GrowsBy (MakesEpochs (C.standing caller.old).thread (length tasks.now)) (C.standing caller.old).list (C.standing caller.new).list) }
+    ensures halted { OnErr result (GrowsBy (HaltsWithin (C.standing caller.old).thread (length tasks.now)) (C.standing caller.old).list (C.standing caller.new).list) }
     ensures out { OnErr result (WentOut C.base C.tells C.tells_known C.standing caller.old caller.new 1 (table_words + tasks_room bytes.now tasks.now)) }
 {
     let mut has_total = false;

@@ -11,7 +11,7 @@ use crate::{
     CountError, Counted, INPUT_LIMIT, TOTAL_SLOT, Words, count_fed, count_many, count_one,
     cut_tasks, long_word, print_counts, sort_counts,
 };
-use heap_tables::{Cursor, Entry, add, make, next_entry};
+use heap_tables::{Cursor, Entry, add, count_of, make, next_entry};
 use heap_words::{MAX_PAGES, MAX_THREADS};
 use object_layout::{NoMemory, OutOfHeap, WORD_LIMIT};
 use std::alloc::Global;
@@ -150,6 +150,17 @@ fn walk_on<C: Caller>(alloc: Global, caller: &mut C, at: Cursor) -> Result<Optio
     next_entry(alloc, caller, TOTAL_SLOT, at)
 }
 
+/// The count of a word in that table.
+fn look<C: Caller>(caller: &mut C, word: &[u8]) -> Option<u64>
+    requires table { HasTableWalk (C.standing caller.old) (C.knows caller.old) TOTAL_SLOT }
+    requires word { length word.now ≤ WORD_LIMIT }
+    requires slots { length (stack_in (C.standing caller.old)) ≡ PART_SLOT }
+    ensures table { HasTableWalk (C.standing caller.new) (C.knows caller.new) TOTAL_SLOT }
+    ensures slots { length (stack_in (C.standing caller.new)) ≡ PART_SLOT }
+{
+    count_of(caller, TOTAL_SLOT, word)
+}
+
 #[test]
 fn walks_through_a_table(rt: HostRuntime) -> Result<(), Fail> {
     let alloc = rt.alloc();
@@ -168,6 +179,8 @@ fn walks_through_a_table(rt: HostRuntime) -> Result<(), Fail> {
     };
     assert_eq!(rt; entry.word.as_slice(), b"a".as_slice());
     assert_eq!(rt; entry.count, 2);
+    assert_eq!(rt; look(&mut caller, b"a"), Some(2));
+    assert_eq!(rt; look(&mut caller, b"b"), None);
     let Ok(None) = walk_on(alloc, &mut caller, entry.next) else {
         panic!(rt; "no end");
     };

@@ -17,9 +17,10 @@ use Rattle.object_layout.specs.declared.replies.Reply.TheVariants as reply
 use Rattle.yak_model.specs.declared.datum.Datum.{Datum}
 use Rattle.yak_model.specs.declared.datum.Datum.TheVariants as datum
 use Rattle.yak_model.specs.Graph.{Content, Does, Fields, Graph, IsThread, Thread, idle, is_reference, fields_at, fields_or_none, next_name, put_field, refusal_of, shown, slot_of, stack_of, thread_of, with_object, with_thread}
-use Rattle.yak_model.specs.Private.{IsMade, KnownObjects, OwnCall, StoresKnown}
+use Rattle.yak_model.specs.Private.{GivesAway, IsKnown, IsMade, KnownObjects, OwnCall, StoresKnown}
 use Rattle.yak_model.specs.Standing.{Standing, MovesKnown}
 use Rattle.heap_tables.specs.Runs.{IsInSlot, stack_in, slot_in, pushed, popped, without_top, next_of, IsShown}
+use Rattle.heap_tables.specs.Asides.{LacksValue}
 
 leb_false : (a b : ℕ) → b < a → leb a b ≡ false
 leb_false a b h = grind (arith, nat_tests)
@@ -193,7 +194,7 @@ module _ (s : Standing) (known : KnownObjects) (said : Reply) (own : Thread) (kn
       let d : Does m.before s.thread (call.Store i f x) said m.later = unrefused _ _ _ free m.moves.1 in
       sym m.own_later ∙ ap (λ g. thread_of g s.thread) (d.1 ∙ ap (λ v. put_field m.before v f (slot_of m.before s.thread x)) (slot_before s known _ said own knows m i ∙ slot.0)) ∙ m.own
 
-  store_does : (i f x : ℕ) → (m : MovesKnown s known (call.Store i f x) said own knows)
+  pub store_does : (i f x : ℕ) → (m : MovesKnown s known (call.Store i f x) said own knows)
       → (name : Name) (values : List Datum) → IsInSlot s known i name values → f < length values → x < length (stack_in s)
       → said ≡ reply.Ok
   store_does i f x m name values slot bound there =
@@ -216,6 +217,18 @@ module _ (s : Standing) (known : KnownObjects) (said : Reply) (own : Thread) (kn
       (subst (λ v. StoresKnown known (datum.Object name) f v after) (sym (slot_before s known _ said own knows m x)) stores) in
       m.known_later after
       (λ _. subst (λ r. OwnCall m.before s.thread known (call.Store i f x) r after) (sym (store_does i f x m name values slot bound there)) there_too, λ h. absurd (h refl))
+
+  -- a store into an object that isn't of the map
+  pub store_aside : (i f x : ℕ) → MovesKnown s known (call.Store i f x) said own knows → said ≡ reply.Ok → (name : Name) → slot_in s i ≡ datum.Object name → LacksValue known (slot_in s i)
+      → (after : KnownObjects) → GivesAway known (slot_in s x) after → knows after
+  store_aside i f x m ok name slot lacks after gives =
+      let absent : IsKnown known name → ⊥ = subst (LacksValue known) slot lacks in
+      let stores : StoresKnown known (datum.Object name) f (slot_in s x) after = (λ h. absurd (absent h), λ _. gives) in
+      let there : StoresKnown known (slot_of m.before s.thread i) f (slot_of m.before s.thread x) after =
+      subst (λ v. StoresKnown known v f (slot_of m.before s.thread x) after) (sym (slot_before s known _ said own knows m i ∙ slot))
+      (subst (λ v. StoresKnown known (datum.Object name) f v after) (sym (slot_before s known _ said own knows m x)) stores) in
+      m.known_later after
+      (λ _. subst (λ r. OwnCall m.before s.thread known (call.Store i f x) r after) (sym ok) there, λ h. absurd (h refl))
 
   made_one : Thread → Thread
   made_one o = record o { stack = o.stack ++ datum.Object (record { thread = s.thread; serial = o.made + 1 }) ∷ []; made = o.made + 1 }

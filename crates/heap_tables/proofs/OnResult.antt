@@ -25,3 +25,11 @@ err_both (Err e) P Q h k = (h, k)
 pub on_err : {A B : Type 0} (r : Result A B) (P : Type 0) → P → OnErr r P
 on_err (Ok x) P h = tt
 on_err (Err e) P h = h
+
+pub ok_three : {A B : Type 0} (r : Result A B) (P Q R : Type 0) → OnOk r P → OnOk r Q → OnOk r R → OnOk r (P × Q × R)
+ok_three (Ok x) P Q R h k l = (h, k, l)
+ok_three (Err e) P Q R h k l = tt
+
+pub err_three : {A B : Type 0} (r : Result A B) (P Q R : Type 0) → OnErr r P → OnErr r Q → OnErr r R → OnErr r (P × Q × R)
+err_three (Ok x) P Q R h k l = tt
+err_three (Err e) P Q R h k l = (h, k, l)

@@ -4,6 +4,7 @@ use Rattle.yak_model.specs.declared.TheConstants.{BUCKETS}
 use Rattle.std.proofs.lemmas.Bool.{cases_lt}
 use Rattle.std.proofs.lemmas.List.{append-nil}
 use Rattle.std.specs.FinMap.{get}
+use Rattle.std.specs.List.{Contains}
 use Rattle.object_layout.specs.declared.TheConstants.{MAX_INT}
 use Rattle.object_layout.specs.declared.names.Name.{Name}
 use Rattle.yak_model.specs.declared.datum.Datum.{Datum}
@@ -14,11 +15,13 @@ use Rattle.yak_model.specs.Standing.{Standing}
 use Rattle.yak_model.specs.Tables.{AreDifferent, AreInBucket, IsChain, IsCountTable, IsKey, IsTable, LacksWord, Link, bucket_of}
 use Rattle.yak_model.specs.Texts.{WordCounts}
 use Rattle.heap_tables.specs.Adds.{AddsCount, IsAddedTo, IsNoEntry, KeepsOthers, MayAdd, StayNowhere, having_made, with_bucket}
+use Rattle.heap_tables.specs.Asides.{LacksChain, LacksLinks}
 use Rattle.heap_tables.specs.Counted.{count_of, or_zero, raised}
 use Rattle.heap_tables.specs.Merges.{AreSlots, AreSums, Goes, IsEntryAt, IsMerge, IsMerged, IsShare, KeepsUntouched, Merge, MergesEntry, MergesLink, MergesLinks, SharesLink, SharesNone, Stops, done_at, news, one_if_none, raised_by, walk, with_shared}
 use Rattle.heap_tables.specs.Reads.{AreShort}
 use Rattle.heap_tables.specs.Runs.{Ran, RanOut, next_of}
 use Rattle.heap_tables.specs.Walks.{IsApart, IsAtChain}
+use Rattle.heap_tables.proofs.Asides.{lacks_bucket}
 use Rattle.heap_tables.proofs.Counted.{added_counts, bucket_small, count_found, count_other}
 use Rattle.heap_tables.proofs.Entries.{key_no_entry}
 use Rattle.heap_tables.proofs.Fitting.{chain_short}
@@ -234,8 +237,8 @@ few_step now word n links adds c = elim (eqb_cases (bucket_of word) c) [
 ]
 
 pub merged_step : (m : Merge) (is : IsMerge m) (done : List Link) (knows : KnownObjects → Type 0) (d : IsMerged m is done knows) (word : List ℕ) (n : ℕ) (link : Link) → word ≡ link.word → n ≡ link.count
-    → (after : KnownObjects → Type 0) (added : IsAddedTo d.after word n m.into_name (d.into_table).buckets after) → SharesLink link ((d.into_table).buckets (bucket_of word)) added.links → IsMerged m is (done ++ link ∷ []) after
-merged_step m is done knows d word n link e f after added shares =
+    → (after : KnownObjects → Type 0) (added : IsAddedTo d.after word n m.into_name (d.into_table).buckets after) → SharesLink link ((d.into_table).buckets (bucket_of word)) added.links → ((other : KnownObjects) → Contains m.others other → after other × LacksLinks other added.links) → IsMerged m is (done ++ link ∷ []) after
+merged_step m is done knows d word n link e f after added shares asides =
     record {
       after = added.after;
       known_now = added.known_now;
@@ -252,13 +255,26 @@ merged_step m is done knows d word n link e f after added shares =
           let now = (d.into_table).buckets in
           merges_more done link (is.into_table).buckets now (with_bucket now (bucket_of word) added.links) d.entries
           (added.links, ap (λ w. with_bucket now (bucket_of w) added.links) e, subst (λ w. SharesLink link (now (bucket_of w)) added.links) e shares);
+      others_known = λ other has. (asides other has).0;
+      aside = λ other has. lacks_bucket other m.into_name (d.into_table).buckets (bucket_of word) added.links (d.aside other has) (asides other has).1;
     }
 
-pub merged_as : (m : Merge) (is : IsMerge m) (done : List Link) (knows after : KnownObjects → Type 0) (d : IsMerged m is done knows) → after d.after → IsMerged m is done after
-merged_as m is done knows after d k = record { after = d.after; known_now = k; counts = d.counts; counts_are = d.counts_are; into_table = d.into_table; untouched = d.untouched; few = d.few; entries = d.entries }
+pub merged_as : (m : Merge) (is : IsMerge m) (done : List Link) (knows after : KnownObjects → Type 0) (d : IsMerged m is done knows) → after d.after → ((other : KnownObjects) → Contains m.others other → after other) → IsMerged m is done after
+merged_as m is done knows after d k others = record {
+  after = d.after;
+  known_now = k;
+  counts = d.counts;
+  counts_are = d.counts_are;
+  into_table = d.into_table;
+  untouched = d.untouched;
+  few = d.few;
+  entries = d.entries;
+  others_known = others;
+  aside = d.aside;
+}
 
-pub merged_none : (m : Merge) (is : IsMerge m) (knows : KnownObjects → Type 0) → knows m.known → IsMerged m is [] knows
-merged_none m is knows k = record {
+pub merged_none : (m : Merge) (is : IsMerge m) (knows : KnownObjects → Type 0) → knows m.known → ((other : KnownObjects) → Contains m.others other → knows other) → IsMerged m is [] knows
+merged_none m is knows k others = record {
   after = m.known;
   known_now = k;
   counts = m.counts;
@@ -267,7 +283,12 @@ merged_none m is knows k = record {
   untouched = λ other h ne away. (refl, away);
   few = λ c h. omega arith;
   entries = refl;
+  others_known = others;
+  aside = is.into_aside;
 }
+
+pub from_lacks : (m : Merge) (is : IsMerge m) (b : ℕ) → b < BUCKETS → (other : KnownObjects) → Contains m.others other → LacksChain other m.from_name (m.buckets b)
+from_lacks m is b bound other has = let lacks = is.from_aside other has in (lacks.head, lacks.links b bound)
 
 -- the word may be added
 pub may_merge : (s : Standing) (into : ℕ) (m : Merge) (is : IsMerge m) (b p : ℕ) (knows : KnownObjects → Type 0) (d : IsMerged m is (done_at m.buckets b p) knows) → b < BUCKETS → p < 2 ^ 32 → length (walk m.buckets b) ≤ b * 2 ^ 32
@@ -453,7 +474,7 @@ module _ (m : Merge) (is : IsMerge m) (b p : ℕ) (bound : b < BUCKETS) (knows :
   -- a new entry with the key of the other table's entry
   pub shared_now : (word : List ℕ) (n : ℕ) (link : Link) (rest : List Link) → IsEntryAt m b p word n link rest → LacksWord word ((d.into_table).buckets (bucket_of word)) → (s : Standing) → get d.after (next_of s) ≡ None
       → (after : KnownObjects → Type 0) → after (with_shared s d.after m.into_name (d.into_table).heads b link.key n)
-      → (added : IsAddedTo d.after word n m.into_name (d.into_table).buckets after) × SharesLink link ((d.into_table).buckets (bucket_of word)) added.links
+      → (both : ((added : IsAddedTo d.after word n m.into_name (d.into_table).buckets after) × SharesLink link ((d.into_table).buckets (bucket_of word)) added.links)) × ((both.0).links ≡ record { entry = next_of s; key = link.key; word = word; count = n } ∷ (d.into_table).buckets (bucket_of word))
   shared_now word n link rest at lacks s fresh after k =
       let f = from_now in
       let t = (d.into_table).table in
@@ -465,7 +486,7 @@ module _ (m : Merge) (is : IsMerge m) (b p : ℕ) (bound : b < BUCKETS) (knows :
       let r = shared_table d.after m.into_name (d.into_table).heads now t word n b home bound (subst (λ c. LacksWord word (now c)) home lacks)
       link.key (next_of s) fresh key (λ e. apart_link m.into_name p (m.buckets b) rest link apart at.0 (sym e)) after k in
       let entry_now : ℕ → List ℕ → Link = λ k w. record { entry = next_of s; key = link.key; word = w; count = k } in
-      (r.0, inr (subst (λ w. LacksWord w (now (bucket_of word))) at.1 lacks, (next_of s, r.1 ∙ ap (λ c. entry_now n word ∷ now c) (sym home) ∙ ap (λ w. entry_now n w ∷ now (bucket_of word)) at.1 ∙ ap (λ k. entry_now k link.word ∷ now (bucket_of word)) at.2)))
+      ((r.0, inr (subst (λ w. LacksWord w (now (bucket_of word))) at.1 lacks, (next_of s, r.1 ∙ ap (λ c. entry_now n word ∷ now c) (sym home) ∙ ap (λ w. entry_now n w ∷ now (bucket_of word)) at.1 ∙ ap (λ k. entry_now k link.word ∷ now (bucket_of word)) at.2))), r.1 ∙ ap (λ c. entry_now n word ∷ now c) (sym home))
 
 module _ {S B : Type 0} (base : S → B) (tells : S → ℕ → Thread → Type 0) (tells_known : S → ℕ → KnownObjects → Type 0) (standing : S → Standing) (m : Merge) (is : IsMerge m) (b p : ℕ) (x y : S) (knows : KnownObjects → Type 0) where
   pub merges_end : (more : Bool) → more ≡ false → MergesEntry base tells tells_known standing m is b p more x y knows → (drop p (m.buckets b) ≡ []) × Goes base tells tells_known standing m is (done_at m.buckets b p) (done_at m.buckets b p) x y knows

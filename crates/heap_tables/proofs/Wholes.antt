@@ -4,6 +4,7 @@ use Rattle.yak_model.specs.declared.TheConstants.{BUCKETS}
 use Rattle.std.proofs.lemmas.Bool.{cases_lt}
 use Rattle.std.specs.Cmp.Lexicographic.{nat_list_cmp_total, slice_cmp}
 use Rattle.std.specs.Ordering.{nat_cmp}
+use Rattle.std.specs.List.{Contains}
 use Rattle.std.specs.FinMap.{empty_of_len, get, get-empty, get-remove, len, len-remove, remove}
 use Rattle.object_layout.specs.declared.names.Name.{Name}
 use Rattle.yak_model.specs.Graph.{Thread}
@@ -12,6 +13,7 @@ use Rattle.yak_model.specs.Standing.{Standing}
 use Rattle.yak_model.specs.Tables.{AreDifferent, AreInBucket, HasCount, IsCountTable, LacksWord, Link, bucket_of}
 use Rattle.yak_model.specs.Texts.{WordCounts}
 use Rattle.heap_tables.specs.Adds.{IsNoEntry}
+use Rattle.heap_tables.specs.Asides.{LacksTable}
 use Rattle.heap_tables.specs.Counted.{count_of, or_zero, raised}
 use Rattle.heap_tables.specs.Merges.{AreSums, Goes, IsMerge, IsMergedPart, IsMergedWhole, MayMerge, Merge, Stops, SharesNone, raised_by, sum_of, walk}
 use Rattle.heap_tables.proofs.Counted.{bucket_small, count_other, count_same, not_none, word_tie}
@@ -89,80 +91,85 @@ module _ (s : Standing) (known : KnownObjects) (from into : ℕ) (from_name into
   pub few_short : (b : ℕ) (bound : b < BUCKETS) → AreSums into_counts ((may.from_table).buckets b)
   few_short b bound = sums_rest b bound [] ((may.from_table).buckets b) refl
 
-  abbrev pub merge_of : Merge
-  merge_of = record {
-    known = known;
-    from_name = from_name;
-    into_name = into_name;
-    heads = (may.from_table).heads;
-    buckets = (may.from_table).buckets;
-    counts = into_counts;
-  }
+  -- with other maps that have no object of either table
+  module _ (others : List KnownObjects) (asides : (other : KnownObjects) → Contains others other → LacksTable other from_name (may.from_table).buckets × LacksTable other into_name (may.into_table).buckets) where
+    abbrev pub merge_of : Merge
+    merge_of = record {
+      known = known;
+      from_name = from_name;
+      into_name = into_name;
+      heads = (may.from_table).heads;
+      buckets = (may.from_table).buckets;
+      counts = into_counts;
+      others = others;
+    }
 
-  abbrev pub is_merge : IsMerge merge_of
-  is_merge = record {
-    from_table = (may.from_table).table;
-    into_table = may.into_table;
-    different = may.different;
-    apart = may.apart;
-    from_few = may.from_few;
-    into_few = may.into_few;
-    sums = few_short;
-  }
+    abbrev pub is_merge : IsMerge merge_of
+    is_merge = record {
+      from_table = (may.from_table).table;
+      into_table = may.into_table;
+      different = may.different;
+      apart = may.apart;
+      from_few = may.from_few;
+      into_few = may.into_few;
+      sums = few_short;
+      from_aside = λ other has. (asides other has).0;
+      into_aside = λ other has. (asides other has).1;
+    }
 
-  module _ {S B : Type 0} (base : S → B) (tells : S → ℕ → Thread → Type 0) (tells_known : S → ℕ → KnownObjects → Type 0) (standing : S → Standing) (x y : S) (knows : KnownObjects → Type 0) where
-    pub merged_whole : Goes base tells tells_known standing merge_of is_merge [] (walk (may.from_table).buckets BUCKETS) x y knows → IsMergedWhole base tells tells_known standing known from_name into_name from_counts into_counts (may.from_table).buckets (may.into_table).buckets x y knows
-    merged_whole goes =
-        let d = goes.merged in record {
-          later = d.after;
-          known_now = d.known_now;
-          from_table = record {
-            heads = (may.from_table).heads;
-            buckets = (may.from_table).buckets;
-            table = from_stays merge_of is_merge d.after (d.into_table).buckets d.untouched;
-            counted = (may.from_table).counted;
-            absent = (may.from_table).absent;
-          };
-          sums = d.counts;
-          into_table = d.into_table;
-          sums_are = λ w. ap (λ cs. get cs w) d.counts_are ∙ whole_sum known from_name from_counts may.from_table into_counts w;
-          from_same = refl;
-          untouched = d.untouched;
-          entries = d.entries;
-          made = goes.made;
-          new_words = let e = goes.new_words in omega (arith, e);
-          ran = goes.ran;
-          own = goes.own;
-        }
+    module _ {S B : Type 0} (base : S → B) (tells : S → ℕ → Thread → Type 0) (tells_known : S → ℕ → KnownObjects → Type 0) (standing : S → Standing) (x y : S) (knows : KnownObjects → Type 0) where
+      pub merged_whole : Goes base tells tells_known standing merge_of is_merge [] (walk (may.from_table).buckets BUCKETS) x y knows → IsMergedWhole base tells tells_known standing known from_name into_name from_counts into_counts (may.from_table).buckets (may.into_table).buckets x y knows
+      merged_whole goes =
+          let d = goes.merged in record {
+            later = d.after;
+            known_now = d.known_now;
+            from_table = record {
+              heads = (may.from_table).heads;
+              buckets = (may.from_table).buckets;
+              table = from_stays merge_of is_merge d.after (d.into_table).buckets d.untouched;
+              counted = (may.from_table).counted;
+              absent = (may.from_table).absent;
+            };
+            sums = d.counts;
+            into_table = d.into_table;
+            sums_are = λ w. ap (λ cs. get cs w) d.counts_are ∙ whole_sum known from_name from_counts may.from_table into_counts w;
+            from_same = refl;
+            untouched = d.untouched;
+            entries = d.entries;
+            made = goes.made;
+            new_words = let e = goes.new_words in omega (arith, e);
+            ran = goes.ran;
+            own = goes.own;
+          }
 
-    pub merged_part : Stops base tells tells_known standing merge_of is_merge [] x y knows → IsMergedPart base tells tells_known standing known from_name into_name from_counts into_counts (may.from_table).buckets (may.into_table).buckets x y knows
-    merged_part stops =
-        let d = stops.merged in record {
-          done = stops.later;
-          link = stops.link;
-          rest = stops.rest;
-          parts = stops.parts;
-          absent = raised_none into_counts (stops.link).word stops.later stops.absent;
-          later = d.after;
-          known_now = d.known_now;
-          from_table = record {
-            heads = (may.from_table).heads;
-            buckets = (may.from_table).buckets;
-            table = from_stays merge_of is_merge d.after (d.into_table).buckets d.untouched;
-            counted = (may.from_table).counted;
-            absent = (may.from_table).absent;
-          };
-          counts = d.counts;
-          into_table = d.into_table;
-          counts_are = d.counts_are;
-          from_same = refl;
-          untouched = d.untouched;
-          entries = d.entries;
-          made = stops.made;
-          new_words = let e = stops.new_words in omega (arith, e);
-          ran_out = stops.ran_out;
-          own = stops.own;
-        }
+      pub merged_part : Stops base tells tells_known standing merge_of is_merge [] x y knows → IsMergedPart base tells tells_known standing known from_name into_name from_counts into_counts (may.from_table).buckets (may.into_table).buckets x y knows
+      merged_part stops =
+          let d = stops.merged in record {
+            done = stops.later;
+            link = stops.link;
+            rest = stops.rest;
+            parts = stops.parts;
+            absent = raised_none into_counts (stops.link).word stops.later stops.absent;
+            later = d.after;
+            known_now = d.known_now;
+            from_table = record {
+              heads = (may.from_table).heads;
+              buckets = (may.from_table).buckets;
+              table = from_stays merge_of is_merge d.after (d.into_table).buckets d.untouched;
+              counted = (may.from_table).counted;
+              absent = (may.from_table).absent;
+            };
+            counts = d.counts;
+            into_table = d.into_table;
+            counts_are = d.counts_are;
+            from_same = refl;
+            untouched = d.untouched;
+            entries = d.entries;
+            made = stops.made;
+            new_words = let e = stops.new_words in omega (arith, e);
+            ran_out = stops.ran_out;
+            own = stops.own;
+          }
 
 -- ---- what a caller can use
 

@@ -34,6 +34,15 @@ pub record MayCount (s : Standing) (known : KnownObjects) (table : ℕ) (word : 
 abbrev pub HasCountTable : Standing → (KnownObjects → Type 0) → ℕ → List ℕ → ℕ → Type 0
 HasCountTable s knows table word n = (known : KnownObjects) × (name : Name) × (counts : WordCounts) × knows known × MayCount s known table word n name counts
 
+-- A slot refers to a table of these counts in a known map, and the bucket of the word has not too many words.
+pub record MayLook (s : Standing) (known : KnownObjects) (table : ℕ) (word : List ℕ) (name : Name) (counts : WordCounts) : Type 0 where
+  pub slot : slot_in s table ≡ datum.Object name
+  pub is_table : IsCountTable known name counts
+  pub short : length (is_table.buckets (bucket_of word)) < 2 ^ 32
+
+abbrev pub HasTableLook : Standing → (KnownObjects → Type 0) → ℕ → List ℕ → Type 0
+HasTableLook s knows table word = (known : KnownObjects) × (name : Name) × (counts : WordCounts) × knows known × MayLook s known table word name counts
+
 -- Nothing was made for a word that is counted, and a key and an entry for another.
 abbrev pub MakesUncounted : Standing → Standing → WordCounts → List ℕ → Type 0
 MakesUncounted s after counts word =

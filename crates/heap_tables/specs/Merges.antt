@@ -1,6 +1,7 @@
 -- What a merge of two tables leaves.
 use Rattle.std.specs.Prelude.{◌≡◌, ◌≢◌, ℕ, ◌+◌, ◌*◌, ◌^◌, ◌<◌, ◌≤◌, ◌⊎◌, zero, suc, Bool, true, false, List, [], ◌∷◌, ◌++◌, drop, length, slice_index_or, slice_set, take, Option, None, Some}
 use Rattle.std.specs.FinMap as finite
+use Rattle.std.specs.List.{Contains}
 use Rattle.object_layout.specs.declared.TheConstants.{MAX_INT}
 use Rattle.object_layout.specs.declared.names.Name.{Name}
 use Rattle.yak_model.specs.declared.TheConstants.{BUCKETS, ENTRY_FIELDS}
@@ -12,6 +13,7 @@ use Rattle.yak_model.specs.Room.{entry_words}
 use Rattle.yak_model.specs.Standing.{Standing}
 use Rattle.yak_model.specs.Tables.{IsCountTable, IsTable, LacksWord, Link, bucket_of}
 use Rattle.yak_model.specs.Texts.{WordCounts}
+use Rattle.heap_tables.specs.Asides.{LacksTable}
 use Rattle.heap_tables.specs.Adds.{IsNoEntry, IsNowhere, having_made, with_bucket, with_fields}
 use Rattle.heap_tables.specs.Counted.{count_of, or_zero, raised}
 use Rattle.heap_tables.specs.Runs.{IsInSlot, Ran, RanOut, next_of, slot_in}
@@ -94,7 +96,7 @@ abbrev pub news : WordCounts → List Link → ℕ
 news counts [] = 0
 news counts (link ∷ links) = one_if_none (finite.get counts link.word) + news (raised counts link.word link.count) links
 
--- a table whose counts are to be added, as a known map has it, and one that gets them, with its counts
+-- a table whose counts are to be added, as a known map has it, and one that gets them, with its counts; and other maps
 pub record Merge : Type 0 where
   pub known : KnownObjects
   pub from_name : Name
@@ -102,8 +104,10 @@ pub record Merge : Type 0 where
   pub heads : List Datum
   pub buckets : ℕ → List Link
   pub counts : WordCounts
+  pub others : List KnownObjects
 
--- The tables are two, which share no entry, with few words whose sums aren't too large.
+-- The tables are two, which share no entry, with few words whose sums aren't too large. The other maps have no object of
+-- either.
 pub record IsMerge (m : Merge) : Type 0 where
   pub from_table : IsTable m.known m.from_name m.heads m.buckets
   pub into_table : IsCountTable m.known m.into_name m.counts
@@ -112,6 +116,8 @@ pub record IsMerge (m : Merge) : Type 0 where
   pub from_few : (b : ℕ) → b < BUCKETS → length (m.buckets b) < 2 ^ 32
   pub into_few : (b : ℕ) → b < BUCKETS → length (into_table.buckets b) < 2 ^ 32
   pub sums : (b : ℕ) → b < BUCKETS → AreSums m.counts (m.buckets b)
+  pub from_aside : (other : KnownObjects) → Contains m.others other → LacksTable other m.from_name m.buckets
+  pub into_aside : (other : KnownObjects) → Contains m.others other → LacksTable other m.into_name into_table.buckets
 
 -- Slots refer to the two tables.
 abbrev pub AreSlots : Standing → ℕ → ℕ → Merge → Type 0
@@ -122,7 +128,7 @@ abbrev pub KeepsUntouched : KnownObjects → Name → (ℕ → List Link) → Kn
 KeepsUntouched known name buckets after later =
     (other : Name) → IsKnown known other → other ≢ name → IsNowhere other buckets → (finite.get after other ≡ finite.get known other) × IsNowhere other later
 
--- A known map has the counts of these entries added, and nothing else.
+-- A known map has the counts of these entries added, and nothing else. The other maps are known.
 pub record IsMerged (m : Merge) (is : IsMerge m) (done : List Link) (knows : KnownObjects → Type 0) : Type 0 where
   pub after : KnownObjects
   pub known_now : knows after
@@ -132,6 +138,8 @@ pub record IsMerged (m : Merge) (is : IsMerge m) (done : List Link) (knows : Kno
   pub untouched : KeepsUntouched m.known m.into_name (is.into_table).buckets after into_table.buckets
   pub few : (c : ℕ) → c < BUCKETS → length (into_table.buckets c) ≤ length ((is.into_table).buckets c) + length done
   pub entries : MergesLinks done (is.into_table).buckets into_table.buckets
+  pub others_known : (other : KnownObjects) → Contains m.others other → knows other
+  pub aside : (other : KnownObjects) → Contains m.others other → LacksTable other m.into_name into_table.buckets
 
 -- Calls were made between, which added the counts of the entries that are done later, and made an entry for each new word.
 pub record Goes {S B : Type 0} (base : S → B) (tells : S → ℕ → Thread → Type 0) (tells_known : S → ℕ → KnownObjects → Type 0) (standing : S → Standing) (m : Merge) (is : IsMerge m) (done later : List Link) (a b : S) (knows : KnownObjects → Type 0) : Type 0 where

@@ -11,6 +11,7 @@ ghost use Rattle.heap_tables.specs.declared.TheConstants.{FREE_SLOTS, KEY_BYTES}
 ghost use Rattle.heap_tables.specs.declared.chains.TheConstants.{LOOKS};
 ghost use Rattle.heap_tables.specs.declared.chains.Look.TheVariants as look;
 ghost use Rattle.heap_tables.specs.Walks.{HasLinks, IsAtChain, IsClimbed, IsPassed, Looked, HasWalk, IsApart, Walked, Found};
+ghost use Rattle.heap_tables.specs.Asides.{LacksChain};
 
 use crate::keys::{group, is_key};
 use crate::steps::{load, pop, pop_all, store, try_load};
@@ -92,6 +93,7 @@ fn look_on<C: Caller>(
     ensures ran { Ran C.base C.tells C.tells_known C.standing caller.old caller.new 0 }
     ensures own { (C.standing caller.new).own ≡ (C.standing caller.old).own }
     ensures passed { (known : KnownObjects) (name : Name) (values : List Datum) (links : List Link) → C.knows caller.old known → IsAtChain (C.standing caller.old) known table bucket name values links → IsApart name links → IsPassed known name values bucket word.now links result (C.knows caller.new) }
+    ensures aside { (known : KnownObjects) (name : Name) (values : List Datum) (links : List Link) (other : KnownObjects) → C.knows caller.old known → IsAtChain (C.standing caller.old) known table bucket name values links → IsApart name links → C.knows caller.old other → LacksChain other name links → C.knows caller.new other }
 {
     load(caller, table, bucket);
     let (said, n) = climb(caller, word, first, top);
@@ -116,6 +118,7 @@ fn walk<C: Caller>(
     requires top { length (stack_in (C.standing caller.old)) ≡ top }
     ensures ran { Ran C.base C.tells C.tells_known C.standing caller.old caller.new 0 }
     ensures walked { (known : KnownObjects) (name : Name) (values : List Datum) (links : List Link) → C.knows caller.old known → IsAtChain (C.standing caller.old) known table bucket name values links → IsApart name links → length links < 2 ^ 63 → Walked (C.standing caller.old) known name values bucket word.now links result (C.standing caller.new).own (C.knows caller.new) }
+    ensures aside { (known : KnownObjects) (name : Name) (values : List Datum) (links : List Link) (other : KnownObjects) → C.knows caller.old known → IsAtChain (C.standing caller.old) known table bucket name values links → IsApart name links → C.knows caller.old other → LacksChain other name links → C.knows caller.new other }
 {
     for i in 0..u64::MAX {
         match look_on(caller, table, bucket, word, first, top) {
@@ -145,6 +148,7 @@ pub(crate) fn find<C: Caller>(
     ensures ran { Ran C.base C.tells C.tells_known C.standing caller.old caller.new 0 }
     ensures found { (known : KnownObjects) (name : Name) (values : List Datum) (links : List Link) → C.knows caller.old known → IsAtChain (C.standing caller.old) known table bucket name values links → IsApart name links → length links < 2 ^ 63 → Found (C.standing caller.old).own (slice_index_or values bucket datum.Null) word.now links result (C.standing caller.new).own }
     ensures known { (known : KnownObjects) (name : Name) (values : List Datum) (links : List Link) → C.knows caller.old known → IsAtChain (C.standing caller.old) known table bucket name values links → IsApart name links → length links < 2 ^ 63 → C.knows caller.new known }
+    ensures aside { (known : KnownObjects) (name : Name) (values : List Datum) (links : List Link) (other : KnownObjects) → C.knows caller.old known → IsAtChain (C.standing caller.old) known table bucket name values links → IsApart name links → length links < 2 ^ 63 → C.knows caller.old other → LacksChain other name links → C.knows caller.new other }
 {
     load(caller, table, bucket);
     let found = walk(caller, table, bucket, word, group(word, 0), top + 1);

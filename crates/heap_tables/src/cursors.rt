@@ -11,6 +11,7 @@ ghost use Rattle.heap_tables.specs.Cursors.{HasFew, HasTableWalk, IsFound, IsNex
 ghost use Rattle.heap_tables.specs.Reads.{HasShortWalk};
 ghost use Rattle.heap_tables.specs.Runs.{Ran, stack_in};
 ghost use Rattle.heap_tables.specs.Walks.{IsApart, IsAtChain};
+ghost use Rattle.heap_tables.specs.Asides.{LacksChain, LacksTable};
 
 use crate::KEY_BYTES;
 use crate::reading::take_entry;
@@ -72,6 +73,7 @@ fn visit<C: Caller>(
     ensures own { (C.standing caller.new).own ≡ (C.standing caller.old).own }
     ensures buffer { length buffer.new ≡ length buffer.old }
     ensures visited { (known : KnownObjects) (name : Name) (values : List Datum) (links : List Link) → C.knows caller.old known → IsAtChain (C.standing caller.old) known table bucket name values links → IsApart name links → IsVisited at bucket links result buffer.new × C.knows caller.new known }
+    ensures aside { (known : KnownObjects) (name : Name) (values : List Datum) (links : List Link) (other : KnownObjects) → C.knows caller.old known → IsAtChain (C.standing caller.old) known table bucket name values links → IsApart name links → C.knows caller.old other → LacksChain other name links → C.knows caller.new other }
 {
     let place = start_in(at, bucket);
     match take_entry(caller, table, bucket, place, buffer, top) {
@@ -104,6 +106,7 @@ fn find_next<C: Caller>(
     ensures own { (C.standing caller.new).own ≡ (C.standing caller.old).own }
     ensures buffer { length buffer.new ≡ length buffer.old }
     ensures found { (known : KnownObjects) (name : Name) (counts : WordCounts) (may : MayWalk (C.standing caller.old) known table name counts) → C.knows caller.old known → IsFound (may.is_table).buckets at result buffer.new × C.knows caller.new known }
+    ensures aside { (known : KnownObjects) (name : Name) (counts : WordCounts) (may : MayWalk (C.standing caller.old) known table name counts) (other : KnownObjects) → C.knows caller.old known → C.knows caller.old other → LacksTable other name (may.is_table).buckets → C.knows caller.new other }
 {
     for bucket in u32::from(at.bucket)..BUCKETS as u32 {
         match visit(caller, table, at, bucket, buffer, top) {
@@ -141,6 +144,7 @@ pub fn next_entry<C: Caller>(
     ensures ran { Ran C.base C.tells C.tells_known C.standing caller.old caller.new 0 }
     ensures own { (C.standing caller.new).own ≡ (C.standing caller.old).own }
     ensures kept { (known : KnownObjects) (name : Name) (counts : WordCounts) → C.knows caller.old known → MayWalk (C.standing caller.old) known table name counts → C.knows caller.new known }
+    ensures aside { (known : KnownObjects) (name : Name) (counts : WordCounts) (may : MayWalk (C.standing caller.old) known table name counts) (other : KnownObjects) → C.knows caller.old known → C.knows caller.old other → LacksTable other name (may.is_table).buckets → C.knows caller.new other }
     ensures next { IfOk result (λ found. (known : KnownObjects) (name : Name) (counts : WordCounts) (may : MayWalk (C.standing caller.old) known table name counts) → C.knows caller.old known → IsNextEntry counts (may.is_table).buckets at found) }
 {
     let top = stack_size(caller);

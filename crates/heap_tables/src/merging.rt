@@ -1,11 +1,12 @@
 //! The merge of two tables.
-ghost use Rattle.std.specs.Prelude.{◌≡◌, ℕ, ◌+◌, ◌*◌, ◌^◌, ◌<◌, ◌≤◌, [], List, length, None, OnOk, OnErr, IfOk};
+ghost use Rattle.std.specs.Prelude.{◌≡◌, ℕ, ◌+◌, ◌*◌, ◌^◌, ◌<◌, ◌≤◌, [], List, length, None, OnOk, OnErr, IfOk, slice_index_or};
 ghost use Rattle.std.specs.FinMap as finite;
 ghost use Rattle.object_layout.specs.declared.TheConstants.{MAX_INT, MAX_SERIAL};
 ghost use Rattle.object_layout.specs.declared.names.Name.{Name};
 ghost use Rattle.yak_model.specs.declared.TheConstants.{BUCKETS, ENTRY_FIELDS, STACK_SLOTS};
 ghost use Rattle.yak_model.specs.declared.datum.Datum.{Datum};
-ghost use Rattle.yak_model.specs.Private.{KnownObjects};
+ghost use Rattle.yak_model.specs.declared.datum.Datum.TheVariants as datum;
+ghost use Rattle.yak_model.specs.Private.{KnownObjects, IsKnown};
 ghost use Rattle.yak_model.specs.Room.{entry_words};
 ghost use Rattle.yak_model.specs.Tables.{Link};
 ghost use Rattle.yak_model.specs.Texts.{WordCounts};
@@ -14,6 +15,7 @@ ghost use Rattle.heap_tables.specs.Adds.{having_made};
 ghost use Rattle.heap_tables.specs.Merges.{AreSlots, Goes, HasEntryFor, HasMerged, HasMerging, HasNextEntry, HasShare, HasTables, IsEntryAt, IsMerge, IsMerged, IsMergedPart, IsMergedWhole, IsShare, MayMerge, Merge, MergesEntry, Stops, done_at, walk, with_shared};
 ghost use Rattle.heap_tables.specs.Runs.{IsInSlot, KeepsKnown, Ran, RanOut, next_of, stack_in};
 ghost use Rattle.heap_tables.specs.Walks.{IsEntryInSlot};
+ghost use Rattle.heap_tables.specs.Asides.{LacksChain, LacksTable, LacksValue};
 
 use crate::KEY_BYTES;
 use crate::reading::take_entry;
@@ -40,6 +42,7 @@ fn share_key<C: Caller>(
     ensures ran { OnOk result (Ran C.base C.tells C.tells_known C.standing caller.old caller.new entry_words) }
     ensures own { OnOk result ((C.standing caller.new).own ≡ having_made (C.standing caller.old).own 1) }
     ensures shared { OnOk result ((known : KnownObjects) (name : Name) (heads : List Datum) (next : Datum) (link : Link) → C.knows caller.old known → IsInSlot (C.standing caller.old) known into name heads → bucket < length heads → IsEntryInSlot (C.standing caller.old) known entry next link → C.knows caller.new (with_shared (C.standing caller.old) known name heads bucket link.key n) × (finite.get known (next_of (C.standing caller.old)) ≡ None)) }
+    ensures aside { OnOk result ((known : KnownObjects) (name : Name) (heads : List Datum) (next : Datum) (link : Link) (other : KnownObjects) → C.knows caller.old known → IsInSlot (C.standing caller.old) known into name heads → bucket < length heads → IsEntryInSlot (C.standing caller.old) known entry next link → C.knows caller.old other → (IsKnown other name → ⊥) → LacksValue other (slice_index_or heads bucket datum.Null) → (IsKnown other link.key → ⊥) → C.knows caller.new other × (finite.get other (next_of (C.standing caller.old)) ≡ None)) }
     ensures same { OnErr result ((C.standing caller.new).own ≡ (C.standing caller.old).own) }
     ensures keeps { OnErr result (KeepsKnown (C.knows caller.old) (C.knows caller.new)) }
     ensures ran_out { OnErr result (RanOut C.base C.tells C.tells_known C.standing caller.old caller.new 0 ENTRY_FIELDS) }
@@ -71,6 +74,8 @@ fn share<C: Caller>(
     ensures ran { OnOk result (Ran C.base C.tells C.tells_known C.standing caller.old caller.new entry_words) }
     ensures own { OnOk result ((C.standing caller.new).own ≡ having_made (C.standing caller.old).own 1) }
     ensures shared { OnOk result ((known : KnownObjects) (from_name into_name : Name) (values heads : List Datum) (links : List Link) (link : Link) (rest : List Link) → C.knows caller.old known → IsShare (C.standing caller.old) known from into bucket place from_name into_name values heads links link rest → C.knows caller.new (with_shared (C.standing caller.old) known into_name heads bucket link.key n) × (finite.get known (next_of (C.standing caller.old)) ≡ None)) }
+    ensures aside { OnOk result ((known : KnownObjects) (from_name into_name : Name) (values heads : List Datum) (links : List Link) (link : Link) (rest : List Link) (other : KnownObjects) → C.knows caller.old known → IsShare (C.standing caller.old) known from into bucket place from_name into_name values heads links link rest → C.knows caller.old other → LacksChain other from_name links → (IsKnown other into_name → ⊥) → LacksValue other (slice_index_or heads bucket datum.Null) → C.knows caller.new other × (finite.get other (next_of (C.standing caller.old)) ≡ None)) }
+    ensures left { OnErr result ((known : KnownObjects) (from_name into_name : Name) (values heads : List Datum) (links : List Link) (link : Link) (rest : List Link) (other : KnownObjects) → C.knows caller.old known → IsShare (C.standing caller.old) known from into bucket place from_name into_name values heads links link rest → C.knows caller.old other → LacksChain other from_name links → C.knows caller.new other) }
     ensures same { OnErr result ((C.standing caller.new).own ≡ (C.standing caller.old).own) }
     ensures kept { OnErr result ((known : KnownObjects) (from_name into_name : Name) (values heads : List Datum) (links : List Link) (link : Link) (rest : List Link) → C.knows caller.old known → IsShare (C.standing caller.old) known from into bucket place from_name into_name values heads links link rest → C.knows caller.new known) }
     ensures ran_out { OnErr result (RanOut C.base C.tells C.tells_known C.standing caller.old caller.new 0 ENTRY_FIELDS) }
@@ -206,6 +211,7 @@ pub fn merge<C: Caller>(caller: &mut C, from: u32, into: u32) -> Result<(), OutO
     requires room { length (stack_in (C.standing caller.old)) + FREE_SLOTS ≤ STACK_SLOTS }
     ensures merged { OnOk result ((known : KnownObjects) (from_name into_name : Name) (from_counts into_counts : WordCounts) (may : MayMerge (C.standing caller.old) known from into from_name into_name from_counts into_counts) → C.knows caller.old known → IsMergedWhole C.base C.tells C.tells_known C.standing known from_name into_name from_counts into_counts (may.from_table).buckets (may.into_table).buckets caller.old caller.new (C.knows caller.new)) }
     ensures stopped { OnErr result ((known : KnownObjects) (from_name into_name : Name) (from_counts into_counts : WordCounts) (may : MayMerge (C.standing caller.old) known from into from_name into_name from_counts into_counts) → C.knows caller.old known → IsMergedPart C.base C.tells C.tells_known C.standing known from_name into_name from_counts into_counts (may.from_table).buckets (may.into_table).buckets caller.old caller.new (C.knows caller.new)) }
+    ensures aside { (known : KnownObjects) (from_name into_name : Name) (from_counts into_counts : WordCounts) (may : MayMerge (C.standing caller.old) known from into from_name into_name from_counts into_counts) (other : KnownObjects) → C.knows caller.old known → C.knows caller.old other → LacksTable other from_name (may.from_table).buckets → LacksTable other into_name (may.into_table).buckets → C.knows caller.new other }
 {
     let top = stack_size(caller);
     let mut buffer = [0; KEY_BYTES];

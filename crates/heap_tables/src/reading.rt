@@ -10,6 +10,7 @@ ghost use Rattle.heap_tables.specs.Keys.{IsKeyInSlot};
 ghost use Rattle.heap_tables.specs.Reads.{AreShort, HasKeyByte, HasShortEntry, HasShortKey, HasShortWalk, IsCopied, Took};
 ghost use Rattle.heap_tables.specs.Runs.{KeepsKnown, Ran, stack_in};
 ghost use Rattle.heap_tables.specs.Walks.{IsApart, IsAtChain, IsEntryInSlot};
+ghost use Rattle.heap_tables.specs.Asides.{LacksChain};
 
 use crate::seek::seek;
 use crate::steps::{field_int, load, pop, slot_is_null};
@@ -100,6 +101,7 @@ pub(crate) fn take_entry<C: Caller>(
     ensures own { (C.standing caller.new).own ≡ (C.standing caller.old).own }
     ensures buffer { length buffer.new ≡ length buffer.old }
     ensures took { (known : KnownObjects) (name : Name) (values : List Datum) (links : List Link) → C.knows caller.old known → IsAtChain (C.standing caller.old) known table bucket name values links → IsApart name links → Took (drop place links) result buffer.new × C.knows caller.new known }
+    ensures aside { (known : KnownObjects) (name : Name) (values : List Datum) (links : List Link) (other : KnownObjects) → C.knows caller.old known → IsAtChain (C.standing caller.old) known table bucket name values links → IsApart name links → C.knows caller.old other → LacksChain other name links → C.knows caller.new other }
 {
     seek(caller, table, bucket, place, top);
     if slot_is_null(caller, top + 1) {

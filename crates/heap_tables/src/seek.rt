@@ -9,6 +9,7 @@ ghost use Rattle.yak_model.specs.Tables.{Link};
 ghost use Rattle.heap_tables.specs.Runs.{KeepsKnown, Ran, pushed, stack_in};
 ghost use Rattle.heap_tables.specs.Walks.{HasChain, HasWalk, IsApart, IsAtChain};
 ghost use Rattle.heap_tables.specs.Seeks.{IsSkipped, Passed, first_of};
+ghost use Rattle.heap_tables.specs.Asides.{LacksChain};
 
 use crate::steps::{copy_field, load, pop, slot_is_null, store};
 use yak_model::Caller;
@@ -21,6 +22,7 @@ fn pass<C: Caller>(caller: &mut C, table: u32, bucket: u32, top: u32) -> bool
     ensures ran { Ran C.base C.tells C.tells_known C.standing caller.old caller.new 0 }
     ensures own { (C.standing caller.new).own ≡ (C.standing caller.old).own }
     ensures passed { (known : KnownObjects) (name : Name) (values : List Datum) (links : List Link) → C.knows caller.old known → IsAtChain (C.standing caller.old) known table bucket name values links → Passed known name values bucket links result (C.knows caller.new) }
+    ensures aside { (known : KnownObjects) (name : Name) (values : List Datum) (links : List Link) (other : KnownObjects) → C.knows caller.old known → IsAtChain (C.standing caller.old) known table bucket name values links → C.knows caller.old other → LacksChain other name links → C.knows caller.new other }
 {
     load(caller, table, bucket);
     if slot_is_null(caller, top) {
@@ -40,6 +42,7 @@ fn skip<C: Caller>(caller: &mut C, table: u32, bucket: u32, n: u32, top: u32)
     ensures ran { Ran C.base C.tells C.tells_known C.standing caller.old caller.new 0 }
     ensures own { (C.standing caller.new).own ≡ (C.standing caller.old).own }
     ensures skipped { (known : KnownObjects) (name : Name) (values : List Datum) (links : List Link) → C.knows caller.old known → IsAtChain (C.standing caller.old) known table bucket name values links → IsApart name links → IsSkipped known name values bucket (drop n links) (C.knows caller.new) }
+    ensures aside { (known : KnownObjects) (name : Name) (values : List Datum) (links : List Link) (other : KnownObjects) → C.knows caller.old known → IsAtChain (C.standing caller.old) known table bucket name values links → IsApart name links → C.knows caller.old other → LacksChain other name links → C.knows caller.new other }
 {
     for i in 0..n {
         if !pass(caller, table, bucket, top) {
@@ -55,6 +58,7 @@ pub(crate) fn seek<C: Caller>(caller: &mut C, table: u32, bucket: u32, place: u3
     requires top { length (stack_in (C.standing caller.old)) ≡ top }
     ensures ran { Ran C.base C.tells C.tells_known C.standing caller.old caller.new 0 }
     ensures sought { (known : KnownObjects) (name : Name) (values : List Datum) (links : List Link) → C.knows caller.old known → IsAtChain (C.standing caller.old) known table bucket name values links → IsApart name links → ((C.standing caller.new).own ≡ pushed (pushed (C.standing caller.old).own (slice_index_or values bucket datum.Null)) (first_of (drop place links))) × C.knows caller.new known }
+    ensures aside { (known : KnownObjects) (name : Name) (values : List Datum) (links : List Link) (other : KnownObjects) → C.knows caller.old known → IsAtChain (C.standing caller.old) known table bucket name values links → IsApart name links → C.knows caller.old other → LacksChain other name links → C.knows caller.new other }
 {
     load(caller, table, bucket);
     skip(caller, table, bucket, place, top + 1);

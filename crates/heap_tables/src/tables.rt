@@ -6,15 +6,16 @@ ghost use Rattle.yak_model.specs.declared.TheConstants.{BUCKETS, ENTRY_FIELDS, S
 ghost use Rattle.yak_model.specs.Room.{entry_words, key_words, table_words};
 ghost use Rattle.heap_tables.specs.declared.TheConstants.{FREE_SLOTS, KEY_BYTES, MOST_MADE};
 ghost use Rattle.yak_model.specs.declared.datum.Datum.TheVariants as datum;
-ghost use Rattle.yak_model.specs.Private.{KnownObjects};
+ghost use Rattle.yak_model.specs.Private.{KnownObjects, LosesAll};
 ghost use Rattle.yak_model.specs.declared.datum.Datum.{Datum};
 ghost use Rattle.object_layout.specs.declared.names.Name.{Name};
 ghost use Rattle.heap_tables.specs.Runs.{HasField, IsInSlot, slot_in, KeepsKnown, Ran, RanOut, stack_in, next_of, with_made, with_new};
 ghost use Rattle.yak_model.specs.Tables.{Link, IsCountTable, IsTable, LacksWord};
 ghost use Rattle.yak_model.specs.Texts.{WordCounts};
-ghost use Rattle.heap_tables.specs.Counted.{HasCountTable, MayCount, IsCounted, IsUncounted};
+ghost use Rattle.heap_tables.specs.Counted.{HasCountTable, MayCount, IsCounted, IsUncounted, HasTableLook, MayLook};
 ghost use Rattle.yak_model.specs.Tables.{bucket_of};
 ghost use Rattle.heap_tables.specs.Walks.{IsEntryInSlot};
+ghost use Rattle.heap_tables.specs.Asides.{LacksValue, KnowsWithNext, LacksTable};
 ghost use Rattle.heap_tables.specs.Adds.{AddRan, AddRanOut, AddsPresent, HasTable, MakesForNew, MayAdd, MayRaise, with_count, HasBlank, with_fields, with_linked, IsAddedTo, Grows, StayAfter};
 
 use crate::chains::find;
@@ -31,6 +32,7 @@ fn raise<C: Caller>(caller: &mut C, entry: u32, n: u64, top: u32)
     ensures ran { Ran C.base C.tells C.tells_known C.standing caller.old caller.new 0 }
     ensures own { (C.standing caller.new).own ≡ (C.standing caller.old).own }
     ensures raised { (known : KnownObjects) (next : Datum) (link : Link) → C.knows caller.old known → IsEntryInSlot (C.standing caller.old) known entry next link → C.knows caller.new (with_count known next link (link.count + n)) }
+    ensures aside { (other : KnownObjects) → C.knows caller.old other → LacksValue other (slot_in (C.standing caller.old) entry) → C.knows caller.new other }
 {
     let count = field_int(caller, entry, 2, top);
     put_int(caller, entry, 2, count + n, top);
@@ -69,6 +71,7 @@ pub(crate) fn add_present<C: Caller>(
     ensures ran { Ran C.base C.tells C.tells_known C.standing caller.old caller.new 0 }
     ensures own { (C.standing caller.new).own ≡ (C.standing caller.old).own }
     ensures added { (known : KnownObjects) (name : Name) (heads : List Datum) (buckets : ℕ → List Link) → C.knows caller.old known → MayAdd (C.standing caller.old) known table word.now n name heads buckets → AddsPresent known word.now n name buckets result (C.knows caller.new) }
+    ensures aside { (known : KnownObjects) (name : Name) (heads : List Datum) (buckets : ℕ → List Link) (other : KnownObjects) → C.knows caller.old known → MayAdd (C.standing caller.old) known table word.now n name heads buckets → C.knows caller.old other → LacksTable other name buckets → C.knows caller.new other }
 {
     let bucket = bucket_of(word);
     if find(caller, table, bucket, word, top) {
@@ -115,6 +118,7 @@ pub(crate) fn link_new<C: Caller>(
     ensures ran { OnOk result (Ran C.base C.tells C.tells_known C.standing caller.old caller.new entry_words) }
     ensures own { OnOk result ((C.standing caller.new).own ≡ record (C.standing caller.old).own { made = (C.standing caller.old).own.made + 1 }) }
     ensures linked { OnOk result ((known : KnownObjects) (name : Name) (heads : List Datum) → C.knows caller.old known → IsInSlot (C.standing caller.old) known table name heads → bucket < length heads → C.knows caller.new (with_linked (C.standing caller.old) known name heads bucket front n) × (finite.get known (next_of (C.standing caller.old)) ≡ None)) }
+    ensures aside { OnOk result ((other : KnownObjects) → C.knows caller.old other → (finite.get other (next_of (C.standing caller.old)) ≡ None) × ((after : KnownObjects) → LacksValue other (slot_in (C.standing caller.old) table) → LosesAll (with_fields other (next_of (C.standing caller.old)) (slot_in (C.standing caller.old) front) (slot_in (C.standing caller.old) (front + 1)) n) (next_of (C.standing caller.old)) after → C.knows caller.new after)) }
     ensures same { OnErr result ((C.standing caller.new).own ≡ (C.standing caller.old).own) }
     ensures keeps { OnErr result (KeepsKnown (C.knows caller.old) (C.knows caller.new)) }
     ensures ran_out { OnErr result (RanOut C.base C.tells C.tells_known C.standing caller.old caller.new 0 ENTRY_FIELDS) }
@@ -145,8 +149,10 @@ fn insert_new<C: Caller>(
     ensures ran_out { OnErr result (AddRanOut C.base C.tells C.tells_known C.standing caller.old caller.new word.now) }
     ensures own { OnOk result ((C.standing caller.new).own ≡ record (C.standing caller.old).own { made = (C.standing caller.old).own.made + 2 }) }
     ensures added { OnOk result ((known : KnownObjects) (name : Name) (heads : List Datum) (buckets : ℕ → List Link) → C.knows caller.old known → slot_in (C.standing caller.old) table ≡ datum.Object name → IsTable known name heads buckets → slot_in (C.standing caller.old) front ≡ slice_index_or heads bucket datum.Null → bucket_of word.now ≡ bucket → bucket < BUCKETS → LacksWord word.now (buckets bucket) → (added : IsAddedTo known word.now n name buckets (C.knows caller.new)) × StayAfter (C.standing caller.old) (buckets (bucket_of word.now)) added.links) }
+    ensures aside { OnOk result ((other : KnownObjects) → C.knows caller.old other → LacksValue other (slot_in (C.standing caller.old) table) → LacksValue other (slot_in (C.standing caller.old) front) → C.knows caller.new other) }
     ensures stack { OnErr result (stack_in (C.standing caller.new) ≡ stack_in (C.standing caller.old)) }
     ensures kept { OnErr result ((known : KnownObjects) → C.knows caller.old known → (after : KnownObjects) × C.knows caller.new after × Grows known after) }
+    ensures left { OnErr result ((other : KnownObjects) → C.knows caller.old other → KnowsWithNext (C.standing caller.old) other (C.knows caller.new)) }
 {
     make_key(caller, word, front + 1)?;
     match link_new(caller, table, bucket, n, front) {
@@ -180,6 +186,8 @@ fn add_links<C: Caller>(
     ensures added { OnOk result ((known : KnownObjects) (name : Name) (heads : List Datum) (buckets : ℕ → List Link) → C.knows caller.old known → MayAdd (C.standing caller.old) known table word.now n name heads buckets → (added : IsAddedTo known word.now n name buckets (C.knows caller.new)) × StayAfter (C.standing caller.old) (buckets (bucket_of word.now)) added.links) }
     ensures kept { OnErr result ((known : KnownObjects) (name : Name) (heads : List Datum) (buckets : ℕ → List Link) → C.knows caller.old known → MayAdd (C.standing caller.old) known table word.now n name heads buckets → (after : KnownObjects) × C.knows caller.new after × Grows known after × LacksWord word.now (buckets (bucket_of word.now))) }
     ensures made { OnOk result ((known : KnownObjects) (name : Name) (heads : List Datum) (buckets : ℕ → List Link) → C.knows caller.old known → MayAdd (C.standing caller.old) known table word.now n name heads buckets → MakesForNew (C.standing caller.old) (C.standing caller.new) word.now (buckets (bucket_of word.now))) }
+    ensures aside { OnOk result ((known : KnownObjects) (name : Name) (heads : List Datum) (buckets : ℕ → List Link) (other : KnownObjects) → C.knows caller.old known → MayAdd (C.standing caller.old) known table word.now n name heads buckets → C.knows caller.old other → LacksTable other name buckets → C.knows caller.new other) }
+    ensures left { OnErr result ((known : KnownObjects) (name : Name) (heads : List Datum) (buckets : ℕ → List Link) (other : KnownObjects) → C.knows caller.old known → MayAdd (C.standing caller.old) known table word.now n name heads buckets → C.knows caller.old other → LacksTable other name buckets → KnowsWithNext (C.standing caller.old) other (C.knows caller.new)) }
 {
     if add_present(caller, table, word, n, top) {
         return Ok(());
@@ -213,7 +221,47 @@ pub fn add<C: Caller>(caller: &mut C, table: u32, word: &[u8], n: u64) -> Result
     ensures stack { stack_in (C.standing caller.new) ≡ stack_in (C.standing caller.old) }
     ensures counted { OnOk result ((known : KnownObjects) (name : Name) (counts : WordCounts) (may : MayCount (C.standing caller.old) known table word.now n name counts) → C.knows caller.old known → IsCounted (C.standing caller.old) (C.standing caller.new) known table word.now n name counts may (C.knows caller.new)) }
     ensures kept { OnErr result ((known : KnownObjects) (name : Name) (counts : WordCounts) (may : MayCount (C.standing caller.old) known table word.now n name counts) → C.knows caller.old known → IsUncounted (C.standing caller.old) known table word.now n name counts may (C.knows caller.new)) }
+    ensures aside { OnOk result ((known : KnownObjects) (name : Name) (counts : WordCounts) (may : MayCount (C.standing caller.old) known table word.now n name counts) (other : KnownObjects) → C.knows caller.old known → C.knows caller.old other → LacksTable other name (may.is_table).buckets → C.knows caller.new other) }
+    ensures left { OnErr result ((known : KnownObjects) (name : Name) (counts : WordCounts) (may : MayCount (C.standing caller.old) known table word.now n name counts) (other : KnownObjects) → C.knows caller.old known → C.knows caller.old other → LacksTable other name (may.is_table).buckets → KnowsWithNext (C.standing caller.old) other (C.knows caller.new)) }
 {
     let top = stack_size(caller);
     add_links(caller, table, word, n, top)
+}
+
+/// The count of a word that is in the table, and `None` for another.
+fn look_up<C: Caller>(caller: &mut C, table: u32, word: &[u8], top: u32) -> Option<u64>
+    requires table { HasTableLook (C.standing caller.old) (C.knows caller.old) table word.now }
+    requires word { length word.now ≤ WORD_LIMIT }
+    requires room { length (stack_in (C.standing caller.old)) + FREE_SLOTS ≤ STACK_SLOTS }
+    requires top { length (stack_in (C.standing caller.old)) ≡ top }
+    ensures ran { Ran C.base C.tells C.tells_known C.standing caller.old caller.new 0 }
+    ensures own { (C.standing caller.new).own ≡ (C.standing caller.old).own }
+    ensures kept { (known : KnownObjects) (name : Name) (counts : WordCounts) → C.knows caller.old known → MayLook (C.standing caller.old) known table word.now name counts → C.knows caller.new known }
+    ensures aside { (known : KnownObjects) (name : Name) (counts : WordCounts) (may : MayLook (C.standing caller.old) known table word.now name counts) (other : KnownObjects) → C.knows caller.old known → C.knows caller.old other → LacksTable other name (may.is_table).buckets → C.knows caller.new other }
+    ensures count { (known : KnownObjects) (name : Name) (counts : WordCounts) → C.knows caller.old known → MayLook (C.standing caller.old) known table word.now name counts → result ≡ finite.get counts word.now }
+{
+    let bucket = bucket_of(word);
+    if !find(caller, table, bucket, word, top) {
+        pop(caller);
+        return None;
+    }
+    let count = field_int(caller, top + 1, 2, top + 2);
+    pop(caller);
+    pop(caller);
+    Some(count)
+}
+
+/// The count of a word, and `None` where the table doesn't have the word. The table is as it was.
+pub fn count_of<C: Caller>(caller: &mut C, table: u32, word: &[u8]) -> Option<u64>
+    requires table { HasTableLook (C.standing caller.old) (C.knows caller.old) table word.now }
+    requires word { length word.now ≤ WORD_LIMIT }
+    requires room { length (stack_in (C.standing caller.old)) + FREE_SLOTS ≤ STACK_SLOTS }
+    ensures ran { Ran C.base C.tells C.tells_known C.standing caller.old caller.new 0 }
+    ensures own { (C.standing caller.new).own ≡ (C.standing caller.old).own }
+    ensures kept { (known : KnownObjects) (name : Name) (counts : WordCounts) → C.knows caller.old known → MayLook (C.standing caller.old) known table word.now name counts → C.knows caller.new known }
+    ensures aside { (known : KnownObjects) (name : Name) (counts : WordCounts) (may : MayLook (C.standing caller.old) known table word.now name counts) (other : KnownObjects) → C.knows caller.old known → C.knows caller.old other → LacksTable other name (may.is_table).buckets → C.knows caller.new other }
+    ensures count { (known : KnownObjects) (name : Name) (counts : WordCounts) → C.knows caller.old known → MayLook (C.standing caller.old) known table word.now name counts → result ≡ finite.get counts word.now }
+{
+    let top = stack_size(caller);
+    look_up(caller, table, word, top)
 }

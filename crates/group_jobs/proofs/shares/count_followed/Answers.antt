@@ -13,7 +13,8 @@ use Rattle.group_jobs.specs.Tallies.{IsProgress, new_total, task_room}
 use Rattle.yak_model.specs.Room.{table_words}
 use Rattle.group_jobs.specs.Workers.{CountsTask, HaltsTask, HasRefused, exact_most}
 use Rattle.group_jobs.proofs.TaskEpochs.{has_epoch}
-use Rattle.group_jobs.proofs.Working.{epochs_more, exact_words, found_refused, grown, halted_bounds, if_ok, made_calls, none_refused, on_error, on_ok, one_refused, own_calls, progresses, rests, same_census, settled_here, total_most}
+use Rattle.group_jobs.proofs.Grown.{epochs_more, halted_bounds}
+use Rattle.group_jobs.proofs.Working.{exact_words, found_refused, grown, if_ok, made_calls, none_refused, on_error, on_ok, one_refused, own_calls, progresses, rests, same_census, settled_here, total_most}
 use Rattle.group_jobs.proofs.shares.count_followed.Goals as goal
 
 pub count_task-counted-requires-clause-progress : goal.count_task-counted-requires-clause-progress

@@ -22,15 +22,15 @@ returns-in_err-merge-clause-out g c = err_of c.from_residual.result _
     let n = few_done doing known name t.table (word_counts done) r.done r.rest r.link r.parts in
     out_ran C.base C.tells C.tells_known C.standing c.args.caller.now c.merge.new.caller (r.made * entry_words) ENTRY_FIELDS (entry_words * length doing) (omega (arith, n, r.new_words)) r.ran_out)
 
-pub drop_top-requires-clause-some : goal.drop_top-requires-clause-some
-drop_top-requires-clause-some g c =
+pub pop-requires-clause-some : goal.pop-requires-clause-some
+pop-requires-clause-some g c =
     let C = g.C.Caller in
     let h = c.requires.tables in
     let r = c.in_ok-merge.ensures.merged h.0 h.1 (h.5).total.name (word_counts h.3) (word_counts h.2) (may_merge (C.standing c.args.caller.now) h.0 h.1 h.2 h.3 h.5 (omega (arith, h.6))) h.4 in
     (r.later, r.known_now)
 
-pub drop_top-requires-clause-slot : goal.drop_top-requires-clause-slot
-drop_top-requires-clause-slot g c =
+pub pop-requires-clause-slot : goal.pop-requires-clause-slot
+pop-requires-clause-slot g c =
     let C = g.C.Caller in
     let h = c.requires.tables in
     let r = c.in_ok-merge.ensures.merged h.0 h.1 (h.5).total.name (word_counts h.3) (word_counts h.2) (may_merge (C.standing c.args.caller.now) h.0 h.1 h.2 h.3 h.5 (omega (arith, h.6))) h.4 in
@@ -41,14 +41,14 @@ returns-clause-slots g c =
     let C = g.C.Caller in
     let h = c.requires.tables in
     let r = c.in_ok-merge.ensures.merged h.0 h.1 (h.5).total.name (word_counts h.3) (word_counts h.2) (may_merge (C.standing c.args.caller.now) h.0 h.1 h.2 h.3 h.5 (omega (arith, h.6))) h.4 in
-    ap (λ (o : Thread). length o.stack) c.drop_top.ensures.popped ∙ size_left (C.standing c.merge.new.caller).own.stack (ap (λ (o : Thread). length o.stack) r.own ∙ c.requires.slots)
+    ap (λ (o : Thread). length o.stack) c.pop.ensures.popped ∙ size_left (C.standing c.merge.new.caller).own.stack (ap (λ (o : Thread). length o.stack) r.own ∙ c.requires.slots)
 
 pub returns-clause-depth : goal.returns-clause-depth
 returns-clause-depth g c =
     let C = g.C.Caller in
     let h = c.requires.tables in
     let r = c.in_ok-merge.ensures.merged h.0 h.1 (h.5).total.name (word_counts h.3) (word_counts h.2) (may_merge (C.standing c.args.caller.now) h.0 h.1 h.2 h.3 h.5 (omega (arith, h.6))) h.4 in
-    ap (λ (o : Thread). o.depth) c.drop_top.ensures.popped ∙ ap (λ (o : Thread). o.depth) r.own
+    ap (λ (o : Thread). o.depth) c.pop.ensures.popped ∙ ap (λ (o : Thread). o.depth) r.own
 
 pub returns-clause-closed : goal.returns-clause-closed
 returns-clause-closed g c known name done doing k t few =
@@ -56,11 +56,11 @@ returns-clause-closed g c known name done doing k t few =
     let s = C.standing c.args.caller.now in
     let r = c.in_ok-merge.ensures.merged known name t.total.name (word_counts doing) (word_counts done) (may_merge s known name done doing t few) k in
     let n = few_new doing known name t.table (word_counts done) in
-    let made = ap (λ (o : Thread). o.made) c.drop_top.ensures.popped ∙ ap (λ (o : Thread). o.made) r.own in (
-      merged_tally s (C.standing c.drop_top.new.caller) known r.later (C.knows c.drop_top.new.caller) name done doing t (C.standing c.merge.new.caller).own.stack (ap (λ (o : Thread). o.stack) r.own) c.requires.slots (ap (λ (o : Thread). o.stack) c.drop_top.ensures.popped) (c.drop_top.ensures.keeps r.later r.known_now) r.sums r.sums_are r.into_table r.untouched r.from_table r.from_same,
-      went_then C.base C.tells C.tells_known C.standing c.args.caller.now c.merge.new.caller c.drop_top.new.caller (entry_words * length doing) 0 (entry_words * length doing) (omega arith)
+    let made = ap (λ (o : Thread). o.made) c.pop.ensures.popped ∙ ap (λ (o : Thread). o.made) r.own in (
+      merged_tally s (C.standing c.pop.new.caller) known r.later (C.knows c.pop.new.caller) name done doing t (C.standing c.merge.new.caller).own.stack (ap (λ (o : Thread). o.stack) r.own) c.requires.slots (ap (λ (o : Thread). o.stack) c.pop.ensures.popped) (c.pop.ensures.keeps r.later r.known_now) r.sums r.sums_are r.into_table r.untouched r.from_table r.from_same,
+      went_then C.base C.tells C.tells_known C.standing c.args.caller.now c.merge.new.caller c.pop.new.caller (entry_words * length doing) 0 (entry_words * length doing) (omega arith)
           (went_ran C.base C.tells C.tells_known C.standing c.args.caller.now c.merge.new.caller (r.made * entry_words) (entry_words * length doing) (omega (arith, n, r.new_words)) r.ran)
-          (went_ran C.base C.tells C.tells_known C.standing c.merge.new.caller c.drop_top.new.caller 0 0 (omega arith) c.drop_top.ensures.ran),
+          (went_ran C.base C.tells C.tells_known C.standing c.merge.new.caller c.pop.new.caller 0 0 (omega arith) c.pop.ensures.ran),
       omega (arith, made, n, r.new_words),
     )
 
@@ -76,6 +76,6 @@ returns-clause-list g c =
     let C = g.C.Caller in
     let h = c.requires.tables in
     let r = c.in_ok-merge.ensures.merged h.0 h.1 (h.5).total.name (word_counts h.3) (word_counts h.2) (may_merge (C.standing c.args.caller.now) h.0 h.1 h.2 h.3 h.5 (omega (arith, h.6))) h.4 in
-    within_then (C.standing c.args.caller.now).list (C.standing c.merge.new.caller).list (C.standing c.drop_top.new.caller).list
+    within_then (C.standing c.args.caller.now).list (C.standing c.merge.new.caller).list (C.standing c.pop.new.caller).list
     (within_ran C.base C.tells C.tells_known C.standing c.args.caller.now c.merge.new.caller _ r.ran)
-    (within_ran C.base C.tells C.tells_known C.standing c.merge.new.caller c.drop_top.new.caller _ c.drop_top.ensures.ran)
+    (within_ran C.base C.tells C.tells_known C.standing c.merge.new.caller c.pop.new.caller _ c.pop.ensures.ran)

@@ -6,7 +6,7 @@ use Rattle.group_jobs.specs.Tallies.{words_room}
 use Rattle.group_jobs.proofs.Aside.{aside_same, aside_then}
 use Rattle.heap_tables.specs.Runs.{next_of}
 use Rattle.group_jobs.specs.Tallies.{IsPartTable}
-use Rattle.group_jobs.proofs.Grown.{begun_ended, begun_halted, ended_within}
+use Rattle.group_jobs.proofs.Grown.{begun_ended, begun_halted, end_list, ended_within}
 use Rattle.group_jobs.proofs.Joined.{went_out}
 use Rattle.group_jobs.proofs.Progress.{tally_same}
 use Rattle.group_jobs.proofs.Rooms.{err_of}
@@ -61,7 +61,7 @@ returns-clause-list g c =
     let C = g.C.Caller in
     begun_ended (C.standing c.args.caller.now).thread (C.standing c.count_part.new.caller).thread (c.in_ok-count_part.ensures.went.makes.thread ∙ c.begin.ensures.went.makes.thread)
     (C.standing c.args.caller.now).list (C.standing c.begin.new.caller).list (C.standing c.end.new.caller).list c.begin.ensures.list
-    (ended_within (C.standing c.count_part.new.caller).thread (C.standing c.begin.new.caller).list (C.standing c.count_part.new.caller).list (C.standing c.end.new.caller).list c.count_part.ensures.list c.end.ensures.list)
+    (ended_within (C.standing c.count_part.new.caller).thread (C.standing c.begin.new.caller).list (C.standing c.count_part.new.caller).list (C.standing c.end.new.caller).list c.count_part.ensures.list (end_list (C.standing c.count_part.new.caller).thread (C.standing c.count_part.new.caller).list (C.standing c.end.new.caller).list c.end.ensures.list))
 
 pub returns-in_err-count_part-clause-halted : goal.returns-in_err-count_part-clause-halted
 returns-in_err-count_part-clause-halted g c =

@@ -2,7 +2,7 @@ use Rattle.std.proofs.Common.{◌+◌, ◌*◌, [], ◌++◌, length, arith}
 use Rattle.yak_model.specs.Room.{entry_words, table_words}
 use Rattle.yak_model.specs.Texts.{words_of}
 use Rattle.heap_tables.proofs.OnResult.{ok_map, err_map}
-use Rattle.group_jobs.specs.Goings.{Went}
+use Rattle.heap_tables.specs.Epochs.{Went}
 use Rattle.group_jobs.specs.Tallies.{part_room, words_room}
 use Rattle.group_jobs.proofs.Aside.{aside_then, part_then}
 use Rattle.heap_tables.specs.Runs.{next_of}

@@ -5,7 +5,8 @@ use Rattle.yak_model.specs.Room.{table_words}
 use Rattle.yak_model.specs.Texts.{words_of}
 use Rattle.group_jobs.specs.Tallies.{KnowsProgress, new_total, task_room, words_room}
 use Rattle.group_jobs.proofs.Aside.{aside_same, aside_then}
-use Rattle.group_jobs.specs.Epochs.{GrowsBy, IsOneEpoch}
+use Rattle.heap_tables.specs.Epochs.{GrowsBy}
+use Rattle.group_jobs.specs.Epochs.{IsOneEpoch}
 use Rattle.group_jobs.proofs.Grown.{grows_none, halted_within, within_halted}
 use Rattle.group_jobs.proofs.Joined.{went_out, went_then}
 use Rattle.group_jobs.proofs.Progress.{busy_room, not_busy, progress_same}

@@ -1,10 +1,13 @@
-use Rattle.std.proofs.Common.{ℕ, ◌+◌, ◌≤◌, ◌||◌, List, ◌++◌, true, false, take, length, get_or, ap, sym, subst, refl, ◌∙◌, arith, length-append}
+use Rattle.std.proofs.Common.{◌≡◌, ℕ, ◌+◌, ◌≤◌, ◌||◌, List, ◌++◌, true, false, take, length, get_or, ap, sym, subst, refl, ◌∙◌, arith, length-append}
 use Rattle.yak_model.specs.Room.{table_words}
 use Rattle.yak_model.specs.Texts.{words_of}
 use Rattle.group_jobs.specs.declared.tasks.Task.{Task}
 use Rattle.group_jobs.specs.Tallies.{KnowsProgress, is_busy, new_total, task_room, tasks_room, words_in}
 use Rattle.group_jobs.specs.Tasks.{task_bytes}
 use Rattle.group_jobs.proofs.Aside.{aside_same, progress_then}
+use Rattle.heap_tables.specs.Epochs.{GrowsBy}
+use Rattle.group_jobs.specs.Epochs.{IsHalted, IsOneEpoch, MakesEpochs}
+use Rattle.group_jobs.proofs.Grown.{made_halted, made_next, none_made}
 use Rattle.group_jobs.proofs.Joined.{went_most, went_none, went_out, went_then}
 use Rattle.group_jobs.proofs.Passing.{busy_next, room_next, room_within, total_most, total_next, total_out, whole, words_next, words_short, words_size}
 use Rattle.group_jobs.proofs.Rooms.{err_of}
@@ -20,6 +23,7 @@ tasks-init g c = let C = g.C.Caller in let h = c.requires.opened in record {
   made = omega arith;
   has = refl;
   counted = λ known k. (known, k, (h.3.0, refl), aside_same (C.standing c.args.caller.now) (C.standing c.args.caller.now) known refl);
+  epochs = none_made (C.standing c.args.caller.now).thread (C.standing c.args.caller.now).list;
 }
 
 pub count_task-requires-clause-progress : goal.count_task-requires-clause-progress
@@ -74,6 +78,12 @@ tasks-preserved g c =
           subst (KnowsProgress c.in_ok-has_total.has_total (C.standing c.args.caller.now) known (C.standing c.count_task.new.caller) (C.knows c.count_task.new.caller)) (sym later)
           (progress_then c.in_ok-has_total.has_total (C.standing c.args.caller.now) (C.standing c.tasks.caller) (C.standing c.count_task.new.caller) known r.0 (C.knows c.count_task.new.caller) (words_in bytes (take i tasks) ++ words) r.3
           (done.counted r.0 (words_in bytes (take i tasks)) r.1 r.2 (omega (arith, h.4, size))));
+      epochs =
+          let s = C.standing c.args.caller.now in
+          let was = C.standing c.tasks.caller in
+          let e = done.epoch in
+          let one = subst (λ t. GrowsBy (IsOneEpoch t) (C.standing e.ready).list (C.standing c.count_task.new.caller).list) inv.went.makes.thread e.epoch in
+          made_next s.thread i s.list was.list (C.standing e.ready).list (C.standing c.count_task.new.caller).list inv.epochs e.before one;
     }
 
 pub returns-clause-went : goal.returns-clause-went
@@ -90,3 +100,18 @@ pub returns-clause-counted : goal.returns-clause-counted
 returns-clause-counted g c known k =
     let C = g.C.Caller in
     subst (λ ts. KnowsProgress c.tasks.has_total (C.standing c.args.caller.now) known (C.standing c.tasks.caller) (C.knows c.tasks.caller) (words_in c.args.bytes.now ts)) (whole c.args.tasks.now c.tasks.task-index c.tasks-test.false) (c.tasks.invariant.counted known k)
+
+pub returns-clause-epochs : goal.returns-clause-epochs
+returns-clause-epochs g c =
+    let C = g.C.Caller in
+    let all : c.tasks.task-index ≡ length c.args.tasks.now = omega (arith, c.tasks-test.false, c.tasks.auto.task-index-end) in
+    subst (λ n. GrowsBy (MakesEpochs (C.standing c.args.caller.now).thread n) (C.standing c.args.caller.now).list (C.standing c.tasks.caller).list) all c.tasks.invariant.epochs
+
+pub returns-in_err-has_total-clause-halted : goal.returns-in_err-has_total-clause-halted
+returns-in_err-has_total-clause-halted g c =
+    let C = g.C.Caller in
+    let s = C.standing c.args.caller.now in
+    let inv = c.tasks.invariant in
+    err_of c.from_residual.result _
+    (made_halted s.thread c.tasks.task-index (length c.args.tasks.now) c.tasks-test.true s.list (C.standing c.tasks.caller).list (C.standing c.count_task.new.caller).list inv.epochs
+    (subst (λ t. GrowsBy (IsHalted t) (C.standing c.tasks.caller).list (C.standing c.count_task.new.caller).list) inv.went.makes.thread c.in_err-has_total.ensures.halted))

@@ -2,8 +2,8 @@ use Rattle.std.proofs.Common.{◌≡◌, ℕ, ◌+◌, ◌*◌, ◌≤◌, List,
 use Rattle.yak_model.specs.Private.{KnownObjects}
 use Rattle.yak_model.specs.Texts.{words_of}
 use Rattle.object_layout.specs.declared.names.Name.{Name}
-use Rattle.group_jobs.specs.Epochs.{GrowsBy, IsWithin}
-use Rattle.group_jobs.specs.Goings.{Went}
+use Rattle.heap_tables.specs.Epochs.{GrowsBy, Went}
+use Rattle.group_jobs.specs.Epochs.{IsWithin}
 use Rattle.group_jobs.specs.Tallies.{KeepsPlace, KnowsTallies, Tallies, part_room}
 use Rattle.group_jobs.specs.declared.TheConstants.{MOST_WORDS}
 use Rattle.group_jobs.proofs.tallies.count_words.Given as goal

@@ -1,6 +1,6 @@
 use Rattle.std.proofs.Common.{ap, arith}
 use Rattle.yak_model.specs.Graph.{Limits}
-use Rattle.group_jobs.proofs.Grown.{begun_ended}
+use Rattle.group_jobs.proofs.Grown.{begun_ended, end_list}
 use Rattle.group_jobs.proofs.tallies.pass_epoch.Goals as goal
 
 pub begin-requires-clause-depth : goal.begin-requires-clause-depth
@@ -15,4 +15,4 @@ pub returns-clause-list : goal.returns-clause-list
 returns-clause-list g c =
     let C = g.C.Caller in
     begun_ended (C.standing c.args.caller.now).thread (C.standing c.begin.new.caller).thread c.begin.ensures.went.makes.thread
-    (C.standing c.args.caller.now).list (C.standing c.begin.new.caller).list (C.standing c.end.new.caller).list c.begin.ensures.list c.end.ensures.list
+    (C.standing c.args.caller.now).list (C.standing c.begin.new.caller).list (C.standing c.end.new.caller).list c.begin.ensures.list (end_list (C.standing c.begin.new.caller).thread (C.standing c.begin.new.caller).list (C.standing c.end.new.caller).list c.end.ensures.list)

@@ -4,6 +4,7 @@ use Rattle.yak_model.specs.declared.datum.Datum.TheVariants as datum
 use Rattle.heap_tables.proofs.Effects.{slot_after, top_after, size_after}
 use Rattle.heap_tables.specs.Walks.{Walked}
 use Rattle.heap_tables.proofs.Places.{left_place, put_back, found_after}
+use Rattle.heap_tables.proofs.Asides.{gives_none, lacks_as, lacks_head}
 use Rattle.heap_tables.proofs.chains.find.Goals as goal
 
 pub load-requires-clause-field : goal.load-requires-clause-field
@@ -73,3 +74,15 @@ returns-clause-known g c known name values links k at apart bound =
 
 pub returns-clause-ran : goal.returns-clause-ran
 returns-clause-ran g c = let C = g.C.Caller in ran_more C.base C.tells C.tells_known C.standing _ _ _ (ran_more C.base C.tells C.tells_known C.standing _ _ _ c.load.ensures.ran c.walk-found.ensures.ran) c.store.ensures.ran
+
+pub returns-clause-aside : goal.returns-clause-aside
+returns-clause-aside g c known name values links other k at apart bound ko lacks =
+    let C = g.C.Caller in
+    let e = c.load.ensures.pushed known name values k at.0 at.1 in
+    let slot = slot_after (g.C.Caller.standing c.args.caller.now).own _ (get_or values c.args.bucket datum.Null) known c.args.table name values e at.0 in
+    let size = size_after (g.C.Caller.standing c.args.caller.now).own _ (get_or values c.args.bucket datum.Null) e in
+    let left = left_place (C.standing c.load.new.caller) known name values c.args.bucket c.args.word.now links _ _ (C.knows c.walk-found.new.caller) c.args.table c.args.top (get_or values c.args.bucket datum.Null)
+    (c.walk-found.ensures.walked known name values links (c.load.ensures.keeps known k) (slot, at.1, at.2) apart bound) slot
+    (top_after (g.C.Caller.standing c.args.caller.now).own _ (get_or values c.args.bucket datum.Null) c.args.top e c.requires.top) (omega (arith, c.requires.top, size)) in
+    let still = c.walk-found.ensures.aside known name values links other (c.load.ensures.keeps known k) (slot, at.1, at.2) apart (c.load.ensures.keeps other ko) lacks in
+    c.store.ensures.aside other other still (lacks_as other (datum.Object name) _ (sym left.slot) lacks.0) (gives_none other _ (lacks_as other _ _ (sym left.front_there) (lacks_head other known _ links at.2 lacks.1)))

@@ -6,6 +6,7 @@ use Rattle.heap_tables.specs.Runs.{without_top}
 use Rattle.heap_tables.proofs.Climbs.{climbed_place, climbed_size, climbed_slot}
 use Rattle.heap_tables.proofs.Effects.{drop_pushes, size_after, slot_after, top_after}
 use Rattle.heap_tables.proofs.RunOn.{ran_more}
+use Rattle.heap_tables.proofs.Asides.{gives_none, lacks_as, lacks_head, lacks_rest}
 use Rattle.heap_tables.proofs.chains.look_on.Goals as goal
 
 pub load-requires-clause-field : goal.load-requires-clause-field
@@ -119,3 +120,15 @@ returns-clause-passed g c known name values links k at apart =
     let stored = c.store.ensures.stored known name values (c.climb-said.ensures.keeps known (c.load.ensures.keeps known k)) slot at.1 in
     climbed_place (g.C.Caller.standing c.load.new.caller).own known c.args.word.now links c.args.top c.climb-said.result.0 c.climb-said.result.1 _ up name values c.args.bucket apart c.climb-said.ensures.all
     (g.C.Caller.knows c.pop_all.new.caller) (c.pop_all.ensures.keeps _ stored)
+
+pub returns-clause-aside : goal.returns-clause-aside
+returns-clause-aside g c known name values links other k at apart ko lacks =
+    let own = (g.C.Caller.standing c.args.caller.now).own in
+    let e = c.load.ensures.pushed known name values k at.0 at.1 in
+    let front = top_after own _ (get_or values c.args.bucket datum.Null) c.args.top e c.requires.top in
+    let chain = subst (λ v. IsChain known v links) (sym front) at.2 in
+    let up = c.climb-said.ensures.climbed known links (c.load.ensures.keeps known k) chain in
+    let slot = climbed_slot (g.C.Caller.standing c.load.new.caller).own known c.args.word.now links c.args.top _ _ _ up c.args.table name values (slot_after own _ (get_or values c.args.bucket datum.Null) known c.args.table name values e at.0) in
+    let still = c.climb-said.ensures.keeps other (c.load.ensures.keeps other ko) in
+    let place = lacks_head other known _ up.rest up.chain (lacks_rest other up.passed up.rest links up.parts lacks.1) in
+    c.pop_all.ensures.keeps other (c.store.ensures.aside other other still (lacks_as other (datum.Object name) _ (sym slot.0) lacks.0) (gives_none other _ place))

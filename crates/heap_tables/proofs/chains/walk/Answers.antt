@@ -5,6 +5,7 @@ use Rattle.heap_tables.specs.Runs.{pushed}
 use Rattle.heap_tables.specs.Walks.{with_place}
 use Rattle.heap_tables.proofs.RunOn.{ran_none, ran_more}
 use Rattle.heap_tables.proofs.Places.{apart_place, at_place, end_place, found_there, kept_place, on_place, rest_place, start_place}
+use Rattle.heap_tables.proofs.Asides.{lacks_rest}
 use Rattle.heap_tables.proofs.chains.walk.Goals as goal
 
 pub loop-i-init : goal.loop-i-init
@@ -12,6 +13,7 @@ loop-i-init g c = let C = g.C.Caller in record {
   ran = ran_none C.base C.tells C.tells_known C.standing c.args.caller.now;
   own = refl;
   place = λ known name values links k at apart. ([], links, omega arith, start_place (C.standing c.args.caller.now) known c.args.table name values c.args.bucket c.args.word.now links at apart (C.knows c.args.caller.now) k);
+  aside = λ known name values links other k at apart ko lacks. ko;
 }
 
 pub look_on-requires-clause-chain : goal.look_on-requires-clause-chain
@@ -90,4 +92,27 @@ loop-i-preserved g c =
           let q = c.in-Further.ensures.passed _ name (set values c.args.bucket (p.3).place) p.1 (p.3).known_now there (apart_place (C.standing c.args.caller.now) known c.args.table name values c.args.bucket c.args.word.now links at apart (C.knows c.loop-i.caller) p.0 p.1 p.3) in
           let more = q.some refl in
           (p.0 ++ q.passed, q.rest, omega (arith, p.2, more, length-append p.0 q.passed), on_place (C.standing c.args.caller.now) known c.args.table name values c.args.bucket c.args.word.now links at apart (C.knows c.loop-i.caller) p.0 p.1 p.3 (C.knows c.look_on.new.caller) q.passed q.rest q.place);
+      aside = λ known name values links other k at apart ko lacks.
+          let p = c.loop-i.invariant.place known name values links k at apart in
+          let there = at_place (C.standing c.args.caller.now) known c.args.table name values c.args.bucket c.args.word.now links at apart (C.knows c.loop-i.caller) p.0 p.1 p.3 (C.standing c.loop-i.caller) c.loop-i.invariant.own in
+          let still = c.loop-i.invariant.aside known name values links other k at apart ko lacks in
+          c.look_on.ensures.aside _ name (set values c.args.bucket (p.3).place) p.1 other (p.3).known_now there (apart_place (C.standing c.args.caller.now) known c.args.table name values c.args.bucket c.args.word.now links at apart (C.knows c.loop-i.caller) p.0 p.1 p.3) still (lacks.0, lacks_rest other p.0 p.1 links (p.3).parts lacks.1);
     }
+
+pub returns-in-End-clause-aside : goal.returns-in-End-clause-aside
+returns-in-End-clause-aside g c known name values links other k at apart ko lacks =
+    let C = g.C.Caller in
+    let p = c.loop-i.invariant.place known name values links k at apart in
+    let there = at_place (C.standing c.args.caller.now) known c.args.table name values c.args.bucket c.args.word.now links at apart (C.knows c.loop-i.caller) p.0 p.1 p.3 (C.standing c.loop-i.caller) c.loop-i.invariant.own in
+    let still = c.loop-i.invariant.aside known name values links other k at apart ko lacks in
+    let on = c.look_on.ensures.aside _ name (set values c.args.bucket (p.3).place) p.1 other (p.3).known_now there (apart_place (C.standing c.args.caller.now) known c.args.table name values c.args.bucket c.args.word.now links at apart (C.knows c.loop-i.caller) p.0 p.1 p.3) still (lacks.0, lacks_rest other p.0 p.1 links (p.3).parts lacks.1) in
+    on
+
+pub returns-in-Found-clause-aside : goal.returns-in-Found-clause-aside
+returns-in-Found-clause-aside g c known name values links other k at apart ko lacks =
+    let C = g.C.Caller in
+    let p = c.loop-i.invariant.place known name values links k at apart in
+    let there = at_place (C.standing c.args.caller.now) known c.args.table name values c.args.bucket c.args.word.now links at apart (C.knows c.loop-i.caller) p.0 p.1 p.3 (C.standing c.loop-i.caller) c.loop-i.invariant.own in
+    let still = c.loop-i.invariant.aside known name values links other k at apart ko lacks in
+    let on = c.look_on.ensures.aside _ name (set values c.args.bucket (p.3).place) p.1 other (p.3).known_now there (apart_place (C.standing c.args.caller.now) known c.args.table name values c.args.bucket c.args.word.now links at apart (C.knows c.loop-i.caller) p.0 p.1 p.3) still (lacks.0, lacks_rest other p.0 p.1 links (p.3).parts lacks.1) in
+    c.load.ensures.keeps other on

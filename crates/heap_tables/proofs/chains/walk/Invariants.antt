@@ -5,6 +5,7 @@ use Rattle.yak_model.specs.Private.{KnownObjects}
 use Rattle.heap_tables.specs.Runs.{Ran}
 use Rattle.yak_model.specs.Tables.{Link}
 use Rattle.heap_tables.specs.Walks.{IsAtChain, IsApart, IsPlace}
+use Rattle.heap_tables.specs.Asides.{LacksChain}
 use Rattle.heap_tables.proofs.chains.walk.Given as goal
 
 abbrev pub invariant-loop-i : goal.invariant-loop-i
@@ -13,4 +14,6 @@ invariant-loop-i g l = let C = g.C.Caller in record {
   own : (C.standing l.caller).own ≡ (C.standing l.fn.caller).own;
   place : (known : KnownObjects) (name : Name) (values : List Datum) (links : List Link) → C.knows l.fn.caller known → IsAtChain (C.standing l.fn.caller) known l.fn.table l.fn.bucket name values links → IsApart name links
       → (passed : List Link) × (rest : List Link) × (l.i ≤ length passed) × IsPlace known name values l.fn.bucket l.fn.word links (C.knows l.caller) passed rest;
+  aside : (known : KnownObjects) (name : Name) (values : List Datum) (links : List Link) (other : KnownObjects) → C.knows l.fn.caller known → IsAtChain (C.standing l.fn.caller) known l.fn.table l.fn.bucket name values links → IsApart name links
+      → C.knows l.fn.caller other → LacksChain other name links → C.knows l.caller other;
 }

@@ -12,6 +12,7 @@ loop-bucket-init g c = let C = g.C.Caller in record {
   buffer = refl;
   low = omega arith;
   gone = λ known name counts may k. (k, λ b p past. elim past.2 [ inl lt ↦ omega (arith, lt) | inr same ↦ (let e = same.0 in omega (arith, e)) ]);
+  aside = λ known name counts may other k ko lacks. ko;
 }
 
 pub visit-requires-clause-chain : goal.visit-requires-clause-chain
@@ -88,6 +89,7 @@ loop-bucket-preserved g c =
           let r = inv.gone known name counts may k in
           let v = c.in-None.ensures.visited known name (may.is_table).heads ((may.is_table).buckets b) r.0 (walk_at s known c.args.table name counts may b bound (C.standing c.loop-bucket.caller) inv.own) (walk_apart s known c.args.table name counts may b bound) in
           (v.1, none_past (may.is_table).buckets c.args.at b v.0 r.1);
+      aside = λ known name counts may other k ko lacks. c.visit.ensures.aside known name (may.is_table).heads ((may.is_table).buckets b) other (inv.gone known name counts may k).0 (walk_at s known c.args.table name counts may b bound (C.standing c.loop-bucket.caller) inv.own) (walk_apart s known c.args.table name counts may b bound) (inv.aside known name counts may other k ko lacks) (lacks.head, lacks.links b bound);
     }
 
 pub returns-clause-found : goal.returns-clause-found
@@ -95,3 +97,12 @@ returns-clause-found g c known name counts may k =
     let r = c.loop-bucket.invariant.gone known name counts may k in
     let test = c.loop-bucket-test.false in
     ((λ b p past. let low = r.1 b p past in let bound = past.0 in absurd (omega (arith, low, bound, test))), r.0)
+
+pub returns-in-Some-clause-aside : goal.returns-in-Some-clause-aside
+returns-in-Some-clause-aside g c known name counts may other k ko lacks =
+    let C = g.C.Caller in
+    let s = C.standing c.args.caller.now in
+    let inv = c.loop-bucket.invariant in
+    let b = c.loop-bucket.bucket in
+    let bound : b < BUCKETS = omega (arith, c.loop-bucket-test.true) in
+    c.visit.ensures.aside known name (may.is_table).heads ((may.is_table).buckets b) other (inv.gone known name counts may k).0 (walk_at s known c.args.table name counts may b bound (C.standing c.loop-bucket.caller) inv.own) (walk_apart s known c.args.table name counts may b bound) (inv.aside known name counts may other k ko lacks) (lacks.head, lacks.links b bound)

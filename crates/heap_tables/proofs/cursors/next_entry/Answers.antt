@@ -72,3 +72,18 @@ pub returns-in-None-clause-next : goal.returns-in-None-clause-next
 returns-in-None-clause-next g c known name counts may k =
     let C = g.C.Caller in
     (c.in-None.ensures.found known name counts (walk_now (C.standing c.args.caller.now) (C.standing c.stack_size-top.new.caller) known c.args.table name counts may c.stack_size-top.ensures.own) (c.stack_size-top.ensures.keeps known k)).0
+
+pub returns-in_err-word-in-Some-clause-aside : goal.returns-in_err-word-in-Some-clause-aside
+returns-in_err-word-in-Some-clause-aside g c known name counts may other k ko lacks =
+    let C = g.C.Caller in
+    c.find_next.ensures.aside known name counts (walk_now (C.standing c.args.caller.now) (C.standing c.stack_size-top.new.caller) known c.args.table name counts may c.stack_size-top.ensures.own) other (c.stack_size-top.ensures.keeps known k) (c.stack_size-top.ensures.keeps other ko) lacks
+
+pub returns-in_ok-word-in-Some-clause-aside : goal.returns-in_ok-word-in-Some-clause-aside
+returns-in_ok-word-in-Some-clause-aside g c known name counts may other k ko lacks =
+    let C = g.C.Caller in
+    c.find_next.ensures.aside known name counts (walk_now (C.standing c.args.caller.now) (C.standing c.stack_size-top.new.caller) known c.args.table name counts may c.stack_size-top.ensures.own) other (c.stack_size-top.ensures.keeps known k) (c.stack_size-top.ensures.keeps other ko) lacks
+
+pub returns-in-None-clause-aside : goal.returns-in-None-clause-aside
+returns-in-None-clause-aside g c known name counts may other k ko lacks =
+    let C = g.C.Caller in
+    c.find_next.ensures.aside known name counts (walk_now (C.standing c.args.caller.now) (C.standing c.stack_size-top.new.caller) known c.args.table name counts may c.stack_size-top.ensures.own) other (c.stack_size-top.ensures.keeps known k) (c.stack_size-top.ensures.keeps other ko) lacks

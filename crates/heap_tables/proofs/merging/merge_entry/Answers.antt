@@ -5,7 +5,7 @@ use Rattle.heap_tables.proofs.Bytes.{length_front}
 use Rattle.heap_tables.proofs.Effects.{value_same}
 use Rattle.heap_tables.proofs.OnResult.{on_err}
 use Rattle.heap_tables.proofs.Sought.{short_first}
-use Rattle.heap_tables.proofs.Untouched.{from_chain, from_short, goes_nowhere, goes_stops, goes_then, merged_as}
+use Rattle.heap_tables.proofs.Untouched.{from_chain, from_short, goes_nowhere, goes_stops, goes_then, merged_as, from_lacks}
 use Rattle.heap_tables.proofs.Visits.{took_nothing, took_parts}
 use Rattle.heap_tables.proofs.merging.merge_entry.Goals as goal
 
@@ -42,7 +42,7 @@ slice_bounds-add_entry-end g c =
     let size = r.3.0 in
     let own = c.take_entry.ensures.own in
     let now_slots : AreSlots (C.standing c.take_entry.new.caller) c.args.from c.args.into m = (value_same s.own _ c.args.from own ∙ slots.0, value_same s.own _ c.args.into own ∙ slots.1) in
-    let merged = merged_as m is (done_at m.buckets b p) (C.knows c.args.caller.now) (C.knows c.take_entry.new.caller) d took.1 in
+    let merged = merged_as m is (done_at m.buckets b p) (C.knows c.args.caller.now) (C.knows c.take_entry.new.caller) d took.1 (λ other has. c.take_entry.ensures.aside d.after m.from_name m.heads (m.buckets b) other d.known_now at.0 at.1 (d.others_known other has) (from_lacks m is b c.requires.bucket other has)) in
     let entry : IsEntryAt m b p (take c.in-Some.size c.take_entry.new.buffer) c.in-Some.count r.0 r.1 = (r.2, r.3.1, r.4) in
     let kept = c.take_entry.ensures.buffer in omega (arith, size, long, kept, c.requires.buffer)
 
@@ -64,7 +64,7 @@ slice_bounds-add_entry-end-in-Some g c =
     let size = r.3.0 in
     let own = c.take_entry.ensures.own in
     let now_slots : AreSlots (C.standing c.take_entry.new.caller) c.args.from c.args.into m = (value_same s.own _ c.args.from own ∙ slots.0, value_same s.own _ c.args.into own ∙ slots.1) in
-    let merged = merged_as m is (done_at m.buckets b p) (C.knows c.args.caller.now) (C.knows c.take_entry.new.caller) d took.1 in
+    let merged = merged_as m is (done_at m.buckets b p) (C.knows c.args.caller.now) (C.knows c.take_entry.new.caller) d took.1 (λ other has. c.take_entry.ensures.aside d.after m.from_name m.heads (m.buckets b) other d.known_now at.0 at.1 (d.others_known other has) (from_lacks m is b c.requires.bucket other has)) in
     let entry : IsEntryAt m b p (take c.in-Some.size c.take_entry.new.buffer) c.in-Some.count r.0 r.1 = (r.2, r.3.1, r.4) in
     let kept = c.take_entry.ensures.buffer in sym (length_front c.in-Some.size c.take_entry.new.buffer (omega (arith, size, long, kept, c.requires.buffer)))
 
@@ -86,7 +86,7 @@ add_entry-requires-clause-tables g c =
     let size = r.3.0 in
     let own = c.take_entry.ensures.own in
     let now_slots : AreSlots (C.standing c.take_entry.new.caller) c.args.from c.args.into m = (value_same s.own _ c.args.from own ∙ slots.0, value_same s.own _ c.args.into own ∙ slots.1) in
-    let merged = merged_as m is (done_at m.buckets b p) (C.knows c.args.caller.now) (C.knows c.take_entry.new.caller) d took.1 in
+    let merged = merged_as m is (done_at m.buckets b p) (C.knows c.args.caller.now) (C.knows c.take_entry.new.caller) d took.1 (λ other has. c.take_entry.ensures.aside d.after m.from_name m.heads (m.buckets b) other d.known_now at.0 at.1 (d.others_known other has) (from_lacks m is b c.requires.bucket other has)) in
     let entry : IsEntryAt m b p (take c.in-Some.size c.take_entry.new.buffer) c.in-Some.count r.0 r.1 = (r.2, r.3.1, r.4) in
     (m, is, r.0, r.1, now_slots, merged, entry)
 
@@ -108,7 +108,7 @@ add_entry-requires-clause-word g c =
     let size = r.3.0 in
     let own = c.take_entry.ensures.own in
     let now_slots : AreSlots (C.standing c.take_entry.new.caller) c.args.from c.args.into m = (value_same s.own _ c.args.from own ∙ slots.0, value_same s.own _ c.args.into own ∙ slots.1) in
-    let merged = merged_as m is (done_at m.buckets b p) (C.knows c.args.caller.now) (C.knows c.take_entry.new.caller) d took.1 in
+    let merged = merged_as m is (done_at m.buckets b p) (C.knows c.args.caller.now) (C.knows c.take_entry.new.caller) d took.1 (λ other has. c.take_entry.ensures.aside d.after m.from_name m.heads (m.buckets b) other d.known_now at.0 at.1 (d.others_known other has) (from_lacks m is b c.requires.bucket other has)) in
     let entry : IsEntryAt m b p (take c.in-Some.size c.take_entry.new.buffer) c.in-Some.count r.0 r.1 = (r.2, r.3.1, r.4) in
     let e = ap (λ (ls : List ℕ). length ls) r.3.1 in omega (arith, e, long)
 
@@ -134,7 +134,7 @@ returns-in-None-clause-merged g c m is slots d =
     let took = c.in-None.ensures.took d.after m.from_name m.heads (m.buckets b) d.known_now at.0 at.1 in
     let done = done_at m.buckets b p in (
       took_nothing (drop p (m.buckets b)) c.take_entry.new.buffer took.0,
-      goes_nowhere C.base C.tells C.tells_known C.standing m is done c.args.caller.now c.take_entry.new.caller (C.knows c.take_entry.new.caller) (merged_as m is done (C.knows c.args.caller.now) (C.knows c.take_entry.new.caller) d took.1) c.take_entry.ensures.ran c.take_entry.ensures.own,
+      goes_nowhere C.base C.tells C.tells_known C.standing m is done c.args.caller.now c.take_entry.new.caller (C.knows c.take_entry.new.caller) (merged_as m is done (C.knows c.args.caller.now) (C.knows c.take_entry.new.caller) d took.1 (λ other has. c.take_entry.ensures.aside d.after m.from_name m.heads (m.buckets b) other d.known_now at.0 at.1 (d.others_known other has) (from_lacks m is b c.requires.bucket other has))) c.take_entry.ensures.ran c.take_entry.ensures.own,
     )
 
 pub returns-in_ok-add_entry-in-Some-clause-merged : goal.returns-in_ok-add_entry-in-Some-clause-merged
@@ -150,7 +150,7 @@ returns-in_ok-add_entry-in-Some-clause-merged g c m is slots d =
     let size = r.3.0 in
     let own = c.take_entry.ensures.own in
     let now_slots : AreSlots (C.standing c.take_entry.new.caller) c.args.from c.args.into m = (value_same s.own _ c.args.from own ∙ slots.0, value_same s.own _ c.args.into own ∙ slots.1) in
-    let merged = merged_as m is (done_at m.buckets b p) (C.knows c.args.caller.now) (C.knows c.take_entry.new.caller) d took.1 in
+    let merged = merged_as m is (done_at m.buckets b p) (C.knows c.args.caller.now) (C.knows c.take_entry.new.caller) d took.1 (λ other has. c.take_entry.ensures.aside d.after m.from_name m.heads (m.buckets b) other d.known_now at.0 at.1 (d.others_known other has) (from_lacks m is b c.requires.bucket other has)) in
     let entry : IsEntryAt m b p (take c.in-Some.size c.take_entry.new.buffer) c.in-Some.count r.0 r.1 = (r.2, r.3.1, r.4) in
     let done = done_at m.buckets b p in
     let first = goes_nowhere C.base C.tells C.tells_known C.standing m is done c.args.caller.now c.take_entry.new.caller (C.knows c.take_entry.new.caller) merged c.take_entry.ensures.ran c.take_entry.ensures.own in
@@ -171,7 +171,7 @@ returns-in_err-add_entry-in-Some-clause-stopped g c =
     let size = r.3.0 in
     let own = c.take_entry.ensures.own in
     let now_slots : AreSlots (C.standing c.take_entry.new.caller) c.args.from c.args.into m = (value_same s.own _ c.args.from own ∙ slots.0, value_same s.own _ c.args.into own ∙ slots.1) in
-    let merged = merged_as m is (done_at m.buckets b p) (C.knows c.args.caller.now) (C.knows c.take_entry.new.caller) d took.1 in
+    let merged = merged_as m is (done_at m.buckets b p) (C.knows c.args.caller.now) (C.knows c.take_entry.new.caller) d took.1 (λ other has. c.take_entry.ensures.aside d.after m.from_name m.heads (m.buckets b) other d.known_now at.0 at.1 (d.others_known other has) (from_lacks m is b c.requires.bucket other has)) in
     let entry : IsEntryAt m b p (take c.in-Some.size c.take_entry.new.buffer) c.in-Some.count r.0 r.1 = (r.2, r.3.1, r.4) in
     let done = done_at m.buckets b p in
     let first = goes_nowhere C.base C.tells C.tells_known C.standing m is done c.args.caller.now c.take_entry.new.caller (C.knows c.take_entry.new.caller) merged c.take_entry.ensures.ran c.take_entry.ensures.own in

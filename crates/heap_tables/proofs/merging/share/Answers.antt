@@ -10,6 +10,7 @@ use Rattle.heap_tables.proofs.Linked.{popped_having, shared_map}
 use Rattle.heap_tables.proofs.OnResult.{either, ok_map, err_map}
 use Rattle.heap_tables.proofs.RunOn.{next_same, ran_end, out_then, then_out, then_ran}
 use Rattle.heap_tables.proofs.Sought.{entry_drop, front_is}
+use Rattle.heap_tables.proofs.Asides.{lacks_at}
 use Rattle.heap_tables.proofs.merging.share.Goals as goal
 
 pub seek-requires-clause-chain : goal.seek-requires-clause-chain
@@ -222,3 +223,30 @@ returns-clause-shared g c =
     let named = shared_map known into_name heads c.args.bucket c.args.n knows _ _ _ into_front (next_of s) (datum.Object link.key) same refl refl now in
     (named, sym (ap (get known) same) ∙ r.1))
     c.share_key-shared.ensures.shared
+
+pub returns-clause-aside : goal.returns-clause-aside
+returns-clause-aside g c =
+    let C = g.C.Caller in
+    let s = C.standing c.args.caller.now in
+    ok_map c.share_key-shared.result _ _
+    (λ given known from_name into_name values heads links link rest other k is ko from_lacks lacks lacks_front.
+    let front = get_or values c.args.bucket datum.Null in
+    let ent = datum.Object link.entry in
+    let q = c.seek.ensures.sought known from_name values links k is.at is.apart in
+    let two : (C.standing c.seek.new.caller).own ≡ pushed (pushed s.own front) ent = q.0 ∙ ap (pushed (pushed s.own front)) (front_is (drop c.args.place links) rest link is.there) in
+    let entry = entry_drop known front links rest link c.args.place is.at.2 is.there in
+    let into2 = slot_after (pushed s.own front) _ ent known c.args.into into_name heads two (slot_after s.own (pushed s.own front) front known c.args.into into_name heads refl is.slot) in
+    let size1 = length_push s.own.stack front in
+    let size2 = size_after (pushed s.own front) _ ent two in
+    let there = top_after (pushed s.own front) _ ent (c.args.top + 1) two (omega (arith, size1, c.requires.top)) in
+    let same = next_same s (C.standing c.seek.new.caller) c.seek.ensures.ran.since.thread (ap (λ (o : Thread). o.made) two) in
+    let still = c.seek.ensures.aside known from_name values links other k is.at is.apart ko from_lacks in
+    let r = given known into_name heads entry.0 link other q.1 into2 is.within (there, entry.1) still lacks lacks_front (lacks_at other c.args.place links rest link is.there from_lacks.1) in
+    (c.pop-2.ensures.keeps other (c.pop.ensures.keeps other r.0), sym (ap (get other) same) ∙ r.1))
+    c.share_key-shared.ensures.aside
+
+pub returns-clause-left : goal.returns-clause-left
+returns-clause-left g c =
+    err_map c.share_key-shared.result _ _
+    (λ f known from_name into_name values heads links link rest other k is ko from_lacks. c.pop-2.ensures.keeps other (c.pop.ensures.keeps other (f other (c.seek.ensures.aside known from_name values links other k is.at is.apart ko from_lacks))))
+    c.share_key-shared.ensures.keeps

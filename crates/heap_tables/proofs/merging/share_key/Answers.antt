@@ -1,15 +1,17 @@
-use Rattle.std.proofs.Common.{◌≡◌, ◌+◌, ◌∙◌, ap, sym, arith, length, get_or}
+use Rattle.std.proofs.Common.{◌≡◌, ◌+◌, ◌∙◌, ap, sym, arith, length, get_or, subst}
 use Rattle.std.specs.FinMap.{get}
 use Rattle.yak_model.specs.Graph.{Thread}
 use Rattle.yak_model.specs.Room.{entry_words}
 use Rattle.yak_model.specs.declared.datum.Datum.TheVariants as datum
 use Rattle.yak_model.specs.Tables.{entry_fields}
-use Rattle.heap_tables.specs.Adds.{having_made}
-use Rattle.heap_tables.specs.Runs.{KnowsSome, next_of, popped, pushed}
+use Rattle.heap_tables.specs.Adds.{having_made, with_fields}
+use Rattle.heap_tables.specs.Runs.{KnowsSome, next_of, popped, pushed, slot_in}
 use Rattle.heap_tables.proofs.Effects.{length-take_pop, popped_pushed, size_after, slot_after, slot_below, top_after}
 use Rattle.heap_tables.proofs.Linked.{popped_having, shared_map}
 use Rattle.heap_tables.proofs.OnResult.{either, ok_map, err_map}
 use Rattle.heap_tables.proofs.RunOn.{next_same, ran_end, ran_more, out_then, then_out, then_ran}
+use Rattle.heap_tables.proofs.Asides.{lacks_as, shared_back}
+use Rattle.yak_model.specs.Private.{LosesAll}
 use Rattle.heap_tables.proofs.merging.share_key.Goals as goal
 
 pub load-requires-clause-field : goal.load-requires-clause-field
@@ -287,3 +289,32 @@ returns-clause-shared g c =
     let named = shared_map known name heads c.args.bucket c.args.n knows _ _ _ front (next_of s) key same v1 v2 now in
     (named, sym (ap (get known) same) ∙ r.1))
     c.link_new-linked.ensures.linked
+
+pub returns-clause-aside : goal.returns-clause-aside
+returns-clause-aside g c =
+    let C = g.C.Caller in
+    let s = C.standing c.args.caller.now in
+    ok_map c.link_new-linked.result _ _
+    (λ given known name heads next link other k slot within entry ko lacks lacks_front lacks_key.
+    let front = get_or heads c.args.bucket datum.Null in
+    let key = datum.Object link.key in
+    let fields = entry_fields next link.key link.count in
+    let e1 = c.load.ensures.pushed known name heads k slot within in
+    let k1 = c.load.ensures.keeps known k in
+    let at1 = slot_after s.own _ front known c.args.entry link.entry fields e1 (entry.0, entry.1.0) in
+    let into1 = slot_after s.own _ front known c.args.into name heads e1 slot in
+    let size1 = size_after s.own _ front e1 in
+    let e2 = c.load-2.ensures.pushed known link.entry fields k1 at1 (omega arith) in
+    let k2 = c.load-2.ensures.keeps known k1 in
+    let into2 = slot_after _ _ key known c.args.into name heads e2 into1 in
+    let size2 = size_after (C.standing c.load.new.caller).own _ key e2 in
+    let own2 : (C.standing c.load-2.new.caller).own ≡ pushed (pushed s.own front) key = e2 ∙ ap (λ o. pushed o key) e1 in
+    let same = next_same s (C.standing c.load-2.new.caller) (c.load-2.ensures.ran.since.thread ∙ c.load.ensures.ran.since.thread) (ap (λ (o : Thread). o.made) own2) in
+    let v1 = ap (λ (o : Thread). get_or o.stack c.args.top datum.Null) e2 ∙ slot_below (C.standing c.load.new.caller).own.stack key c.args.top (omega (arith, size1, c.requires.top)) ∙ top_after s.own _ front c.args.top e1 c.requires.top in
+    let v2 = top_after (C.standing c.load.new.caller).own _ key (c.args.top + 1) e2 (omega (arith, size1, c.requires.top)) in
+    let sm = C.standing c.load-2.new.caller in
+    let r = given other (c.load-2.ensures.keeps other (c.load.ensures.keeps other ko)) in
+    let back = shared_back other (next_of sm) front key c.args.n r.0 lacks_front lacks_key in
+    let loses = subst (λ v. LosesAll (with_fields other (next_of sm) v (slot_in sm (c.args.top + 1)) c.args.n) (next_of sm) other) (sym v1) (subst (λ v. LosesAll (with_fields other (next_of sm) front v c.args.n) (next_of sm) other) (sym v2) back) in
+    (c.pop-2.ensures.keeps other (c.pop.ensures.keeps other (r.1 other (lacks_as other (datum.Object name) _ (sym into2.0) lacks) loses)), sym (ap (get other) same) ∙ r.0))
+    c.link_new-linked.ensures.aside

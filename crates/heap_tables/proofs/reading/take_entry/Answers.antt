@@ -276,3 +276,11 @@ returns-clause-took g c known name values links k at apart =
     let copied = c.entry_word-size.ensures.copied known t.2 link kept (slot, t.4) in
     let count = c.field_int-count.ensures.value known link.entry (entry_fields t.2 link.key link.count) link.count (c.entry_word-size.ensures.keeps known kept) (value_same _ _ (c.args.top + 1) c.entry_word-size.ensures.own ∙ slot, t.4.0) (omega arith) refl in
     (took_some rest t.1 link c.entry_word-size.result c.field_int-count.result _ t.3 copied count, c.pop-3.ensures.keeps known (c.pop-2.ensures.keeps known (c.field_int-count.ensures.keeps known (c.entry_word-size.ensures.keeps known (c.slot_is_null.ensures.keeps known q.1)))))
+
+pub returns-then-slot_is_null-clause-aside : goal.returns-then-slot_is_null-clause-aside
+returns-then-slot_is_null-clause-aside g c known name values links other k at apart ko lacks =
+    c.pop-then-slot_is_null.ensures.keeps other (c.pop.ensures.keeps other (c.slot_is_null.ensures.keeps other (c.seek.ensures.aside known name values links other k at apart ko lacks)))
+
+pub returns-clause-aside : goal.returns-clause-aside
+returns-clause-aside g c known name values links other k at apart ko lacks =
+    c.pop-3.ensures.keeps other (c.pop-2.ensures.keeps other (c.field_int-count.ensures.keeps other (c.entry_word-size.ensures.keeps other (c.slot_is_null.ensures.keeps other (c.seek.ensures.aside known name values links other k at apart ko lacks)))))

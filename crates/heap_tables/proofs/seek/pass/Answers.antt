@@ -5,6 +5,7 @@ use Rattle.heap_tables.proofs.Effects.{popped_pushed, slot_after, top_after, siz
 use Rattle.heap_tables.proofs.RunOn.{ran_more}
 use Rattle.heap_tables.proofs.Sought.{first_link, passed_end, passed_on}
 use Rattle.yak_model.specs.Tables.{entry_fields}
+use Rattle.heap_tables.proofs.Asides.{first_left, lacks_as}
 use Rattle.heap_tables.proofs.seek.pass.Goals as goal
 
 pub load-requires-clause-field : goal.load-requires-clause-field
@@ -112,3 +113,15 @@ returns-clause-passed g c known name values links k at =
     (λ next link head entry. c.pop-2.ensures.keeps _ (c.copy_field.ensures.stored known link.entry name (entry_fields next link.key link.count) values (c.slot_is_null.ensures.keeps known (c.load.ensures.keeps known k))
     (top_after (g.C.Caller.standing c.args.caller.now).own _ (get_or values c.args.bucket datum.Null) c.args.top after c.requires.top ∙ head, entry.0) (omega arith)
     (slot_after (g.C.Caller.standing c.args.caller.now).own _ (get_or values c.args.bucket datum.Null) known c.args.table name values after at.0) at.1))
+
+pub returns-clause-aside : goal.returns-clause-aside
+returns-clause-aside g c known name values links other k at ko lacks =
+    let own = (g.C.Caller.standing c.args.caller.now).own in
+    let front = get_or values c.args.bucket datum.Null in
+    let e = c.load.ensures.pushed known name values k at.0 at.1 in
+    let there = top_after own _ front c.args.top e c.requires.top in
+    let after = c.slot_is_null.ensures.own ∙ e in
+    let first = first_left other known front links at.2 (λ null. true≢false (sym (c.if-slot_is_null.ensures.answer.1 (there ∙ null)))) lacks.1 in
+    let slot = slot_after own _ front known c.args.table name values after at.0 in
+    c.pop-2.ensures.keeps other (c.copy_field.ensures.aside known (first.1).entry (entry_fields first.0 (first.1).key (first.1).count) other (c.slot_is_null.ensures.keeps known (c.load.ensures.keeps known k))
+    (top_after own _ front c.args.top after c.requires.top ∙ first.2, first.3.0) (omega arith) (c.slot_is_null.ensures.keeps other (c.load.ensures.keeps other ko)) first.4 (lacks_as other (datum.Object name) _ (sym slot.0) lacks.0))

@@ -1,4 +1,4 @@
-use Rattle.std.proofs.Common.{◌∙◌, ap, arith, get_or, set, drop}
+use Rattle.std.proofs.Common.{◌∙◌, ap, arith, get_or, set, drop, sym}
 use Rattle.yak_model.specs.declared.datum.Datum.TheVariants as datum
 use Rattle.heap_tables.specs.Runs.{pushed}
 use Rattle.heap_tables.specs.Seeks.{first_of}
@@ -7,6 +7,7 @@ use Rattle.heap_tables.proofs.Effects.{size_after, slot_after}
 use Rattle.heap_tables.proofs.Places.{put_back}
 use Rattle.heap_tables.proofs.RunOn.{ran_more}
 use Rattle.heap_tables.proofs.Sought.{sought}
+use Rattle.heap_tables.proofs.Asides.{gives_none, lacks_as, lacks_head}
 use Rattle.heap_tables.proofs.seek.seek.Goals as goal
 
 pub load-requires-clause-field : goal.load-requires-clause-field
@@ -89,3 +90,17 @@ returns-clause-sought g c known name values links k here apart =
       c.store.ensures.own ∙ up ∙ ap (λ o. pushed o (first_of rest)) (c.skip.ensures.own ∙ e),
       put_back known name values c.args.bucket t.place _ (C.knows c.store.new.caller) (t.front_own up) here.0.1 stored,
     )
+
+pub returns-clause-aside : goal.returns-clause-aside
+returns-clause-aside g c known name values links other k here apart ko lacks =
+    let C = g.C.Caller in
+    let s = C.standing c.args.caller.now in
+    let front = get_or values c.args.bucket datum.Null in
+    let e = c.load.ensures.pushed known name values k here.0 here.1 in
+    let at : IsAtChain (C.standing c.load.new.caller) known c.args.table c.args.bucket name values links = (slot_after s.own _ front known c.args.table name values e here.0, here.1, here.2) in
+    let p = c.skip.ensures.skipped known name values links (c.load.ensures.keeps known k) at apart in
+    let rest = drop c.args.place links in
+    let t = sought s known c.args.table name values c.args.bucket links here c.args.top c.requires.top rest (C.knows c.skip.new.caller) p (C.standing c.skip.new.caller).own (C.standing c.load-2.new.caller).own (c.skip.ensures.own ∙ e) in
+    let up = c.load-2.ensures.pushed _ name (set values c.args.bucket t.place) t.known_now (t.slot_mid, t.object) t.within ∙ ap (pushed (C.standing c.skip.new.caller).own) t.value in
+    let still = c.load-2.ensures.keeps other (c.skip.ensures.aside known name values links other (c.load.ensures.keeps known k) at apart (c.load.ensures.keeps other ko) lacks) in
+    c.store.ensures.aside other other still (lacks_as other (datum.Object name) _ (sym (t.slot_own up)) lacks.0) (gives_none other _ (lacks_as other front _ (sym (t.front_own up)) (lacks_head other known front links here.2 lacks.1)))

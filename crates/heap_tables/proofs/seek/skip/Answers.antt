@@ -5,6 +5,7 @@ use Rattle.heap_tables.specs.Walks.{with_place}
 use Rattle.heap_tables.proofs.Effects.{value_same}
 use Rattle.heap_tables.proofs.RunOn.{ran_none, ran_more}
 use Rattle.heap_tables.proofs.Sought.{apart_drop, at_skip, drop_more, drop_past, end_skip, more_skip, start_skip}
+use Rattle.heap_tables.proofs.Asides.{lacks_drop}
 use Rattle.heap_tables.proofs.seek.skip.Goals as goal
 
 pub loop-i-init : goal.loop-i-init
@@ -12,6 +13,7 @@ loop-i-init g c = let C = g.C.Caller in record {
   ran = ran_none C.base C.tells C.tells_known C.standing c.args.caller.now;
   own = refl;
   place = λ known name values links k at apart. start_skip (C.standing c.args.caller.now) known c.args.table name values c.args.bucket links at (C.knows c.args.caller.now) k;
+  aside = λ known name values links other k at apart ko lacks. ko;
 }
 
 pub pass-requires-clause-chain : goal.pass-requires-clause-chain
@@ -48,6 +50,12 @@ loop-i-preserved g c =
           let passed = c.if-not-pass.ensures.passed _ name (set values c.args.bucket p.place) rest p.known_now (at_skip s known c.args.table name values c.args.bucket links at (C.knows c.loop-i.caller) rest p (C.standing c.loop-i.caller) (value_same _ _ c.args.table inv.own ∙ at.0.0)) in
           let r = more_skip s known c.args.table name values c.args.bucket links at (C.knows c.loop-i.caller) (C.knows c.pass.new.caller) rest p (apart_drop name c.loop-i.i links apart) passed in
           subst (λ ls. IsSkipped known name values c.args.bucket ls (C.knows c.pass.new.caller)) (sym (drop_more c.loop-i.i links r.1 r.0 r.2)) r.3;
+      aside = λ known name values links other k at apart ko lacks.
+          let p = inv.place known name values links k at apart in
+          let s = C.standing c.args.caller.now in
+          let rest = drop c.loop-i.i links in
+          let there = at_skip s known c.args.table name values c.args.bucket links at (C.knows c.loop-i.caller) rest p (C.standing c.loop-i.caller) (value_same _ _ c.args.table inv.own ∙ at.0.0) in
+          c.pass.ensures.aside _ name (set values c.args.bucket p.place) rest other p.known_now there (inv.aside known name values links other k at apart ko lacks) (lacks.0, lacks_drop other c.loop-i.i links lacks.1);
     }
 
 pub returns-then-not-pass-clause-ran : goal.returns-then-not-pass-clause-ran
@@ -68,3 +76,13 @@ pub returns-clause-skipped : goal.returns-clause-skipped
 returns-clause-skipped g c known name values links k at apart =
     let same : c.loop-i.i ≡ c.args.n = omega (arith, c.loop-i-test.false, c.loop-i.auto.i-end) in
     subst (λ n. IsSkipped known name values c.args.bucket (drop n links) (g.C.Caller.knows c.loop-i.caller)) same (c.loop-i.invariant.place known name values links k at apart)
+
+pub returns-then-not-pass-clause-aside : goal.returns-then-not-pass-clause-aside
+returns-then-not-pass-clause-aside g c known name values links other k at apart ko lacks =
+    let C = g.C.Caller in
+    let inv = c.loop-i.invariant in
+    let p = inv.place known name values links k at apart in
+    let s = C.standing c.args.caller.now in
+    let rest = drop c.loop-i.i links in
+    let there = at_skip s known c.args.table name values c.args.bucket links at (C.knows c.loop-i.caller) rest p (C.standing c.loop-i.caller) (value_same _ _ c.args.table inv.own ∙ at.0.0) in
+    c.pass.ensures.aside _ name (set values c.args.bucket p.place) rest other p.known_now there (inv.aside known name values links other k at apart ko lacks) (lacks.0, lacks_drop other c.loop-i.i links lacks.1)

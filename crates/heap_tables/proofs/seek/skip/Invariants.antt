@@ -6,6 +6,7 @@ use Rattle.yak_model.specs.Tables.{Link}
 use Rattle.heap_tables.specs.Runs.{Ran}
 use Rattle.heap_tables.specs.Walks.{IsApart, IsAtChain}
 use Rattle.heap_tables.specs.Seeks.{IsSkipped}
+use Rattle.heap_tables.specs.Asides.{LacksChain}
 use Rattle.heap_tables.proofs.seek.skip.Given as goal
 
 abbrev pub invariant-loop-i : goal.invariant-loop-i
@@ -14,4 +15,6 @@ invariant-loop-i g l = let C = g.C.Caller in record {
   own : (C.standing l.caller).own ≡ (C.standing l.fn.caller).own;
   place : (known : KnownObjects) (name : Name) (values : List Datum) (links : List Link) → C.knows l.fn.caller known → IsAtChain (C.standing l.fn.caller) known l.fn.table l.fn.bucket name values links → IsApart name links
       → IsSkipped known name values l.fn.bucket (drop l.i links) (C.knows l.caller);
+  aside : (known : KnownObjects) (name : Name) (values : List Datum) (links : List Link) (other : KnownObjects) → C.knows l.fn.caller known → IsAtChain (C.standing l.fn.caller) known l.fn.table l.fn.bucket name values links → IsApart name links
+      → C.knows l.fn.caller other → LacksChain other name links → C.knows l.caller other;
 }

@@ -1,8 +1,9 @@
 use Rattle.heap_tables.proofs.RunOn.{ran_more}
-use Rattle.std.proofs.Common.{◌∙◌, ap, subst, arith, get_or}
+use Rattle.std.proofs.Common.{◌∙◌, ap, subst, arith, get_or, sym}
 use Rattle.yak_model.specs.declared.datum.Datum.TheVariants as datum
 use Rattle.heap_tables.specs.Runs.{popped, with_field}
 use Rattle.heap_tables.proofs.Effects.{popped_pushed, slot_after, top_after, size_after}
+use Rattle.heap_tables.proofs.Asides.{gives_none, lacks_as}
 use Rattle.heap_tables.proofs.steps.copy_field.Goals as goal
 
 pub load-requires-clause-field : goal.load-requires-clause-field
@@ -47,3 +48,14 @@ returns-clause-stored g c known name to_name values to_values k slot bound to_sl
 
 pub returns-clause-ran : goal.returns-clause-ran
 returns-clause-ran g c = let C = g.C.Caller in ran_more C.base C.tells C.tells_known C.standing _ _ _ (ran_more C.base C.tells C.tells_known C.standing _ _ _ c.load.ensures.ran c.store.ensures.ran) c.pop.ensures.ran
+
+pub returns-clause-aside : goal.returns-clause-aside
+returns-clause-aside g c known name values other k slot bound ko lacks to_lacks =
+    let h = c.requires.both in
+    let own = (g.C.Caller.standing c.args.caller.now).own in
+    let value = get_or values c.args.f datum.Null in
+    let e = c.load.ensures.pushed known name values k slot bound in
+    let there = slot_after own _ value h.0 c.args.to h.3 h.4 e h.8 in
+    let top = top_after own _ value c.args.top e c.requires.top in
+    c.pop.ensures.keeps other (c.store.ensures.aside other other (c.load.ensures.keeps other ko)
+    (lacks_as other _ _ (h.8.0 ∙ sym there.0) to_lacks) (gives_none other _ (lacks_as other _ _ (sym top) lacks)))

@@ -1,8 +1,9 @@
 use Rattle.heap_tables.proofs.RunOn.{ran_more}
-use Rattle.std.proofs.Common.{◌∙◌, ap, subst, arith}
+use Rattle.std.proofs.Common.{◌∙◌, ap, subst, arith, sym}
 use Rattle.yak_model.specs.declared.datum.Datum.TheVariants as datum
 use Rattle.heap_tables.specs.Runs.{popped, with_field}
 use Rattle.heap_tables.proofs.Effects.{popped_pushed, slot_after, top_after, size_after}
+use Rattle.heap_tables.proofs.Asides.{gives_none, lacks_as}
 use Rattle.heap_tables.proofs.steps.put_int.Goals as goal
 
 pub push_int-requires-clause-some : goal.push_int-requires-clause-some
@@ -35,3 +36,12 @@ returns-clause-stored g c known name values k slot bound =
 
 pub returns-clause-ran : goal.returns-clause-ran
 returns-clause-ran g c = let C = g.C.Caller in ran_more C.base C.tells C.tells_known C.standing _ _ _ (ran_more C.base C.tells C.tells_known C.standing _ _ _ c.push_int.ensures.ran c.store.ensures.ran) c.pop.ensures.ran
+
+pub returns-clause-aside : goal.returns-clause-aside
+returns-clause-aside g c other k lacks =
+    let h = c.requires.field in
+    let e = c.push_int.ensures.pushed in
+    let there = slot_after (g.C.Caller.standing c.args.caller.now).own _ (datum.Int c.args.n) h.0 c.args.s h.1 h.2 e h.4 in
+    let top = top_after (g.C.Caller.standing c.args.caller.now).own _ (datum.Int c.args.n) c.args.top e c.requires.top in
+    c.pop.ensures.keeps other (c.store.ensures.aside other other (c.push_int.ensures.keeps other k)
+    (lacks_as other _ _ (h.4.0 ∙ sym there.0) lacks) (gives_none other _ (lacks_as other _ _ (sym top) tt)))

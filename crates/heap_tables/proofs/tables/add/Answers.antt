@@ -1,4 +1,4 @@
-use Rattle.std.proofs.Common.{◌≡◌, inl, inr, ⊎_elim, ℕ, ◌+◌, ◌∙◌, ap, arith, List, refl}
+use Rattle.std.proofs.Common.{◌≡◌, inl, inr, ⊎_elim, ℕ, ◌+◌, ◌∙◌, ap, arith, List, refl, subst}
 use Rattle.object_layout.specs.declared.names.Name.{Name}
 use Rattle.yak_model.specs.Graph.{Thread}
 use Rattle.yak_model.specs.Private.{KnownObjects}
@@ -11,7 +11,8 @@ use Rattle.yak_model.specs.Tables.{bucket_of}
 use Rattle.heap_tables.proofs.Effects.{value_same}
 use Rattle.heap_tables.proofs.Linked.{after_moved}
 use Rattle.heap_tables.proofs.OnResult.{ok_both, ok_map, err_map}
-use Rattle.heap_tables.proofs.RunOn.{ran_more, then_ran, then_out}
+use Rattle.heap_tables.proofs.RunOn.{ran_more, then_ran, then_out, next_same}
+use Rattle.std.specs.FinMap.{insert}
 use Rattle.heap_tables.proofs.tables.add.Goals as goal
 
 may_add : (s now : Standing) → now.own ≡ s.own → (known : KnownObjects) (table : ℕ) (word : List ℕ) (n : ℕ) (name : Name) (counts : WordCounts) (may : MayCount s known table word n name counts) → MayAdd now known table word n name (may.is_table).heads (may.is_table).buckets
@@ -77,3 +78,20 @@ returns-clause-kept g c = err_map c.add_links.result _ _
     let r = kept known name table.heads table.buckets (c.stack_size-top.ensures.keeps known k) (may_add (g.C.Caller.standing c.args.caller.now) _ c.stack_size-top.ensures.own known c.args.table c.args.word.now c.args.n name counts may) in
     (lacks_none known name counts table c.args.word.now r.3, (r.0, r.1, grown_counts known r.0 r.2 name counts table, r.2, refl)))
     c.add_links.ensures.kept
+
+pub returns-clause-aside : goal.returns-clause-aside
+returns-clause-aside g c = ok_map c.add_links.result _ _
+    (λ aside known name counts may other k ko lacks.
+    aside known name (may.is_table).heads (may.is_table).buckets other (c.stack_size-top.ensures.keeps known k) (may_add (g.C.Caller.standing c.args.caller.now) _ c.stack_size-top.ensures.own known c.args.table c.args.word.now c.args.n name counts may) (c.stack_size-top.ensures.keeps other ko) lacks)
+    c.add_links.ensures.aside
+
+pub returns-clause-left : goal.returns-clause-left
+returns-clause-left g c = err_map c.add_links.result _ _
+    (λ left known name counts may other k ko lacks.
+    let s = g.C.Caller.standing c.args.caller.now in
+    let next = next_same s (g.C.Caller.standing c.stack_size-top.new.caller) c.stack_size-top.ensures.ran.since.thread (ap (λ (o : Thread). o.made) c.stack_size-top.ensures.own) in
+    elim (left known name (may.is_table).heads (may.is_table).buckets other (c.stack_size-top.ensures.keeps known k) (may_add s _ c.stack_size-top.ensures.own known c.args.table c.args.word.now c.args.n name counts may) (c.stack_size-top.ensures.keeps other ko) lacks) [
+      | inl h ↦ inl h
+      | inr h ↦ inr (h.0, subst (λ n. g.C.Caller.knows c.add_links.new.caller (insert other n h.0)) next h.1)
+    ])
+    c.add_links.ensures.left

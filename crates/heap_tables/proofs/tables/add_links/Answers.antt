@@ -1,5 +1,5 @@
-use Rattle.heap_tables.proofs.RunOn.{ran_more, ran_then, ran_words, ran_out, out_then, out_words}
-use Rattle.std.proofs.Common.{inl, inr, ⊎_elim}
+use Rattle.heap_tables.proofs.RunOn.{ran_more, ran_then, ran_words, ran_out, out_then, out_words, next_same}
+use Rattle.std.proofs.Common.{inl, inr, ⊎_elim, sym, ◌<◌}
 use Rattle.yak_model.specs.Room.{entry_words, key_words}
 use Rattle.heap_tables.specs.Adds.{having_made}
 use Rattle.heap_tables.proofs.Effects.{popped_pushed}
@@ -10,8 +10,11 @@ use Rattle.yak_model.specs.declared.datum.Datum.{Datum}
 use Rattle.yak_model.specs.declared.datum.Datum.TheVariants as datum
 use Rattle.heap_tables.specs.Runs.{pushed, popped}
 use Rattle.heap_tables.proofs.Effects.{slot_same, slot_after, top_after, size_after, take_push}
-use Rattle.yak_model.specs.Tables.{LacksWord, bucket_of}
+use Rattle.yak_model.specs.Tables.{LacksWord, bucket_of, IsChain}
 use Rattle.heap_tables.proofs.Counted.{lacks_count}
+use Rattle.heap_tables.proofs.Asides.{lacks_as, lacks_head}
+use Rattle.std.specs.FinMap.{insert}
+use Rattle.yak_model.specs.declared.TheConstants.{BUCKETS}
 use Rattle.heap_tables.proofs.tables.add_links.Goals as goal
 
 pub load-requires-clause-field : goal.load-requires-clause-field
@@ -280,3 +283,49 @@ returns-in-Ok-clause-made g c known name heads buckets k may =
     let loaded = c.load.ensures.pushed known name heads missing.1 slot within ∙ ap (λ o. pushed o value) same in
     let own = c.pop.ensures.popped ∙ ap popped (c.in-Ok.ensures.own ∙ ap (λ o. having_made o 2) loaded) ∙ popped_having (g.C.Caller.standing c.args.caller.now).own value 2 in
     (λ m has. absurd (lacks_count c.args.word.now (buckets (bucket_of c.args.word.now)) m missing.0 has), λ _. ap (λ (o : Thread). o.made) own)
+
+pub returns-then-add_present-clause-aside : goal.returns-then-add_present-clause-aside
+returns-then-add_present-clause-aside g c known name heads buckets other k may ko lacks = c.if-add_present.ensures.aside known name heads buckets other k may ko lacks
+
+pub returns-in-Ok-clause-aside : goal.returns-in-Ok-clause-aside
+returns-in-Ok-clause-aside g c known name heads buckets other k may ko lacks =
+    let missing = (c.if-add_present.ensures.added known name heads buckets k may).1 refl in
+    let t = may.is_table in
+    let b = bucket_of c.args.word.now in
+    let e = c.bucket_of-bucket.ensures.same in
+    let small = c.bucket_of-bucket.ensures.small in
+    let bound : b < BUCKETS = omega (arith, e, small) in
+    let same = c.add_present.ensures.own in
+    let own = (g.C.Caller.standing c.args.caller.now).own in
+    let value = get_or heads c.bucket_of-bucket.result datum.Null in
+    let slot = slot_same own _ known c.args.table name heads same (may.slot, t.object) in
+    let within : c.bucket_of-bucket.result < length heads = omega (arith, t.size, small) in
+    let loaded = c.load.ensures.pushed known name heads missing.1 slot within ∙ ap (λ o. pushed o value) same in
+    let there = slot_after own _ value known c.args.table name heads loaded (may.slot, t.object) in
+    let still = c.load.ensures.keeps other (c.if-add_present.ensures.aside known name heads buckets other k may ko lacks) in
+    let front = lacks_head other known value (buckets b) (subst (λ i. IsChain known (get_or heads i datum.Null) (buckets b)) (sym e) (t.chains b bound)) (lacks.links b bound) in
+    let top = top_after own _ value c.args.top loaded c.requires.top in
+    c.pop.ensures.keeps other (c.in-Ok.ensures.aside other still (lacks_as other (datum.Object name) _ (sym there.0) lacks.head) (lacks_as other value _ (sym top) front))
+
+pub returns-in-Err-clause-left : goal.returns-in-Err-clause-left
+returns-in-Err-clause-left g c known name heads buckets other k may ko lacks =
+    let missing = (c.if-add_present.ensures.added known name heads buckets k may).1 refl in
+    let t = may.is_table in
+    let b = bucket_of c.args.word.now in
+    let e = c.bucket_of-bucket.ensures.same in
+    let small = c.bucket_of-bucket.ensures.small in
+    let bound : b < BUCKETS = omega (arith, e, small) in
+    let same = c.add_present.ensures.own in
+    let own = (g.C.Caller.standing c.args.caller.now).own in
+    let value = get_or heads c.bucket_of-bucket.result datum.Null in
+    let slot = slot_same own _ known c.args.table name heads same (may.slot, t.object) in
+    let within : c.bucket_of-bucket.result < length heads = omega (arith, t.size, small) in
+    let loaded = c.load.ensures.pushed known name heads missing.1 slot within ∙ ap (λ o. pushed o value) same in
+    let there = slot_after own _ value known c.args.table name heads loaded (may.slot, t.object) in
+    let still = c.load.ensures.keeps other (c.if-add_present.ensures.aside known name heads buckets other k may ko lacks) in
+    let s = g.C.Caller.standing c.args.caller.now in
+    let next = next_same s (g.C.Caller.standing c.load.new.caller) (c.load.ensures.ran.since.thread ∙ c.if-add_present.ensures.ran.since.thread) (ap (λ (o : Thread). o.made) loaded) in
+    elim (c.in-Err.ensures.left other still) [
+      | inl h ↦ inl (c.pop-in-Err.ensures.keeps other h)
+      | inr h ↦ inr (h.0, subst (λ n. g.C.Caller.knows c.pop-in-Err.new.caller (insert other n h.0)) next (c.pop-in-Err.ensures.keeps _ h.1))
+    ]

@@ -1,6 +1,6 @@
 use Rattle.heap_tables.proofs.RunOn.{ran_more}
 use Rattle.yak_model.specs.declared.TheConstants.{BUCKETS}
-use Rattle.std.proofs.Common.{◌≡◌, ◌+◌, ◌<◌, ◌∙◌, ap, sym, subst, refl, arith, length, get_or, true≢false}
+use Rattle.std.proofs.Common.{◌≡◌, ◌+◌, ◌<◌, ◌∙◌, ap, sym, subst, refl, arith, length, get_or, true≢false, ◌∷◌}
 use Rattle.yak_model.specs.Graph.{Thread}
 use Rattle.yak_model.specs.declared.datum.Datum.TheVariants as datum
 use Rattle.heap_tables.specs.Runs.{pushed, popped}
@@ -9,6 +9,7 @@ use Rattle.yak_model.specs.Tables.{bucket_of}
 use Rattle.yak_model.specs.Tables.{IsChain, HasCount}
 use Rattle.heap_tables.specs.Walks.{IsAtChain}
 use Rattle.heap_tables.proofs.Raised.{table_apart, has_count_at, entry_at, raised_table}
+use Rattle.heap_tables.proofs.Asides.{lacks_as, lacks_rest}
 use Rattle.heap_tables.proofs.tables.add_present.Goals as goal
 
 pub find-requires-clause-chain : goal.find-requires-clause-chain
@@ -256,3 +257,34 @@ returns-then-find-clause-ran g c = let C = g.C.Caller in ran_more C.base C.tells
 
 pub returns-else-find-clause-ran : goal.returns-else-find-clause-ran
 returns-else-find-clause-ran g c = let C = g.C.Caller in ran_more C.base C.tells C.tells_known C.standing _ _ _ c.if-find.ensures.ran c.pop-else-find.ensures.ran
+
+pub returns-then-find-clause-aside : goal.returns-then-find-clause-aside
+returns-then-find-clause-aside g c known name heads buckets other k may ko lacks =
+    let t = may.is_table in
+    let b = bucket_of c.args.word.now in
+    let e = c.bucket_of-bucket.ensures.same in
+    let small : b < BUCKETS = omega (arith, e, c.bucket_of-bucket.ensures.small) in
+    let chain = t.chains b small in
+    let at : IsAtChain (g.C.Caller.standing c.args.caller.now) known c.args.table c.bucket_of-bucket.result name heads (buckets b) = ((may.slot, t.object), omega (arith, t.size, c.bucket_of-bucket.ensures.small), subst (λ i. IsChain known (get_or heads i datum.Null) (buckets b)) (sym e) chain) in
+    let apart = table_apart known name heads buckets t (buckets b) (get_or heads b datum.Null) chain in
+    let still = c.if-find.ensures.aside known name heads (buckets b) other k at apart may.short ko (lacks.head, lacks.links b small) in
+    let f = (c.if-find.ensures.found known name heads (buckets b) k at apart may.short).0 refl in
+    let front = get_or heads c.bucket_of-bucket.result datum.Null in
+    let own = (g.C.Caller.standing c.args.caller.now).own in
+    let deep : length (pushed own front).stack ≡ c.args.top + 1 = length_push _ _ ∙ ap (λ m. m + 1) c.requires.top in
+    let entry = top_after (pushed own front) _ (datum.Object (f.1).entry) (c.args.top + 1) f.6 deep in
+    let rest = lacks_rest other f.0 (f.1 ∷ f.2) (buckets b) f.3 (lacks.links b small) in
+    let raised = c.raise.ensures.aside other still (lacks_as other (datum.Object (f.1).entry) _ (sym entry) rest.0) in
+    c.pop-then-find.ensures.keeps other (c.pop.ensures.keeps other raised)
+
+pub returns-else-find-clause-aside : goal.returns-else-find-clause-aside
+returns-else-find-clause-aside g c known name heads buckets other k may ko lacks =
+    let t = may.is_table in
+    let b = bucket_of c.args.word.now in
+    let e = c.bucket_of-bucket.ensures.same in
+    let small : b < BUCKETS = omega (arith, e, c.bucket_of-bucket.ensures.small) in
+    let chain = t.chains b small in
+    let at : IsAtChain (g.C.Caller.standing c.args.caller.now) known c.args.table c.bucket_of-bucket.result name heads (buckets b) = ((may.slot, t.object), omega (arith, t.size, c.bucket_of-bucket.ensures.small), subst (λ i. IsChain known (get_or heads i datum.Null) (buckets b)) (sym e) chain) in
+    let apart = table_apart known name heads buckets t (buckets b) (get_or heads b datum.Null) chain in
+    let still = c.if-find.ensures.aside known name heads (buckets b) other k at apart may.short ko (lacks.head, lacks.links b small) in
+    c.pop-else-find.ensures.keeps other still

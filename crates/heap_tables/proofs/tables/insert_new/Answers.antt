@@ -1,5 +1,5 @@
 use Rattle.heap_tables.proofs.RunOn.{ran_then, ran_words, ran_out, out_then, out_words}
-use Rattle.std.proofs.Common.{inr}
+use Rattle.std.proofs.Common.{inr, sym, inl}
 use Rattle.yak_model.specs.Room.{entry_words, key_words}
 use Rattle.heap_tables.specs.Runs.{popped}
 use Rattle.heap_tables.proofs.Linked.{popped_made}
@@ -15,6 +15,8 @@ use Rattle.yak_model.specs.Tables.{IsKey, bucket_of}
 use Rattle.heap_tables.specs.Adds.{with_fields}
 use Rattle.heap_tables.proofs.KeyGrowth.{made_at}
 use Rattle.heap_tables.proofs.Linked.{after_new, made_below, insert_grows, linked_table}
+use Rattle.heap_tables.proofs.Asides.{added_back, key_bare, lacks_as, lacks_insert, not_next}
+use Rattle.yak_model.specs.Private.{LosesAll}
 use Rattle.heap_tables.proofs.tables.insert_new.Goals as goal
 
 on_err : {A B : Type 0} (r : Result A B) (P : Type 0) → P → OnErr r P
@@ -93,3 +95,33 @@ returns-in-Err-clause-ran_out g c =
     let words = key_words c.args.word.now in
     let out = out_then C.base C.tells C.tells_known C.standing _ _ _ (words + 0) 3 (ran_out C.base C.tells C.tells_known C.standing _ _ _ words 0 3 c.in_ok-make_key.ensures.ran c.in-Err.ensures.ran_out) c.pop-in-Err.ensures.ran in
     inr (out_words C.base C.tells C.tells_known C.standing _ _ (words + 0) words 3 (omega arith) out, c.pop-in-Err.ensures.popped ∙ ap popped (c.in-Err.ensures.same ∙ c.in_ok-make_key.ensures.pushed) ∙ popped_made (C.standing c.args.caller.now))
+
+pub returns-in_err-make_key-clause-left : goal.returns-in_err-make_key-clause-left
+returns-in_err-make_key-clause-left g c = on_err c.from_residual.result _ (λ other k. inl (c.in_err-make_key.ensures.keeps other k))
+
+pub returns-in-Err-clause-left : goal.returns-in-Err-clause-left
+returns-in-Err-clause-left g c other k =
+    let p = (c.in_ok-make_key.ensures.made other k).0 in
+    let one = insert other (next_of (g.C.Caller.standing c.args.caller.now)) (Fields p.values) in
+    inr (Fields p.values, c.pop-in-Err.ensures.keeps one (c.in-Err.ensures.keeps one p.known_now))
+
+pub returns-in-Ok-clause-aside : goal.returns-in-Ok-clause-aside
+returns-in-Ok-clause-aside g c other k lacks lacks_front =
+    let s = g.C.Caller.standing c.args.caller.now in
+    let mid = g.C.Caller.standing c.make_key.new.caller in
+    let h = c.requires.table in
+    let e = c.in_ok-make_key.ensures.pushed in
+    let begun = c.in_ok-make_key.ensures.made other k in
+    let p = begun.0 in
+    let key = next_of s in
+    let entry = next_of mid in
+    let one = insert other key (Fields p.values) in
+    let linked = c.in-Ok.ensures.aside one p.known_now in
+    let table = made_below s _ c.args.table e (in_bounds s.own.stack c.args.table h.1 (h.4).0) in
+    let front = made_below s _ c.args.front e (omega (arith, c.requires.top)) in
+    let top = (made_at s _ other (c.args.front + 1) p.values e c.requires.top).0 in
+    let lacks_one = lacks_insert other key _ _ (not_next h.0 _ h.1 key _ (h.4).0 (h.4).1 (c.in_ok-make_key.ensures.made h.0 h.3).1) lacks in
+    let back = added_back other key entry p.values (slot_in s c.args.front) c.args.n begun.1 linked.0 (key_bare other key c.args.word.now _ p) lacks_front in
+    let loses = subst (λ v. LosesAll (with_fields one entry v (slot_in mid (c.args.front + 1)) c.args.n) entry other) (sym front)
+    (subst (λ v. LosesAll (with_fields one entry (slot_in s c.args.front) v c.args.n) entry other) (sym top) back) in
+    c.pop.ensures.keeps other (linked.1 other (lacks_as one _ _ (sym table) lacks_one) loses)

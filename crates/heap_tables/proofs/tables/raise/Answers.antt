@@ -1,8 +1,9 @@
-use Rattle.std.proofs.Common.{◌+◌, ap, subst, refl, arith, length}
+use Rattle.std.proofs.Common.{◌+◌, ap, subst, refl, arith, length, sym}
 use Rattle.yak_model.specs.Graph.{Thread}
-use Rattle.heap_tables.proofs.Effects.{slot_same}
+use Rattle.heap_tables.proofs.Effects.{slot_same, value_same}
 use Rattle.yak_model.specs.Tables.{entry_fields}
 use Rattle.heap_tables.specs.Adds.{with_count}
+use Rattle.heap_tables.proofs.Asides.{lacks_as}
 use Rattle.heap_tables.proofs.tables.raise.Goals as goal
 
 pub field_int-count-requires-clause-field : goal.field_int-count-requires-clause-field
@@ -40,3 +41,7 @@ put_int-requires-clause-number g c =
     let h = c.requires.entry in
     let e = c.field_int-count.ensures.value h.0 (h.2).entry (entry_fields h.1 (h.2).key (h.2).count) (h.2).count h.3 (h.4.0, h.4.1.0) (omega arith) refl in
     omega (arith, e, h.5)
+
+pub returns-clause-aside : goal.returns-clause-aside
+returns-clause-aside g c other k lacks =
+    c.put_int.ensures.aside other (c.field_int-count.ensures.keeps other k) (lacks_as other _ _ (sym (value_same _ _ c.args.entry c.field_int-count.ensures.own)) lacks)

@@ -1,5 +1,5 @@
-use Rattle.group_jobs.proofs.Grown.{ended_list}
-use Rattle.group_jobs.proofs.epochs.end.Goals as goal
+use Rattle.heap_tables.proofs.Endings.{ended_list}
+use Rattle.heap_tables.proofs.epochs.end.Goals as goal
 
 pub returns-clause-list : goal.returns-clause-list
 returns-clause-list g c =
