@@ -11,3 +11,4 @@ pub mod Tracings
 pub mod Spent
 pub mod Writing
 pub mod SharedCounts
+pub mod Numerals

@@ -1,6 +1,7 @@
 -- Generated scripts: lines that are put behind others, and how long they are.
 use Rattle.std.proofs.Common.{◌≡◌, ◌≤◌, ◌<◌, ◌+◌, ◌-◌, ◌*◌, ◌/◌, ◌%◌, ◌^◌, ℕ, zero, suc, List, [], ◌∷◌, ◌++◌, codes, length, take, refl, sym, ap, ◌∙◌, arith, append_assoc}
-use Rattle.std.specs.Prelude.{decimal}
+use Rattle.std.specs.Prelude.{All, decimal}
+use Rattle.std.proofs.lemmas.List.Elements.{All-nil, All-cons}
 use Rattle.std.proofs.lemmas.List.{length-append, length-take-le}
 use Rattle.std.proofs.lemmas.Fmt.{length-decimal-le}
 use Rattle.object_layout.specs.declared.calls.Call.{Call}
@@ -8,8 +9,10 @@ use Rattle.object_layout.specs.declared.calls.Call.TheVariants.{Null, Pop, New, 
 use Rattle.object_layout.specs.Calls.{IsCall}
 use Rattle.script_text.specs.declared.TheConstants.{INPUT_LIMIT}
 use Rattle.script_text.specs.declared.scripts.Line.{Line}
-use Rattle.script_text.specs.Commands.{command_words, number_words, numbers_of, word_of}
-use Rattle.script_text.specs.Printing.{IsValid, Rises, lines_text, script_text, spaced}
+use Rattle.script_text.specs.Commands.{IsWithin, Number, command_words, index, number_words, numbers_of, word_of}
+use Rattle.script_text.specs.Printing.{AreWithin, IsValid, Rises, lines_text, script_text, spaced}
+use Rattle.script_text.specs.Scripts.{IsScript}
+use Rattle.script_text.proofs.Spelling.{printed_script}
 use Rattle.yak.specs.declared.forms.TheConstants.{MAX_ROUNDS}
 use Rattle.yak.specs.Generator.{Command, commands, generated, kind, next_number, number_at, numbered, round, rounds}
 
@@ -105,65 +108,83 @@ digit n small = length-decimal-le 1 n (omega arith) (omega (arith, small)) (omeg
 digits : (n : ℕ) → n < 100 → length (decimal n) ≤ 2
 digits n small = length-decimal-le 2 n (omega arith) (omega (arith, small)) (omega (arith, small))
 
+-- a call whose word and numbers are short and within their limits
+record IsBrief (asked : Call) : Type 0 where
+  short : total (number_words (numbers_of asked)) + length (word_of asked) ≤ 12
+  within : All IsWithin (numbers_of asked)
+
 -- a command that a heap of 4 threads can run, and whose line has at most 15 bytes
 record IsFine (command : Command) : Type 0 where
   some : 1 ≤ command.0
   few : command.0 ≤ 4
   call : IsCall command.1
   short : total (command_words command.0 command.1) ≤ 15
+  within : All IsWithin (numbers_of command.1)
 
-fine : (t : ℕ) → 1 ≤ t → t ≤ 4 → (asked : Call) → IsCall asked → total (number_words (numbers_of asked)) + length (word_of asked) ≤ 12 → IsFine (t, asked)
+fine : (t : ℕ) → 1 ≤ t → t ≤ 4 → (asked : Call) → IsCall asked → IsBrief asked → IsFine (t, asked)
 unfolding total
-fine t some few asked is short =
+fine t some few asked is brief =
     let d = digit t (omega (arith, few)) in
-    record { some = some; few = few; call = is; short = omega (arith, d, short) }
+    let short = brief.short in
+    record { some = some; few = few; call = is; short = omega (arith, d, short); within = brief.within }
 
-new_short : (k : ℕ) → k < 20 → total (number_words (numbers_of (New k))) + length (word_of (New k)) ≤ 12
+none_within : All IsWithin []
+none_within = All-nil IsWithin
+
+one_within : (n : ℕ) → n ≤ 4294967295 → (more : List Number) → All IsWithin more → All IsWithin (index n ∷ more)
+one_within n few more within = All-cons IsWithin (index n) more few within
+
+new_short : (k : ℕ) → k < 20 → IsBrief (New k)
 unfolding total
-new_short k small = let d = digits k (omega (arith, small)) in omega (arith, d)
+new_short k small =
+    let d = digits k (omega (arith, small)) in
+    record { short = omega (arith, d); within = one_within k (omega (arith, small)) [] none_within }
 
-store_short : (s f x : ℕ) → s < 10 → f < 16 → x < 10 → total (number_words (numbers_of (Store s f x))) + length (word_of (Store s f x)) ≤ 12
+store_short : (s f x : ℕ) → s < 10 → f < 16 → x < 10 → IsBrief (Store s f x)
 unfolding total
 store_short s f x a b c =
     let d = digit s a in
     let e = digits f (omega (arith, b)) in
     let g = digit x c in
-    omega (arith, d, e, g)
+    record {
+      short = omega (arith, d, e, g);
+      within = one_within s (omega (arith, a)) (index f ∷ index x ∷ []) (one_within f (omega (arith, b)) (index x ∷ []) (one_within x (omega (arith, c)) [] none_within));
+    }
 
-load_short : (f : ℕ) → f < 16 → total (number_words (numbers_of (Load 0 f))) + length (word_of (Load 0 f)) ≤ 12
+load_short : (f : ℕ) → f < 16 → IsBrief (Load 0 f)
 unfolding total
 load_short f b =
     let d = digit 0 (omega arith) in
     let e = digits f (omega (arith, b)) in
-    omega (arith, d, e)
+    record { short = omega (arith, d, e); within = one_within 0 (omega arith) (index f ∷ []) (one_within f (omega (arith, b)) [] none_within) }
 
-get_short : total (number_words (numbers_of (Get 1))) + length (word_of (Get 1)) ≤ 12
+get_short : IsBrief (Get 1)
 unfolding total
-get_short = let d = digit 1 (omega arith) in omega (arith, d)
+get_short = let d = digit 1 (omega arith) in record { short = omega (arith, d); within = one_within 1 (omega arith) [] none_within }
 
-begin_short : total (number_words (numbers_of Begin)) + length (word_of Begin) ≤ 12
+begin_short : IsBrief Begin
 unfolding total
-begin_short = omega arith
+begin_short = record { short = omega arith; within = none_within }
 
-end_short : total (number_words (numbers_of End)) + length (word_of End) ≤ 12
+end_short : IsBrief End
 unfolding total
-end_short = omega arith
+end_short = record { short = omega arith; within = none_within }
 
-pop_short : total (number_words (numbers_of Pop)) + length (word_of Pop) ≤ 12
+pop_short : IsBrief Pop
 unfolding total
-pop_short = omega arith
+pop_short = record { short = omega arith; within = none_within }
 
-null_short : total (number_words (numbers_of Null)) + length (word_of Null) ≤ 12
+null_short : IsBrief Null
 unfolding total
-null_short = omega arith
+null_short = record { short = omega arith; within = none_within }
 
-collect_short : total (number_words (numbers_of Collect)) + length (word_of Collect) ≤ 12
+collect_short : IsBrief Collect
 unfolding total
-collect_short = omega arith
+collect_short = record { short = omega arith; within = none_within }
 
-census_short : total (number_words (numbers_of Census)) + length (word_of Census) ≤ 12
+census_short : IsBrief Census
 unfolding total
-census_short = omega arith
+census_short = record { short = omega arith; within = none_within }
 
 -- commands that are fine
 AllFine : List Command → Type 0
@@ -244,6 +265,15 @@ valid seed = record {
   possible = record { some_pages = omega arith; few_pages = omega arith; some_threads = omega arith; few_threads = omega arith };
   rise = rises 2 (commands seed) (fine_commands seed);
 }
+
+all_within : (number : ℕ) (first : List Command) → AllFine first → AreWithin (numbered number first)
+unfolding AllFine
+all_within number [] h = tt
+all_within number (c ∷ first) h = (h.0.within, all_within (number + 1) first h.1)
+
+-- its text is that script
+pub reads : (seed : ℕ) → IsScript (script_text (generated seed)) (generated seed)
+reads seed = printed_script (generated seed) (valid seed) (all_within 2 (commands seed) (fine_commands seed))
 
 spaced_total : (word : List ℕ) (words : List (List ℕ)) → length (spaced (word ∷ words)) + 1 ≡ total (word ∷ words)
 unfolding total

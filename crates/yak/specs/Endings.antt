@@ -1,5 +1,5 @@
 -- How a run of the program ends: its status, what the status says of the words and of the input, and what is written.
-use Rattle.std.specs.Prelude.{◌≡◌, ◌*◌, ◌<◌, ◌≤◌, ◌⊎◌, ℕ, true, false, List, [], ◌++◌, length, codes, decimal, Option, Some, IfSome}
+use Rattle.std.specs.Prelude.{◌≡◌, ◌+◌, ◌*◌, ◌<◌, ◌≤◌, ◌⊎◌, ℕ, true, false, List, [], ◌++◌, length, codes, decimal, Option, Some, IfSome}
 use Rattle.std.specs.List.{flat_map}
 use Rattle.std.specs.Io.KnownBytes.{Appends}
 use Rattle.yak_io.specs.Causes.{Rose}
@@ -11,19 +11,19 @@ use Rattle.script_text.specs.Reasons.{bad_text}
 use Rattle.yak.specs.declared.endings.Status.{Status}
 use Rattle.yak.specs.declared.endings.Status.TheVariants.{Done, Usage, Refused, ReadFault, WriteFault, NoMemory, TooLarge, OutOfHeap, LongWord, BadTrace, NotLawful}
 use Rattle.object_layout.specs.declared.replies.Reply.{Reply}
-use Rattle.script_text.specs.Printing.{script_text}
 use Rattle.script_text.specs.Scripts.{IsScript, IsBadLine}
 use Rattle.script_runner.specs.Runs.{Held, IsRun}
 use Rattle.yak.specs.Keeping.{Keeping, nothing, alone}
-use Rattle.object_layout.specs.declared.replies.Census.{Census}
 use Rattle.heap_words.specs.Contents.{contents}
 use Rattle.heap_words.specs.Map.{page_words}
-use Rattle.yak_model.specs.Room.{least_room}
+use Rattle.yak_model.specs.Room.{least_room, most_room}
 use Rattle.yak_model.specs.Texts.{counts_of, words_of}
 use Rattle.group_jobs.specs.LongWords.{has_long_word, long_word_line}
 use Rattle.group_jobs.specs.Printing.{count_line}
-use Rattle.group_jobs.specs.Alone.{HoldsCounts, TellsWhy}
-use Rattle.group_jobs.specs.declared.count.CountError.TheVariants as CountError
+use Rattle.group_jobs.specs.Alone.{HoldsCounts}
+use Rattle.group_jobs.specs.Tallies.{busy_tasks}
+use Rattle.group_jobs.specs.Tasks.{AreTasks}
+use Rattle.group_jobs.specs.declared.tasks.Task.{Task}
 use Rattle.yak.specs.declared.forms.Options.{Options}
 use Rattle.yak.specs.Forms.{IsAsked, IsCount, IsGen, IsReading, IsReplay}
 use Rattle.yak.specs.Generator.{generated}
@@ -72,10 +72,9 @@ pub record Replays (bytes text : List ℕ) (held : Held) : Type 0 where
   pub run : IsRun script.heap script.lines replies held
   pub written : text ≡ replies_text script.lines replies
 
--- the script of so many rounds was printed, read again and run, and left this heap, and the text sums up the replies
+-- the script of so many rounds ran and left this heap, and the text sums up the replies
 pub record Generates (rounds : ℕ) (text : List ℕ) (held : Held) : Type 0 where
   pub replies : List Reply
-  pub read : IsScript (script_text (generated rounds)) (generated rounds)
   pub run : IsRun (generated rounds).heap (generated rounds).lines replies held
   pub written : text ≡ summary (generated rounds).lines replies
 
@@ -89,11 +88,14 @@ pub record Counts (options : Options) (bytes text : List ℕ) (held : Held) : Ty
   pub written : text ≡ flat_map count_line (counts_of (words_of bytes))
   pub room : least_room (words_of bytes) ≤ page_words (record { pages = options.pages; threads = 1 }) * options.pages
 
--- The words of the bytes, none of them too long, found no room in a heap of the command's pages, which tells why.
+-- The words of the bytes, none of them too long, found no room in a heap of the command's pages, which are no more than the count of
+-- its tasks may fill.
 pub record RunsOut (options : Options) (bytes : List ℕ) : Type 0 where
   pub short : has_long_word bytes ≡ false
-  pub census : Census
-  pub why : TellsWhy (record { pages = options.pages; threads = 1 }) options.task bytes (CountError.OutOfHeap census tt)
+  pub tasks : List Task
+  pub cut : AreTasks bytes options.task tasks
+  pub room : page_words (record { pages = options.pages; threads = 1 }) * options.pages
+      ≤ 2 * most_room 1 (busy_tasks bytes tasks) (words_of bytes) + 2 * page_words (record { pages = options.pages; threads = 1 })
 
 -- the line that tells the first line with a word that is too long
 abbrev pub long_line : ℕ → List ℕ

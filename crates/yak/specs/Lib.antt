@@ -8,3 +8,4 @@ pub mod Answers
 pub mod Threaded
 pub mod Traced
 pub mod SharedCounts
+pub mod Numbers

@@ -1,5 +1,5 @@
 //! The forms of words that are understood.
-ghost use Rattle.std.specs.Prelude.{◌≡◌, ◌≢◌, ◌≤◌, ◌<◌, ◌++◌, ◌∷◌, ℕ, true, List, [], None, Some, map, codes, decimal, length, MatchBool, MatchOption, IfSome, string_bytes};
+ghost use Rattle.std.specs.Prelude.{◌≡◌, ◌≢◌, ◌≤◌, ◌<◌, ◌++◌, ◌∷◌, ℕ, true, List, [], None, Some, map, decimal, MatchBool, MatchOption, string_bytes};
 ghost use Rattle.yak.specs.declared.forms.Form.{Form};
 ghost use Rattle.yak.specs.declared.forms.Options.{Options};
 ghost use Rattle.yak.specs.declared.forms.Tracing.{Tracing};
@@ -360,9 +360,3 @@ pub fn asked_form(words: &[String]) -> Option<Form>
     let form = read_form(words)?;
     if form.is_built() { Some(form) } else { None }
 }
-
-/// Words are of one form at most.
-#[tactic(auto, using(crate::proofs::Words::one_form))]
-pub fn law_one_form()
-    ensures { (words : List (List ℕ)) (one other : Form) → IsForm words one → IsForm words other → one ≡ other }
-{}

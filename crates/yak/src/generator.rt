@@ -163,7 +163,6 @@ pub fn generated_script(alloc: Global, seed: u32) -> Result<Script, NoMemory>
     requires { seed ≤ MAX_ROUNDS }
     ensures script { IfOk result (λ script. script ≡ generated seed) }
     ensures valid { IfOk result (λ script. IsValid script) }
-    ensures reads { IfOk result (λ script. IsScript (script_text (generated seed)) (generated seed)) }
 {
     let text = generated_text(alloc, seed)?;
     match read_script(alloc, &text) {

@@ -8,6 +8,7 @@ mod forms;
 mod generator;
 #[cfg(test)]
 mod hostile;
+mod laws;
 mod plain;
 mod shared;
 mod summaries;
