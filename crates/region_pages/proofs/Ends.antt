@@ -101,3 +101,12 @@ none_left table n k used left p rows most within count none from lt =
     let whole : k + (n - k) ≡ n = omega arith in
     let same : length (free_below table (k + (n - k))) ≡ length (free_below table n) = ap (λ (i : ℕ). length (free_below table i)) whole in
     rest_free table (n - k) k p (omega (arith, same, length-below table n rows)) from (omega arith)
+
+-- more pages have no fewer free ones among them
+pub below_grow : (table : List (List ℕ)) (j k : ℕ) → length (free_below table k) ≤ length (free_below table (k + j))
+below_grow table zero k = omega (arith, ap (λ (i : ℕ). length (free_below table i)) (let e : k + 0 ≡ k = omega arith in e))
+below_grow table (suc j) k =
+    let same : length (free_below table (k + suc j)) ≡ length (free_below table (k + j + 1)) = ap (λ (i : ℕ). length (free_below table i)) (next k j) in
+    ⊎_elim (λ (e : space_word table (k + j) ≡ 0). omega (arith, same, below_grow table j k, ap (λ (xs : List ℕ). length xs) (below_more_free table (k + j) e), length_push (free_below table (k + j)) (k + j)))
+    (λ (ne : space_word table (k + j) ≢ 0). omega (arith, same, below_grow table j k, ap (λ (xs : List ℕ). length xs) (below_more_taken table (k + j) ne)))
+    (cases_eq (space_word table (k + j)) 0)

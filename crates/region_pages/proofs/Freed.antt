@@ -1,8 +1,10 @@
 -- The pool made anew, and the pages of a region given back.
-use Rattle.std.proofs.Common.{◌≡◌, ◌≢◌, ◌↔◌, ◌==◌, ℕ, ◌+◌, ◌≤◌, ◌<◌, Bool, true, false, cond, List, [], ◌∷◌, ◌++◌, length, get_or, set, map, take, drop, slice_index, refl, sym, ap, ◌∙◌, subst, arith, length-take, length-set}
+use Rattle.std.proofs.Common.{◌≡◌, ◌≢◌, ◌↔◌, ◌==◌, ℕ, zero, suc, ◌+◌, ◌≤◌, ◌<◌, Bool, true, false, cond, List, [], ◌∷◌, ◌++◌, length, get_or, set, map, take, drop, slice_index, refl, sym, ap, ◌∙◌, subst, arith, ⊎_elim, length-take, length-set}
 use Rattle.std.specs.List.{AllPairs, Contains, filter, range_with_len}
+use Rattle.std.proofs.lemmas.Bool.{cases_lt}
 use Rattle.std.proofs.lemmas.Bool.Decides.{Decides-eqb}
 use Rattle.std.proofs.lemmas.List.{append_assoc, append-nil, drop_more, drop_all, take_at, take_all, set_at, set-get_or, map_more, map-id, length_push, length-map, get_or-append-add, get_or-set_same, get_or-set_other}
+use Rattle.std.proofs.lemmas.Slice.{drop-append-drop}
 use Rattle.std.proofs.lemmas.List.Elements.{filter-append}
 use Rattle.std.proofs.lemmas.List.FromFn.{length-range_with_len, map-range_with_len_more}
 use Rattle.std.proofs.lemmas.List.Sums.{length-filter, count_by-le-length}
@@ -48,6 +50,10 @@ pool_more pages pool v lt =
     ∙ set_at pages (get_or pool k 0) rest v k refl
     ∙ sym (append_assoc pages (v ∷ []) rest)
     ∙ ap (λ (j : ℕ). (pages ++ v ∷ []) ++ drop j pool) (sym (length_push pages v))
+
+-- a pool over which a longer one is written
+pub pool_over : (some all pool : List ℕ) → length some ≤ length all → pool_with all (pool_with some pool) ≡ pool_with all pool
+pool_over some all pool le = ap (λ (xs : List ℕ). all ++ xs) (drop-append-drop (length some) pool some (length all) le refl)
 
 -- the pool after it is made anew
 pub rebuilt_free : (heads pages pool : List ℕ) → length heads ≡ HEAD_WORDS → free_pages (set (set heads 1 0) 2 (length pages)) (pool_with pages pool) ≡ pages
@@ -121,3 +127,11 @@ freed_to_kept word table i lt ne =
 pub freed_to_all : (word : ℕ) (table : List (List ℕ)) (i : ℕ) → length table ≤ i → freed_to word table i ≡ freed_table word table
 freed_to_all word table i past =
     ap (λ (t : List (List ℕ)). map (freed word) (take i table) ++ t) (drop_all i table past) ∙ append-nil (map (freed word) (take i table)) ∙ ap (map (freed word)) (take_all i table past)
+
+-- where all entries behind a place are free, no more need be looked at
+pub freed_to_free : (word : ℕ) (table : List (List ℕ)) (j i : ℕ) → 0 < word → length table ≤ i + j → ((p : ℕ) → i ≤ p → p < length table → space_word table p ≡ 0) → freed_to word table i ≡ freed_table word table
+freed_to_free word table zero i some long free = freed_to_all word table i (omega arith)
+freed_to_free word table (suc j) i some long free = ⊎_elim
+    (λ (lt : i < length table). freed_to_kept word table i lt (λ e. omega (arith, e, free i (omega arith) lt, some)) ∙ freed_to_free word table j (i + 1) some (omega arith) (λ p from. free p (omega arith)))
+    (λ (past : length table ≤ i). freed_to_all word table i past)
+    (cases_lt i (length table))

@@ -123,23 +123,16 @@ fn fill_pool<W: Words>(words: &mut W, map: Areas) -> u32
     count
 }
 
-/// Frees a page where it has this word of the space in its entry, and answers the word that it had. Where no page in use is
-/// left, it isn't read.
-fn free_entry<W: Words>(words: &mut W, map: Areas, page: u32, word: u64, left: u32) -> u64
+/// Frees a page where it has this word of the space in its entry, and answers the word that it had.
+fn free_entry<W: Words>(words: &mut W, map: Areas, page: u32, word: u64) -> u64
     requires sound { Sound map (W.words words.old) }
     requires page { HasPage map page }
-    requires word { 0 < word }
-    requires none_left { left ≡ 0 → space_word (contents map (W.words words.old)).table page ≡ 0 }
     ensures freed { let c = contents map (W.words words.old) in contents map (W.words words.new) ≡ record c { table = slice_set c.table page (freed word (row c.table page)) } }
     ensures was { result ≡ space_word (contents map (W.words words.old)).table page }
     ensures sound { Sound map (W.words words.new) }
     ensures reads { W.reads words.new ≤ W.reads words.old + 1 }
-    ensures unread { left ≡ 0 → W.reads words.new ≡ W.reads words.old }
     ensures base { W.base words.new ≡ W.base words.old }
 {
-    if left == 0 {
-        return 0;
-    }
     let space = get_page(words, map, page, SPACE_WORD);
     if space == word {
         set_entry(words, map, page, 0, 0);
@@ -178,13 +171,37 @@ fn free_entries<W: Words>(words: &mut W, map: Areas, word: u64, used: u32) -> u3
 {
     let mut count = 0;
     let mut left = used;
-    for page in 0..map.pages {
-        let was = free_entry(words, map, page, word, left);
+    let mut page = 0;
+    while page < map.pages && left > 0 {
+        let was = free_entry(words, map, page, word);
         left = left_behind(left, was);
         if is_free_then(was, word) {
             set_pool(words, map, count as usize, u64::from(page));
             count += 1;
         }
+        page += 1;
     }
-    count
+    fill_behind(words, map, count, page)
+}
+
+/// Writes the pages from one on, all of them free, into the pool behind the free ones before, of which there are so many. Answers
+/// how many are free.
+fn fill_behind<W: Words>(words: &mut W, map: Areas, count: u32, first: u32) -> u32
+    requires sound { Sound map (W.words words.old) }
+    requires first { first ≤ map.pages }
+    requires count { count ≡ length (free_below (contents map (W.words words.old)).table first) }
+    requires free { (p : ℕ) → first ≤ p → p < map.pages → space_word (contents map (W.words words.old)).table p ≡ 0 }
+    requires begun { let c = contents map (W.words words.old) in pool_with (free_below c.table first) c.pool ≡ c.pool }
+    ensures count { result ≡ length (free_below (contents map (W.words words.old)).table map.pages) }
+    ensures filled { let c = contents map (W.words words.old) in contents map (W.words words.new) ≡ record c { pool = pool_with (free_below c.table map.pages) c.pool } }
+    ensures sound { Sound map (W.words words.new) }
+    ensures reads { W.reads words.new ≡ W.reads words.old }
+    ensures base { W.base words.new ≡ W.base words.old }
+{
+    let mut k = count as usize;
+    for page in first..map.pages {
+        set_pool(words, map, k, u64::from(page));
+        k += 1;
+    }
+    k as u32
 }

@@ -1,4 +1,4 @@
-use Rattle.std.proofs.Common.{◌≡◌, ◌≢◌, ◌<◌, ◌≤◌, ◌+◌, ◌⊎◌, ℕ, List, [], ◌∷◌, ◌++◌, length, get_or, set, ap, sym, ◌∙◌, arith, true≢false, inl, inr, ⊎_elim}
+use Rattle.std.proofs.Common.{◌≡◌, ◌≢◌, ◌<◌, ◌≤◌, ◌+◌, ◌⊎◌, ℕ, ◌-◌, List, [], ◌∷◌, ◌++◌, length, get_or, set, ap, sym, ◌∙◌, arith, true≢false, inl, inr, ⊎_elim}
 use Rattle.std.proofs.lemmas.Bool.{cases_eq}
 use Rattle.std.proofs.lemmas.List.{length_push}
 use Rattle.heap_words.specs.Cells.{row}
@@ -9,52 +9,28 @@ use Rattle.region_pages.specs.Ends.{used_end}
 use Rattle.region_pages.specs.Freeing.{free_below, freed, freed_table, pool_with}
 use Rattle.region_pages.proofs.Shapes.{Shape, shape}
 use Rattle.region_pages.proofs.Counting.{length-below}
-use Rattle.region_pages.proofs.Ends.{end_more_free, end_more_taken, none_left}
-use Rattle.region_pages.proofs.Freed.{below_more_free, below_more_taken, freed_to, freed_to_row, freed_to_more, freed_to_all, pool_more}
+use Rattle.region_pages.proofs.Ends.{below_grow, end_more_taken, end_rest, none_left}
+use Rattle.region_pages.proofs.Freed.{below_more_free, below_more_taken, freed_to, freed_to_row, freed_to_more, freed_to_free, pool_more, pool_over}
 use Rattle.region_pages.proofs.Released.{freed_free}
 use Rattle.region_pages.proofs.freeing.free_entries.Goals as goal
-use Rattle.region_pages.proofs.freeing.free_entries.Goals.{then-is_free_then, else-is_free_then}
-
-pub free_entry-was-requires-clause-none_left : goal.free_entry-was-requires-clause-none_left
-free_entry-was-requires-clause-none_left g c none =
-    let m = c.args.map in
-    let i = c.loop-page.page in
-    let inv = c.loop-page.invariant in
-    let old = contents m (g.W.Words.words c.args.words.now) in
-    let s : Shape m old = shape m (g.W.Words.words c.args.words.now) c.requires.sound in
-    let lt : i < length old.table = omega (arith, s.table) in
-    ap (λ (x : Contents). space_word x.table i) inv.freed
-    ∙ ap (λ (r : List ℕ). get_or r 0 0) (freed_to_row c.args.word old.table i lt)
-    ∙ none_left old.table m.pages i c.args.used c.loop-page.left i s.table c.requires.used (omega arith) inv.left none (omega arith) c.loop-page-test.true
+use Rattle.region_pages.proofs.freeing.free_entries.Goals.{then-is_free_then, else-is_free_then, then-loop-page-test+else-left-gt0, else-loop-page-test}
 
 pub left_behind-left-requires : goal.left_behind-left-requires
-left_behind-left-requires g c taken =
-    let m = c.args.map in
-    let i = c.loop-page.page in
-    let inv = c.loop-page.invariant in
-    let old = contents m (g.W.Words.words c.args.words.now) in
-    let s : Shape m old = shape m (g.W.Words.words c.args.words.now) c.requires.sound in
-    let lt : i < length old.table = omega (arith, s.table) in
-    let was : c.free_entry-was.result ≡ space_word old.table i = c.free_entry-was.ensures.was ∙ ap (λ (x : Contents). space_word x.table i) inv.freed ∙ ap (λ (r : List ℕ). get_or r 0 0) (freed_to_row c.args.word old.table i lt) in
-    ⊎_elim
-    (λ (none : c.loop-page.left ≡ 0). absurd (taken (was ∙ none_left old.table m.pages i c.args.used c.loop-page.left i s.table c.requires.used (omega arith) inv.left none (omega arith) c.loop-page-test.true)))
-    (λ (some : c.loop-page.left ≢ 0). omega (arith, some))
-    (cases_eq c.loop-page.left 0)
+left_behind-left-requires g c taken = omega (arith, c.loop-page-test.true)
 
 -- what a page leaves of the pages in use, and of the reads
 record Left (table : List (List ℕ)) (i used rest first after : ℕ) : Type 0 where
   left : rest + (i + 1) ≡ used + length (free_below table (i + 1))
   few : rest ≡ 0 → after ≤ first + used_end table (i + 1)
 
-left_then : (table : List (List ℕ)) (i used left rest first before after : ℕ) → left + i ≡ used + length (free_below table i) → (left ≡ 0 → before ≤ first + used_end table i) → before ≤ first + i → after ≤ before + 1 → (left ≡ 0 → after ≡ before) → (space_word table i ≡ 0 → rest ≡ left) → (space_word table i ≢ 0 → rest + 1 ≡ left) → Left table i used rest first after
-left_then table i used left rest first before after count few reads more unread free taken = ⊎_elim
+left_then : (table : List (List ℕ)) (i used left rest first before after : ℕ) → left + i ≡ used + length (free_below table i) → 0 < left → before ≤ first + i → after ≤ before + 1 → (space_word table i ≡ 0 → rest ≡ left) → (space_word table i ≢ 0 → rest + 1 ≡ left) → Left table i used rest first after
+left_then table i used left rest first before after count some reads more free taken = ⊎_elim
     (λ (e : space_word table i ≡ 0).
     let is : rest ≡ left = free e in
     let one = ap (λ (xs : List ℕ). length xs) (below_more_free table i e) ∙ length_push (free_below table i) i in
-    let end = end_more_free table i e in
     record {
       left = omega (arith, is, one, count);
-      few = λ (z : rest ≡ 0). let none : left ≡ 0 = sym is ∙ z in omega (arith, end, unread none, few none);
+      few = λ (z : rest ≡ 0). absurd (omega (arith, z, is, some));
     })
     (λ (ne : space_word table i ≢ 0).
     let is : rest + 1 ≡ left = taken ne in
@@ -80,7 +56,7 @@ loop-page-preserved g c =
     let pages : List ℕ = free_below new i in
     let was : c.free_entry-was.result ≡ space_word old.table i = entry.was ∙ ap (λ (x : Contents). space_word x.table i) inv.freed ∙ ap (λ (r : List ℕ). get_or r 0 0) (freed_to_row word old.table i lt) in
     let left : Left old.table i c.args.used c.left_behind-left.result (g.W.Words.reads c.args.words.now) (g.W.Words.reads c.free_entry-was.new.words) =
-    left_then old.table i c.args.used c.loop-page.left c.left_behind-left.result (g.W.Words.reads c.args.words.now) (g.W.Words.reads c.loop-page.words) (g.W.Words.reads c.free_entry-was.new.words) inv.left inv.few inv.reads entry.reads entry.unread (λ e. c.left_behind-left.ensures.free (was ∙ e)) (λ ne. c.left_behind-left.ensures.taken (λ e. ne (sym was ∙ e))) in
+    left_then old.table i c.args.used c.loop-page.left c.left_behind-left.result (g.W.Words.reads c.args.words.now) (g.W.Words.reads c.loop-page.words) (g.W.Words.reads c.free_entry-was.new.words) inv.left (omega (arith, c.loop-page-test.true)) inv.reads entry.reads (λ e. c.left_behind-left.ensures.free (was ∙ e)) (λ ne. c.left_behind-left.ensures.taken (λ e. ne (sym was ∙ e))) in
     let entered : contents m (g.W.Words.words c.free_entry-was.new.words) ≡ record old { table = freed_to word old.table (i + 1); pool = pool_with pages old.pool } =
     entry.freed
     ∙ ap (λ (x : Contents). record x { table = set x.table i (freed word (row x.table i)) }) inv.freed
@@ -97,6 +73,7 @@ loop-page-preserved g c =
             base = rw w.words-is (w.set_pool.ensures.base ∙ entry.base ∙ inv.base);
             reads = rw w.words-is (omega (arith, w.set_pool.ensures.reads, entry.reads, inv.reads));
             few = λ none. rw w.words-is (omega (arith, w.set_pool.ensures.reads, left.few none));
+            within = omega arith;
             most = omega (arith, w.count-is, inv.most);
             left = left.left;
             count = omega (arith, w.count-is, inv.count, ap (λ (xs : List ℕ). length xs) more, length_push pages i);
@@ -112,6 +89,7 @@ loop-page-preserved g c =
             base = rw w.words-is (entry.base ∙ inv.base);
             reads = rw w.words-is (omega (arith, entry.reads, inv.reads));
             few = λ none. rw w.words-is (left.few none);
+            within = omega arith;
             most = omega (arith, w.count-is, inv.most);
             left = left.left;
             count = omega (arith, w.count-is, inv.count, ap (λ (xs : List ℕ). length xs) same);
@@ -119,22 +97,124 @@ loop-page-preserved g c =
           }
     ]
 
+-- the pages behind that at which the loop stops are free, and so the whole table stands as it does then
+record Stopped (word : ℕ) (table : List (List ℕ)) (n page : ℕ) : Type 0 where
+  free : (p : ℕ) → page ≤ p → p < n → space_word (freed_table word table) p ≡ 0
+  whole : freed_to word table page ≡ freed_table word table
+  more : length (free_below (freed_table word table) page) ≤ length (free_below (freed_table word table) n)
+
+stopped : (word : ℕ) (table : List (List ℕ)) (n page used left : ℕ) → 0 < word → length table ≡ n → n ≤ used + free_in table → page ≤ n → left + page ≡ used + length (free_below table page) → (left ≡ 0) ⊎ (page ≡ n) → Stopped word table n page
+stopped word table n page used left some rows most within count at =
+    let behind : (p : ℕ) → page ≤ p → p < n → space_word table p ≡ 0 = λ p from lt. ⊎_elim (λ (none : left ≡ 0). none_left table n page used left p rows most within count none from lt) (λ (end : page ≡ n). absurd (omega (arith, end, from, lt))) at in
+    let new : List (List ℕ) = freed_table word table in
+    let rest : page + (n - page) ≡ n = omega (arith, within) in
+    record {
+      free = λ p from lt. (freed_free word table p (omega (arith, rows, lt))).1 (inl (behind p from lt));
+      whole = freed_to_free word table (n - page) page some (omega (arith, rows, rest)) (λ p from lt. behind p from (omega (arith, rows, lt)));
+      more = omega (arith, below_grow new (n - page) page, ap (λ (i : ℕ). length (free_below new i)) rest);
+    }
+
+pub fill_behind-requires-clause-count : goal.fill_behind-requires-clause-count
+fill_behind-requires-clause-count g c =
+    let m = c.args.map in
+    let i = c.loop-page.page in
+    let inv = c.loop-page.invariant in
+    let old = contents m (g.W.Words.words c.args.words.now) in
+    let s : Shape m old = shape m (g.W.Words.words c.args.words.now) c.requires.sound in
+    let at : (c.loop-page.left ≡ 0) ⊎ (i ≡ m.pages) = elim c.loop-page-test.branch [
+      | then-loop-page-test+else-left-gt0 w ↦ inl (omega (arith, w.if-left-gt0.false))
+      | else-loop-page-test w ↦ inr (omega (arith, w.loop-page-test.false, inv.within))
+    ] in
+    let stop = stopped c.args.word old.table m.pages i c.args.used c.loop-page.left c.requires.word s.table c.requires.used inv.within inv.left at in
+    inv.count ∙ ap (λ (t : List (List ℕ)). length (free_below t i)) (sym stop.whole ∙ sym (ap (λ (x : Contents). x.table) inv.freed))
+
+pub fill_behind-requires-clause-free : goal.fill_behind-requires-clause-free
+fill_behind-requires-clause-free g c p from lt =
+    let m = c.args.map in
+    let i = c.loop-page.page in
+    let inv = c.loop-page.invariant in
+    let old = contents m (g.W.Words.words c.args.words.now) in
+    let s : Shape m old = shape m (g.W.Words.words c.args.words.now) c.requires.sound in
+    let at : (c.loop-page.left ≡ 0) ⊎ (i ≡ m.pages) = elim c.loop-page-test.branch [
+      | then-loop-page-test+else-left-gt0 w ↦ inl (omega (arith, w.if-left-gt0.false))
+      | else-loop-page-test w ↦ inr (omega (arith, w.loop-page-test.false, inv.within))
+    ] in
+    let stop = stopped c.args.word old.table m.pages i c.args.used c.loop-page.left c.requires.word s.table c.requires.used inv.within inv.left at in
+    ap (λ (t : List (List ℕ)). space_word t p) (ap (λ (x : Contents). x.table) inv.freed ∙ stop.whole) ∙ stop.free p from lt
+
+pub fill_behind-requires-clause-begun : goal.fill_behind-requires-clause-begun
+fill_behind-requires-clause-begun g c =
+    let m = c.args.map in
+    let i = c.loop-page.page in
+    let inv = c.loop-page.invariant in
+    let old = contents m (g.W.Words.words c.args.words.now) in
+    let mid = contents m (g.W.Words.words c.loop-page.words) in
+    let s : Shape m old = shape m (g.W.Words.words c.args.words.now) c.requires.sound in
+    let at : (c.loop-page.left ≡ 0) ⊎ (i ≡ m.pages) = elim c.loop-page-test.branch [
+      | then-loop-page-test+else-left-gt0 w ↦ inl (omega (arith, w.if-left-gt0.false))
+      | else-loop-page-test w ↦ inr (omega (arith, w.loop-page-test.false, inv.within))
+    ] in
+    let new : List (List ℕ) = freed_table c.args.word old.table in
+    let stop = stopped c.args.word old.table m.pages i c.args.used c.loop-page.left c.requires.word s.table c.requires.used inv.within inv.left at in
+    let table : mid.table ≡ new = ap (λ (x : Contents). x.table) inv.freed ∙ stop.whole in
+    let pool : mid.pool ≡ pool_with (free_below new i) old.pool = ap (λ (x : Contents). x.pool) inv.freed in
+    ap (λ (t : List (List ℕ)). pool_with (free_below t i) mid.pool) table
+    ∙ ap (pool_with (free_below new i)) pool
+    ∙ pool_over (free_below new i) (free_below new i) old.pool (omega arith)
+    ∙ sym pool
+
+pub returns-clause-count : goal.returns-clause-count
+returns-clause-count g c =
+    let m = c.args.map in
+    let i = c.loop-page.page in
+    let inv = c.loop-page.invariant in
+    let old = contents m (g.W.Words.words c.args.words.now) in
+    let s : Shape m old = shape m (g.W.Words.words c.args.words.now) c.requires.sound in
+    let at : (c.loop-page.left ≡ 0) ⊎ (i ≡ m.pages) = elim c.loop-page-test.branch [
+      | then-loop-page-test+else-left-gt0 w ↦ inl (omega (arith, w.if-left-gt0.false))
+      | else-loop-page-test w ↦ inr (omega (arith, w.loop-page-test.false, inv.within))
+    ] in
+    let stop = stopped c.args.word old.table m.pages i c.args.used c.loop-page.left c.requires.word s.table c.requires.used inv.within inv.left at in
+    c.fill_behind.ensures.count ∙ ap (λ (t : List (List ℕ)). length (free_below t m.pages)) (ap (λ (x : Contents). x.table) inv.freed ∙ stop.whole)
+
 pub returns-clause-freed : goal.returns-clause-freed
 returns-clause-freed g c =
     let m = c.args.map in
+    let i = c.loop-page.page in
+    let inv = c.loop-page.invariant in
     let old = contents m (g.W.Words.words c.args.words.now) in
+    let mid = contents m (g.W.Words.words c.loop-page.words) in
     let s : Shape m old = shape m (g.W.Words.words c.args.words.now) c.requires.sound in
+    let at : (c.loop-page.left ≡ 0) ⊎ (i ≡ m.pages) = elim c.loop-page-test.branch [
+      | then-loop-page-test+else-left-gt0 w ↦ inl (omega (arith, w.if-left-gt0.false))
+      | else-loop-page-test w ↦ inr (omega (arith, w.loop-page-test.false, inv.within))
+    ] in
     let new : List (List ℕ) = freed_table c.args.word old.table in
-    let end : c.loop-page.page ≡ m.pages = omega arith in
-    c.loop-page.invariant.freed ∙ ap (λ (t : List (List ℕ)). record old { table = t; pool = pool_with (free_below new c.loop-page.page) old.pool }) (freed_to_all c.args.word old.table c.loop-page.page (omega (arith, s.table))) ∙ ap (λ (n : ℕ). record old { table = new; pool = pool_with (free_below new n) old.pool }) end
+    let some : List ℕ = free_below new i in
+    let all : List ℕ = free_below new m.pages in
+    let stop = stopped c.args.word old.table m.pages i c.args.used c.loop-page.left c.requires.word s.table c.requires.used inv.within inv.left at in
+    let settled : mid ≡ record old { table = new; pool = pool_with some old.pool } = inv.freed ∙ ap (λ (t : List (List ℕ)). record old { table = t; pool = pool_with some old.pool }) stop.whole in
+    c.fill_behind.ensures.filled
+    ∙ ap (λ (x : Contents). record x { pool = pool_with (free_below x.table m.pages) x.pool }) settled
+    ∙ ap (λ (xs : List ℕ). record old { table = new; pool = xs }) (pool_over some all old.pool stop.more)
 
 pub returns-clause-few : goal.returns-clause-few
 returns-clause-few g c exact =
     let m = c.args.map in
-    let k = c.loop-page.page in
+    let i = c.loop-page.page in
+    let inv = c.loop-page.invariant in
     let old = contents m (g.W.Words.words c.args.words.now) in
     let s : Shape m old = shape m (g.W.Words.words c.args.words.now) c.requires.sound in
-    let end : k ≡ m.pages = omega arith in
-    let all : length (free_below old.table k) ≡ free_in old.table = ap (λ (i : ℕ). length (free_below old.table i)) end ∙ length-below old.table m.pages s.table in
-    let none : c.loop-page.left ≡ 0 = omega (arith, c.loop-page.invariant.left, all, end, exact) in
-    omega (arith, c.loop-page.invariant.few none, ap (λ (i : ℕ). used_end old.table i) end)
+    let at : (c.loop-page.left ≡ 0) ⊎ (i ≡ m.pages) = elim c.loop-page-test.branch [
+      | then-loop-page-test+else-left-gt0 w ↦ inl (omega (arith, w.if-left-gt0.false))
+      | else-loop-page-test w ↦ inr (omega (arith, w.loop-page-test.false, inv.within))
+    ] in
+    let none : c.loop-page.left ≡ 0 = ⊎_elim
+    (λ (z : c.loop-page.left ≡ 0). z)
+    (λ (end : i ≡ m.pages).
+    let all : length (free_below old.table i) ≡ free_in old.table = ap (λ (k : ℕ). length (free_below old.table k)) end ∙ length-below old.table m.pages s.table in
+    omega (arith, inv.left, all, end, exact))
+    at in
+    let rest : i + (m.pages - i) ≡ m.pages = omega (arith, inv.within) in
+    let same : used_end old.table m.pages ≡ used_end old.table i = sym (ap (used_end old.table) rest) ∙ end_rest old.table (m.pages - i) i (λ p from lt. none_left old.table m.pages i c.args.used c.loop-page.left p s.table c.requires.used inv.within inv.left none from (omega (arith, lt, rest))) in
+    omega (arith, c.fill_behind.ensures.reads, inv.few none, same)
