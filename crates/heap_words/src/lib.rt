@@ -4,6 +4,7 @@
 mod access;
 mod areas;
 mod block;
+mod counter;
 mod map;
 mod memory;
 

@@ -5,6 +5,7 @@ ghost use Rattle.heap_words.specs.Map.{IsAreas, total_of};
 ghost use Rattle.heap_words.specs.Contents.{contents, zero_contents, Sound};
 ghost use Rattle.heap_words.specs.declared.memory.MakeError.TheVariants.{Memory, BadConfig};
 
+use crate::counter::Counter;
 use crate::{Areas, MAX_PAGES, MAX_THREADS, Words};
 use std::alloc::Global;
 use thiserror::Error;
@@ -25,7 +26,7 @@ pub enum MakeError {
 pub struct Image {
     words: Vec<u64>,
     map: Areas,
-    reads: u64,
+    reads: Counter,
     ghost gate_zero: { slice_index words.items 0 ≡ 0 },
     ghost areas: { IsAreas map },
     ghost whole: { length words.items ≡ total_of map },
@@ -51,7 +52,7 @@ impl Words for Image {
     ghost whole = { λ s. s.whole };
 
     fn get(&mut self, i: usize) -> u64 {
-        self.reads = self.reads.saturating_add(1);
+        self.reads.count(i);
         self.words[i]
     }
 
@@ -82,7 +83,7 @@ impl Image {
         Ok(Image {
             words,
             map,
-            reads: 0,
+            reads: Counter::new(),
         })
     }
 
@@ -104,6 +105,6 @@ impl Image {
     pub fn reads(&self) -> u64
         ensures { result ≡ self.now.reads }
     {
-        self.reads
+        self.reads.number()
     }
 }
