@@ -30,7 +30,8 @@ use Rattle.relocation.specs.Slide.{IsPageOf, brought}
 use Rattle.relocation.specs.Slidden.{names_after}
 use Rattle.relocation.proofs.Lawful.{by_move-at, by_move-other, kept}
 use Rattle.relocation.proofs.Moving.{fields_at-header}
-use Rattle.relocation.proofs.Settled.{TableAfter, slide-stands}
+use Rattle.relocation.proofs.Settled.{slide-stands}
+use Rattle.relocation.specs.Slide.{TableAfter}
 use Rattle.relocation.proofs.SlidLaid.{places_of}
 use Rattle.remember_sets.specs.Filed.{ChainsBecome, SetsHold, all_filed, chain, outside, with_sets}
 use Rattle.remember_sets.proofs.Folded.{all_filed-same, with_sets-step}

@@ -13,7 +13,7 @@ ghost use Rattle.region_pages.specs.Freeing.{with_pool_rebuilt};
 ghost use Rattle.relocation.specs.declared.plans.TheConstants.{MOVE_WORDS};
 ghost use Rattle.relocation.specs.Moves.{HasHeader, move_at, size_at};
 ghost use Rattle.relocation.specs.Slide.{IsPageOf, Runs, Sliding, brought};
-ghost use Rattle.relocation.proofs.Settled.{TableAfter};
+ghost use Rattle.relocation.specs.Slide.{TableAfter};
 ghost use Rattle.escape_closure.specs.Targets.{TargetsWritten};
 ghost use Rattle.escape_closure.specs.Ends.{TightEnded};
 ghost use Rattle.escape_closure.specs.Leaving.{TightReady};

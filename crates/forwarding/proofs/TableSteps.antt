@@ -12,7 +12,7 @@ use Rattle.yak_model.specs.Placed.{space_word, used_mark}
 use Rattle.yak_model.specs.Plans.{Move}
 use Rattle.relocation.specs.Moves.{size_at}
 use Rattle.relocation.specs.Slide.{IsPageOf, brought}
-use Rattle.relocation.proofs.Settled.{TableAfter}
+use Rattle.relocation.specs.Slide.{TableAfter}
 use Rattle.forwarding.specs.Settled.{Emptied, Filled}
 
 -- an entry has two words

@@ -7,7 +7,7 @@ ghost use Rattle.yak_model.specs.Placed.{space_word};
 ghost use Rattle.relocation.specs.declared.plans.TheConstants.{MOVE_WORDS};
 ghost use Rattle.relocation.specs.Moves.{HasHeader, move_at, size_at};
 ghost use Rattle.relocation.specs.Slide.{IsPageOf, brought};
-ghost use Rattle.relocation.proofs.Settled.{TableAfter};
+ghost use Rattle.relocation.specs.Slide.{TableAfter};
 ghost use Rattle.forwarding.specs.Settled.{Emptied, Filled};
 
 use crate::CONTROL_WORD;

@@ -26,7 +26,8 @@ use Rattle.relocation.specs.Slidden.{names_after}
 use Rattle.relocation.proofs.Corrected.{corrected-datum}
 use Rattle.relocation.proofs.Lawful.{before_moves, by_move-at, by_move-other, kept, which_move}
 use Rattle.relocation.proofs.Moving.{fields_at-header}
-use Rattle.relocation.proofs.Settled.{TableAfter, slide-stands}
+use Rattle.relocation.proofs.Settled.{slide-stands}
+use Rattle.relocation.specs.Slide.{TableAfter}
 use Rattle.relocation.proofs.SlidLaid.{places_of}
 use Rattle.relocation.proofs.SlidPages.{pages_before-gap}
 use Rattle.relocation.proofs.Slidden.{pick, slide-packed}

@@ -18,7 +18,7 @@ use Rattle.yak_model.specs.Plans.{Move}
 use Rattle.yak_model.specs.Plans.{by_move, forwarded, cleared, without, after_moves}
 use Rattle.yak_model.specs.Placed.{Holds}
 use Rattle.relocation.proofs.Lawful.{by_move-at, by_move-other, before_moves, kept}
-use Rattle.relocation.specs.Slide.{IsPageOf, brought, Sliding}
+use Rattle.relocation.specs.Slide.{IsPageOf, TableAfter, brought, Sliding}
 use Rattle.relocation.specs.Slide.{Drops}
 use Rattle.relocation.specs.Slidden.{names_after}
 use Rattle.relocation.proofs.SlidLaid.{places_of, length-table_of, get-table_of}
@@ -94,12 +94,6 @@ one-address m size l x y p k q j tiles hx hy sx sy e = ⊎_elim
     (λ (h : l.at y + size y ≤ l.at x). omega arith)
     (apart (page_words m) size l x y p k q j tiles hx hy (different x y other))))
     (cases_Bool (same_name x y))
-
--- the page table after a slide
-pub record TableAfter (m : Areas) (slid : ℕ) (was : List (List ℕ)) (heap : List ℕ) (now : List (List ℕ)) (count : ℕ) (moves : ℕ → Move) (next : ℕ) : Type 0 where
-  pub filled : (p : ℕ) → p < m.pages → IsPageOf slid was p → p < next → (space_word now p ≡ 1) × (used_mark now p ≡ brought m heap count moves p)
-  pub free : (p : ℕ) → p < m.pages → IsPageOf slid was p → next ≤ p → used_mark now p ≡ 0
-  pub others : (p : ℕ) → (IsPageOf slid was p → ⊥) → get_or now p [] ≡ get_or was p []
 
 -- the words of the pages stand for the slid state
 pub slide-stands : (m : Areas) (slid : ℕ) (was : Contents) (s : State) (l : Places) (work : Name → ℕ) (dropped : Name → Bool) (now : Contents) (count : ℕ) (moves : ℕ → Move) (named : ℕ → Name) (next room : ℕ) (table : List (List ℕ)) (heap : List ℕ) (h : HeapStands m was.table was.heap s.objects l work) (closed : IsClosed s) (small : slid ≤ MAX_SPACE + 1) → Drops slid s work dropped → ((n : Name) (o : Thing) → s.objects n ≡ Some o → (space_index o.home + 1 ≡ slid → ⊥) → work n ≡ 0) → Slid m slid was s l dropped count moves named → Sliding m slid was (runs_of m slid was s l work h closed small) now count moves next room (heap_length m) → TableAfter m slid was.table was.heap table count moves next → Holds m heap (forwarded count moves l.at) (forwarded count moves l.at) (cleared count moves l.at work) (after_moves count moves l.at (without s dropped)).objects → HeapStands m table heap (after_moves count moves l.at (without s dropped)).objects (places_of m (names_after m slid was.table (names_of l) count moves named) (forwarded count moves l.at)) (λ _. 0)

@@ -1,5 +1,5 @@
 -- A slide: the marked objects of a space are moved to the front of its pages, in ascending order, and into the control space.
-use Rattle.std.specs.Prelude.{Bool, false, Some, ◌≡◌, ◌≢◌, ◌==◌, cond, ℕ, ◌+◌, ◌-◌, ◌*◌, ◌/◌, ◌≤◌, ◌<◌, ◌⊎◌, List, slice_index, zero, suc}
+use Rattle.std.specs.Prelude.{Bool, false, Some, ◌≡◌, ◌≢◌, ◌==◌, cond, ℕ, ◌+◌, ◌-◌, ◌*◌, ◌/◌, ◌≤◌, ◌<◌, ◌⊎◌, List, [], slice_index, slice_index_or, zero, suc}
 use Rattle.heap_words.specs.declared.map.Areas.{Areas}
 use Rattle.heap_words.specs.Map.{page_words, heap_length}
 use Rattle.heap_words.specs.Contents.{Contents}
@@ -111,3 +111,10 @@ pub record Drops (slid : ℕ) (s : State) (work : Name → ℕ) (dropped : Name 
   pub kept : (n : Name) (o : Thing) → s.objects n ≡ Some o → dropped n ≡ false → space_index o.home + 1 ≡ slid → work n ≢ 0
   pub marked : (n : Name) (o : Thing) → s.objects n ≡ Some o → work n ≢ 0 → dropped n ≡ false
   pub elsewhere : (n : Name) (o : Thing) → s.objects n ≡ Some o → (space_index o.home + 1 ≡ slid → ⊥) → dropped n ≡ false
+
+-- What a slide leaves of the page table: the pages of the space before `next` are the control space's, and have as many words in
+-- use as the moves brought there; those from `next` on have none in use; and those of other spaces are as they were.
+pub record TableAfter (m : Areas) (slid : ℕ) (was : List (List ℕ)) (heap : List ℕ) (now : List (List ℕ)) (count : ℕ) (moves : ℕ → Move) (next : ℕ) : Type 0 where
+  pub filled : (p : ℕ) → p < m.pages → IsPageOf slid was p → p < next → (space_word now p ≡ 1) × (used_mark now p ≡ brought m heap count moves p)
+  pub free : (p : ℕ) → p < m.pages → IsPageOf slid was p → next ≤ p → used_mark now p ≡ 0
+  pub others : (p : ℕ) → (IsPageOf slid was p → ⊥) → slice_index_or now p [] ≡ slice_index_or was p []

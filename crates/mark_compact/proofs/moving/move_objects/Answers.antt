@@ -8,7 +8,7 @@ use Rattle.relocation.specs.Moves.{HasHeader, heap_of, move_at, scratch_of, size
 use Rattle.relocation.specs.Slide.{IsPageOf, brought}
 use Rattle.yak_model.specs.Plans.{forwarded}
 use Rattle.relocation.proofs.Lawful.{lawful-movable}
-use Rattle.relocation.proofs.Settled.{TableAfter}
+use Rattle.relocation.specs.Slide.{TableAfter}
 use Rattle.relocation.proofs.Told.{ready-movable}
 use Rattle.mark_compact.specs.Collecting.{Lain}
 use Rattle.mark_compact.specs.declared.sliding.TheConstants.{CONTROL_WORD}
