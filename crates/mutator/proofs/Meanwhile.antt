@@ -14,7 +14,7 @@ use Rattle.yak_model.specs.Graph.{Does, Graph, Thread, answers, refusal_of, show
 use Rattle.yak_model.specs.Lawful.{IsLawful}
 use Rattle.yak_model.specs.Private.{BecomesKnown, KnownObjects}
 use Rattle.yak_model.specs.Spaces.{SpaceState, spaces}
-use Rattle.yak_model.specs.Standing.{MayCollect}
+use Rattle.yak_model.specs.Standing.{IsCollecting, MayCollect}
 use Rattle.yak_model.specs.Stands.{Stands}
 use Rattle.yak_model.specs.declared.datum.Datum.{Datum}
 use Rattle.yak_model.specs.declared.datum.Datum.TheVariants as datum
@@ -27,12 +27,12 @@ use Rattle.calls_in_flight.specs.Actors.{Actor, Shows}
 use Rattle.calls_in_flight.specs.Flight.{at_rest}
 use Rattle.calls_in_flight.specs.Steps.{depth_at}
 use Rattle.heap_core.specs.declared.owned.Stepped.{Stepped}
-use Rattle.heap_core.specs.Done.{CollectsWhere, FillsHeap, TellsFull}
+use Rattle.heap_core.specs.Done.{CollectsWhere, FillsHeap, StepRoom, TellsFull}
 use Rattle.heap_core.specs.Steps.{plain}
 use Rattle.heap_core.proofs.Filling.{new-or-other, not-full}
 use Rattle.safepoint_gate.specs.declared.rule.Own.{Own}
 use Rattle.safepoint_gate.specs.declared.seats.Inside as seat
-use Rattle.std.specs.Prelude.{IsSome}
+use Rattle.std.specs.Prelude.{IsSome, IsTrue}
 use Rattle.mutator.specs.Running.{view_in}
 use Rattle.safepoint_gate.specs.declared.rule.Place.TheVariants.{Inside}
 use Rattle.safepoint_gate.specs.declared.rule.View.{View}
@@ -215,7 +215,7 @@ makes_quick v w asked said more place not_full a = record {
   says = a.says;
   map_is = ap (λ (x : View). x.map) a.view;
   place_is = ap (λ (x : View). x.place) a.view ∙ place;
-  may = tt;
+  may = record { only = λ e. absurd (true≢false (sym e)); full = λ full. absurd (not_full full) };
   full = not_full;
 }
 
@@ -228,21 +228,44 @@ makes_stored v w s f x said place a = makes_answered v w (call.Store s f x) said
 
 -- ---- calls behind the closed gate
 
-pub may_collect : (m : Areas) (was : Contents) (s : SpaceState) (h : Stands m was s) (t : ℕ) (asked : Call) (said : Reply) (collected : Bool) → CollectsWhere m was s h t asked said collected → MayCollect collected asked
-may_collect m was s h t asked said false where_ = tt
-may_collect m was s h t (call.New k) said true where_ = tt
-may_collect m was s h t call.End said true where_ = tt
-may_collect m was s h t (call.Int i) said true where_ = absurd (true≢false where_)
-may_collect m was s h t call.Null said true where_ = absurd (true≢false where_)
-may_collect m was s h t (call.Dup i) said true where_ = absurd (true≢false where_)
-may_collect m was s h t call.Pop said true where_ = absurd (true≢false where_)
-may_collect m was s h t (call.Load i f) said true where_ = absurd (true≢false where_)
-may_collect m was s h t (call.Store i f x) said true where_ = absurd (true≢false where_)
-may_collect m was s h t (call.Get i) said true where_ = absurd (true≢false where_)
-may_collect m was s h t (call.Same i x) said true where_ = absurd (true≢false where_)
-may_collect m was s h t call.Begin said true where_ = absurd (true≢false where_)
-may_collect m was s h t call.Collect said true where_ = absurd (true≢false where_)
-may_collect m was s h t call.Census said true where_ = absurd (true≢false where_)
+-- a call that collected before it answered made an object, had no room for one, or ended an epoch
+collecting : (m : Areas) (was : Contents) (s : SpaceState) (h : Stands m was s) (t : ℕ) (asked : Call) (said : Reply) → CollectsWhere m was s h t asked said true → (g later : Graph) → answers g t asked said later → IsCollecting asked said
+collecting m was s h t (call.New k) said where_ g later answer =
+    elim (refusal_of g t (call.New k)) as (λ o. MatchOption o (Does g t (call.New k) said later) (λ why. (said ≡ reply.Refused why) × (later ≡ g)) → IsCollecting (call.New k) said) [
+      | None ↦ λ d. elim d [ inl made ↦ inl made.0 | inr full ↦ inr full.0 ]
+      | Some why ↦ λ r. absurd (true≢false (subst (λ (x : Reply). CollectsWhere m was s h t (call.New k) x true) r.0 where_))
+    ] answer
+collecting m was s h t call.End said where_ g later answer =
+    elim (refusal_of g t call.End) as (λ o. MatchOption o (Does g t call.End said later) (λ why. (said ≡ reply.Refused why) × (later ≡ g)) → IsCollecting call.End said) [
+      | None ↦ λ d. d.0
+      | Some why ↦ λ r. absurd (true≢false (subst (λ (x : Reply). CollectsWhere m was s h t call.End x true) r.0 where_))
+    ] answer
+collecting m was s h t (call.Int i) said where_ g later answer = absurd (true≢false where_)
+collecting m was s h t call.Null said where_ g later answer = absurd (true≢false where_)
+collecting m was s h t (call.Dup i) said where_ g later answer = absurd (true≢false where_)
+collecting m was s h t call.Pop said where_ g later answer = absurd (true≢false where_)
+collecting m was s h t (call.Load i f) said where_ g later answer = absurd (true≢false where_)
+collecting m was s h t (call.Store i f x) said where_ g later answer = absurd (true≢false where_)
+collecting m was s h t (call.Get i) said where_ g later answer = absurd (true≢false where_)
+collecting m was s h t (call.Same i x) said where_ g later answer = absurd (true≢false where_)
+collecting m was s h t call.Begin said where_ g later answer = absurd (true≢false where_)
+collecting m was s h t call.Collect said where_ g later answer = absurd (true≢false where_)
+collecting m was s h t call.Census said where_ g later answer = absurd (true≢false where_)
+
+-- a collection was made where the heap had no room
+collected_first : (m : Areas) (was now : Contents) (s : SpaceState) (h : Stands m was s) (t k : ℕ) (collected : Bool) → CollectsWhere m was s h t (call.New k) reply.OutOfHeap collected → StepRoom m was now t (call.New k) reply.OutOfHeap collected → IsTrue collected
+collected_first m was now s h t k collected where_ room = where_.1 room.short
+
+pub may_collect : (m : Areas) (was now : Contents) (s : SpaceState) (h : Stands m was s) (t : ℕ) (asked : Call) (said : Reply) (collected : Bool) → CollectsWhere m was s h t asked said collected → StepRoom m was now t asked said collected
+    → (said ≡ reply.OutOfHeap → (k : ℕ) × (asked ≡ call.New k)) → (g later : Graph) → answers g t asked said later → MayCollect collected asked said
+may_collect m was now s h t asked said collected where_ room new g later answer = record {
+  only = λ e. collecting m was s h t asked said (subst (λ b. CollectsWhere m was s h t asked said b) e where_) g later answer;
+  full = λ e.
+      let n = new e in
+      collected_first m was now s h t n.0 collected
+      (subst (λ (x : Call × Reply). CollectsWhere m was s h t x.0 x.1 collected) (λ i. (n.1 i, e i)) where_)
+      (subst (λ (x : Call × Reply). StepRoom m was now t x.0 x.1 collected) (λ i. (n.1 i, e i)) room);
+}
 
 -- no page is free where the counts are told
 tells_free : (now : Contents) (asked : Call) (said : Reply) (full : Option Census) → TellsFull now said full → (said ≡ reply.OutOfHeap → (k : ℕ) × (asked ≡ call.New k))
@@ -261,6 +284,8 @@ makes_closed v w asked said quiet h =
     let same = entries_same t asked said in
     let s = h.closing.state in
     let stands = h.closing.stands in
+    let lawful = subst (λ (x : Areas × List Entry). IsLawful standard_limits x.0.threads x.0.pages (w.history ++ x.1)) (λ i. (h.map_is i, same i)) h.explains.lawful in
+    let turn = around standard_limits v.map.threads w.history t (event_of asked said) lawful.legal in
     record {
       loads = loads_of v;
       put = put_of v;
@@ -269,7 +294,7 @@ makes_closed v w asked said quiet h =
         known = h.known;
         history = w.history;
         before = s;
-        lawful = subst (λ (x : Areas × List Entry). IsLawful standard_limits x.0.threads x.0.pages (w.history ++ x.1)) (λ i. (h.map_is i, same i)) h.explains.lawful;
+        lawful = lawful;
         leaves = subst (λ (m : Areas). spaces standard_limits m.threads w.history s) h.map_is h.closing.leaves;
         was = subst (λ (m : Areas). AllMine m w.history v.own) h.map_is h.was;
         becomes = subst (λ (m : Areas). BecomesKnown standard_limits m.threads w.history t (first_known v.own) (Said t asked said.reply) h.known) h.map_is h.becomes;
@@ -278,7 +303,7 @@ makes_closed v w asked said quiet h =
       };
       map_is = h.map_is;
       place_is = h.place_is;
-      may = may_collect w.map (contents w.map w.closing) s stands t asked said.reply said.collected (h.done.collected s stands h.closing.recorded);
+      may = may_collect w.map (contents w.map w.closing) (contents w.map w.words) s stands t asked said.reply said.collected (h.done.collected s stands h.closing.recorded) h.done.room (is_new (h.done.filled h.explains.state h.explains.stands)) turn.0 turn.1 turn.3.1;
       full = tells_free (contents w.map w.words) asked said.reply said.full h.done.full (is_new (h.done.filled h.explains.state h.explains.stands));
     }
   where

@@ -55,7 +55,7 @@ pub record Makes (v : View) (asked : Call) (said : Stepped) (w : View) : Type 0 
   pub says : Says v (record { call = asked; reply = said.reply; collected = said.collected }) (at_rest (first_thread v.own)) loads put w.own
   pub map_is : w.map ≡ v.map
   pub place_is : w.place ≡ Inside
-  pub may : MayCollect said.collected asked
+  pub may : MayCollect said.collected asked said.reply
   pub full : MatchOption said.full (said.reply ≢ OutOfHeap) (λ counts. (said.reply ≡ OutOfHeap) × (counts.free ≡ 0) × ((k : ℕ) × (asked ≡ New k)))
 
 -- Such a call behind the closed gate had this reply.

@@ -1,5 +1,5 @@
 -- What a caller of a heap can tell of its own thread, and what one call does to that.
-use Rattle.std.specs.Prelude.{◌≡◌, ◌≢◌, ◌↔◌, ℕ, ◌+◌, ◌-◌, ◌^◌, min, Bool, true, false, List, [], ◌∷◌, ◌++◌, Option, Some, None}
+use Rattle.std.specs.Prelude.{◌≡◌, ◌≢◌, ◌↔◌, ℕ, ◌+◌, ◌-◌, ◌^◌, ◌⊎◌, IsTrue, min, Bool, true, false, List, [], ◌∷◌, ◌++◌, Option, Some, None}
 use Rattle.std.specs.Option.{ForSome}
 use Rattle.object_layout.specs.declared.calls.Call.{Call}
 use Rattle.object_layout.specs.declared.calls.Call.TheVariants as call
@@ -37,17 +37,21 @@ abbrev pub entries_of : Bool → ℕ → Call → Reply → List Entry
 entries_of true t asked said = Collected t ∷ Said t asked said ∷ []
 entries_of false t asked said = Said t asked said ∷ []
 
--- Only a call for an object and the end of an epoch may make a collection of their own.
-abbrev pub MayCollect : Bool → Call → Type 0
-MayCollect false asked = Unit {0}
-MayCollect true (call.New k) = Unit {0}
-MayCollect true call.End = Unit {0}
-MayCollect true asked = ⊥
+-- The call made an object or had no room for one, or ended an epoch.
+abbrev pub IsCollecting : Call → Reply → Type 0
+IsCollecting (call.New k) said = (said ≡ reply.Ok) ⊎ (said ≡ reply.OutOfHeap)
+IsCollecting call.End said = (moved : ℕ) × (tight : Bool) × (said ≡ reply.Ended moved tight)
+IsCollecting asked said = ⊥
+
+-- Only such a call may make a collection of its own, before it answers, and it made one where the heap had no room.
+pub record MayCollect (collected : Bool) (asked : Call) (said : Reply) : Type 0 where
+  pub only : IsTrue collected → IsCollecting asked said
+  pub full : said ≡ reply.OutOfHeap → IsTrue collected
 
 -- The own list, where it is told, grows by the entries of the call.
 abbrev pub AddsEntries : ℕ → Call → Reply → Option (List Entry) → Option (List Entry) → Type 0
 AddsEntries t asked said None after = after ≡ None
-AddsEntries t asked said (Some list) after = (collected : Bool) × (after ≡ Some (list ++ entries_of collected t asked said)) × MayCollect collected asked
+AddsEntries t asked said (Some list) after = (collected : Bool) × (after ≡ Some (list ++ entries_of collected t asked said)) × MayCollect collected asked said
 
 -- There is a last call that was answered by `OutOfHeap` exactly where there were some, and no page was free then.
 pub record TellsLast (s : Standing) : Type 0 where
