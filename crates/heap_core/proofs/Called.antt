@@ -1,6 +1,7 @@
 -- A step as a call of a caller, over the words before it and after it.
-use Rattle.std.proofs.Common.{◌≡◌, ◌≢◌, ℕ, ◌+◌, ◌≤◌, List, length, min, ◌-◌, ◌^◌, refl, sym, subst, Option, Some, MatchOption, arith}
-use Rattle.std.proofs.Math.Logic.{∥∥₁_elim, ∥∥₁_map}
+use Rattle.std.proofs.Common.{◌≡◌, ◌≢◌, ℕ, ◌+◌, ◌≤◌, ◌<◌, List, length, min, ◌-◌, ◌^◌, refl, sym, subst, Option, Some, MatchOption, arith}
+use Rattle.std.proofs.Math.Logic.{⊎_elim, ∥∥₁_elim, ∥∥₁_map}
+use Rattle.std.proofs.lemmas.Bool.{cases_lt}
 use Rattle.std.proofs.Props.{props}
 use Rattle.object_layout.specs.declared.calls.Call.{Call}
 use Rattle.object_layout.specs.declared.calls.Call.TheVariants as call
@@ -31,6 +32,15 @@ use Rattle.heap_core.proofs.Sound.{sound-from}
 
 long-table : (m : Areas) (ws : List ℕ) → IsAreas m → length ws ≡ total_of m → SomeRecorded m (contents m ws) → length (contents m ws).table ≡ m.pages
 long-table m ws areas whole some = (shape m ws (sound-from m ws areas whole (∥∥₁_map some (λ q. (q.0, q.1))))).table
+
+-- the words in use are no more than those counted before, as one number that stands at its last value
+pub begun-holds : (m : Areas) (ws : List ℕ) (present made begun : ℕ) → IsAreas m → length ws ≡ total_of m → SomeRecorded m (contents m ws) → words_used (contents m ws).table ≤ present + made → begun ≡ counted_on present made → words_used (contents m ws).table ≤ begun
+begun-holds m ws present made begun areas whole some holds count =
+    let within = ∥∥₁_elim some (hlevel props) (λ q. used-within m (contents m ws) q.0 q.1 (long-table m ws areas whole some)) in
+    ⊎_elim
+    (λ (lt : present + made < 2 ^ 64). omega (arith, holds, count, lt))
+    (λ (le : 2 ^ 64 ≤ present + made). omega (arith, within, areas.1, count, le))
+    (cases_lt (present + made) (2 ^ 64))
 
 -- what a step says of the words before it and after it
 pub record Called (m : Areas) (before later : List ℕ) (t : ℕ) (asked : Call) (stepped : Stepped) : Type 0 where

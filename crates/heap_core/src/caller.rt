@@ -1,13 +1,13 @@
 //! One thread's way to a heap that is owned.
 
-ghost use Rattle.std.specs.Prelude.{◌≡◌, ◌↔◌, ◌≤◌, ◌<◌, ◌+◌, ◌-◌, ◌^◌, ℕ, min, None, refl};
+ghost use Rattle.std.specs.Prelude.{◌≡◌, ◌≢◌, ◌↔◌, ◌≤◌, ◌<◌, ◌+◌, ◌-◌, ◌^◌, ℕ, min, None, refl};
 ghost use Rattle.std.specs.Option.{ForSome};
 ghost use Rattle.std.specs.FinMap.{empty};
 ghost use Rattle.object_layout.specs.Calls.{IsCall};
 ghost use Rattle.heap_words.specs.declared.map.Areas.{Areas};
 ghost use Rattle.heap_words.specs.Map.{HasThread, page_words};
 ghost use Rattle.heap_words.specs.Contents.{contents, Sound};
-ghost use Rattle.yak_model.specs.Graph.{thread_of};
+ghost use Rattle.yak_model.specs.Graph.{Thread, thread_of};
 ghost use Rattle.yak_model.specs.Lawful.{present_words};
 ghost use Rattle.yak_model.specs.Placed.{used_mark};
 ghost use Rattle.yak_model.specs.Spaces.{SpaceState};
@@ -125,6 +125,32 @@ impl<W: Words> CoreCaller<W> {
     {
         self.core
     }
+
+    /// The same heap as the way of one of its threads, which begins to count. What each thread alone knows stays known, and what
+    /// was told of threads stays told.
+    pub fn turn_to(self, thread: u8) -> CoreCaller<W>
+        requires thread { HasThread self.core.map thread }
+        ensures core { result.core ≡ self.core }
+        ensures thread { result.thread ≡ thread }
+        ensures present { result.present ≡ counted_on self.present self.made }
+        ensures fresh { (result.made ≡ 0) × (result.refusals ≡ 0) × (result.last ≡ None) }
+        ensures has { (own : Thread) → ⟦<CoreCaller<W> as Caller>⟧.tells self thread own → (⟦<CoreCaller<W> as Caller>⟧.standing result).own ≡ own }
+        ensures known { (known : KnownObjects) → ⟦<CoreCaller<W> as Caller>⟧.tells_known self thread known → ⟦<CoreCaller<W> as Caller>⟧.knows result known }
+        ensures had { self.thread ≢ thread → ⟦<CoreCaller<W> as Caller>⟧.tells result self.thread (⟦<CoreCaller<W> as Caller>⟧.standing self).own }
+        ensures kept { self.thread ≢ thread → (known : KnownObjects) → ⟦<CoreCaller<W> as Caller>⟧.knows self known → ⟦<CoreCaller<W> as Caller>⟧.tells_known result self.thread known }
+        ensures others { (t : ℕ) → t ≢ thread → ((own : Thread) → ⟦<CoreCaller<W> as Caller>⟧.tells self t own → ⟦<CoreCaller<W> as Caller>⟧.tells result t own) × ((known : KnownObjects) → ⟦<CoreCaller<W> as Caller>⟧.tells_known self t known → ⟦<CoreCaller<W> as Caller>⟧.tells_known result t known) }
+    {
+        let present = count_up(self.present, self.made);
+        let (made, refusals) = (0, 0);
+        CoreCaller {
+            core: self.core,
+            thread,
+            present,
+            made,
+            refusals,
+            last: None,
+        }
+    }
 }
 
 /// The words in use in all pages.
@@ -176,7 +202,7 @@ pub fn words_asked(call: Call) -> u16
 #[cfg(test)]
 mod tests {
     use crate::Core;
-    use object_layout::{Call, Census, Reply};
+    use object_layout::{Call, Census, Refusal, Reply};
     use std::test::Fail;
     use yak_model::Caller;
 
@@ -204,6 +230,31 @@ mod tests {
         assert_eq!(rt; caller.full(), Some((pages, 0, 3)));
         let mut core = caller.into_core();
         assert_eq!(rt; core.step(1, Call::Get(1)).reply, Reply::Object(234));
+        Ok(())
+    }
+
+    // The reply to a call of whichever caller.
+    fn ask<C: Caller>(caller: &mut C, call: Call) -> Reply
+        requires { IsCall call }
+    {
+        caller.make_call(call)
+    }
+
+    #[test]
+    fn two_threads_call_in_turn(rt: HostRuntime) -> Result<(), Fail> {
+        let core = match Core::new(rt.alloc(), 1, 2) {
+            Ok(core) => core,
+            Err(error) => panic!(rt; "no heap: {error}"),
+        };
+        let caller = core.as_caller(1);
+        let mut caller = caller.turn_to(2);
+        assert_eq!(rt; ask(&mut caller, Call::Int(7)), Reply::Ok);
+        assert_eq!(rt; ask(&mut caller, Call::Get(1)), Reply::Int(7));
+        let mut caller = caller.turn_to(1);
+        assert_eq!(rt;
+            ask(&mut caller, Call::Get(1)),
+            Reply::Refused(Refusal::BadSlot)
+        );
         Ok(())
     }
 }
