@@ -1,5 +1,5 @@
 -- Looks at the entries of a chain, each on top of the one before.
-use Rattle.std.proofs.Common.{◌≡◌, ◌≢◌, ℕ, ◌+◌, inl, inr, List, [], ◌∷◌, ◌++◌, get_or, refl, ◌∙◌, ap, sym, subst, length, arith, append_assoc, length-append}
+use Rattle.std.proofs.Common.{◌≡◌, ◌≢◌, ℕ, ◌+◌, ◌<◌, inl, inr, List, [], ◌∷◌, ◌++◌, get_or, refl, ◌∙◌, ap, sym, subst, length, arith, append_assoc, length-append}
 use Rattle.std.proofs.lemmas.List.{append-nil, get_or_append_left}
 use Rattle.object_layout.specs.declared.names.Name.{Name}
 use Rattle.yak_model.specs.declared.datum.Datum.{Datum}
@@ -11,7 +11,6 @@ use Rattle.yak_model.specs.Tables.{Link, IsChain}
 use Rattle.heap_tables.specs.Walks.{IsApart, IsClimbed, IsPassed, Looked, with_place}
 use Rattle.heap_tables.specs.declared.chains.Look.{Look}
 use Rattle.heap_tables.specs.declared.chains.Look.TheVariants as look
-use Rattle.heap_tables.specs.declared.chains.TheConstants.{LOOKS}
 use Rattle.heap_tables.proofs.Effects.{IsAt, in_bounds, top_after}
 use Rattle.heap_tables.proofs.Places.{apart_rest, chain_agrees, insert_agrees, lacks_more, word_cases}
 
@@ -103,7 +102,7 @@ module _ (own : Thread) (known : KnownObjects) (word : List ℕ) (links : List L
 
   -- the place that was come to is put into a field of the table
   pub climbed_place : (said : Look) (n : ℕ) (after : Thread) → IsClimbed own known word links at said n after
-      → (name : Name) (values : List Datum) (b : ℕ) → IsApart name links → (said ≡ look.Further → n ≡ LOOKS)
+      → (name : Name) (values : List Datum) (b : ℕ) → IsApart name links → (said ≡ look.Further → 0 < n)
       → (knows : KnownObjects → Type 0) → knows (with_place known name values b (get_or after.stack (at + n) datum.Null))
       → IsPassed known name values b word links said knows
   climbed_place said n after c name values b apart few knows k = record {
@@ -117,5 +116,5 @@ module _ (own : Thread) (known : KnownObjects) (word : List ℕ) (links : List L
       known_now = k;
     };
     stops = c.stops;
-    some = λ further. let e = few further in omega (arith, e, c.count);
+    some = λ further. omega (arith, few further, c.count);
   }

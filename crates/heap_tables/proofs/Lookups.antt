@@ -15,7 +15,7 @@ use Rattle.heap_tables.specs.Counted.{MayLook}
 use Rattle.heap_tables.specs.Cursors.{MayWalk}
 use Rattle.heap_tables.specs.Runs.{pushed}
 use Rattle.heap_tables.specs.Walks.{IsApart, IsAtChain}
-use Rattle.heap_tables.proofs.Counted.{bucket_small, lacks_none}
+use Rattle.heap_tables.proofs.RaisedCounts.{bucket_small, lacks_none}
 use Rattle.heap_tables.proofs.Effects.{length_push, top_after}
 use Rattle.heap_tables.proofs.Raised.{entry_at, table_apart}
 use Rattle.heap_tables.proofs.Visits.{counted_at}

@@ -22,7 +22,7 @@ use Rattle.heap_tables.specs.Reads.{AreShort}
 use Rattle.heap_tables.specs.Runs.{Ran, RanOut, next_of}
 use Rattle.heap_tables.specs.Walks.{IsApart, IsAtChain}
 use Rattle.heap_tables.proofs.Asides.{lacks_bucket}
-use Rattle.heap_tables.proofs.Counted.{added_counts, bucket_small, count_found, count_other}
+use Rattle.heap_tables.proofs.RaisedCounts.{added_counts, bucket_small, count_found, count_other}
 use Rattle.heap_tables.proofs.Entries.{key_no_entry}
 use Rattle.heap_tables.proofs.Fitting.{chain_short}
 use Rattle.heap_tables.proofs.Linked.{shared_table}
@@ -151,7 +151,7 @@ sums_drop counts (suc p) (x ∷ xs) rest link sums e = sums_drop counts p xs res
 
 -- ---- the entries
 
-merges_more : (done : List Link) (link : Link) (first now next : ℕ → List Link) → MergesLinks done first now → MergesLink link now next → MergesLinks (done ++ link ∷ []) first next
+pub merges_more : (done : List Link) (link : Link) (first now next : ℕ → List Link) → MergesLinks done first now → MergesLink link now next → MergesLinks (done ++ link ∷ []) first next
 merges_more [] link first now next e step = (next, subst (λ bs. MergesLink link bs next) e step, refl)
 merges_more (l ∷ done) link first now next h step = (h.0, h.1, merges_more done link h.0 now next h.2 step)
 
@@ -212,7 +212,7 @@ counts_stay known from_name into_name from_counts into_counts from into differen
 pub untouched_by_add : (known after : KnownObjects) (name : Name) (buckets later : ℕ → List Link) (word : List ℕ) → KeepsOthers known name (buckets (bucket_of word)) after → StayNowhere known buckets later → KeepsUntouched known name buckets after later
 untouched_by_add known after name buckets later word keeps stay other k ne away = (keeps other k ne (away (bucket_of word) (bucket_small word)), stay other k away)
 
-untouched_step : (known : KnownObjects) (name : Name) (buckets : ℕ → List Link) (mid : KnownObjects) (now : ℕ → List Link) → KeepsUntouched known name buckets mid now → (word : List ℕ) (n : ℕ) (knows : KnownObjects → Type 0) (added : IsAddedTo mid word n name now knows) → KeepsUntouched known name buckets added.after (with_bucket now (bucket_of word) added.links)
+pub untouched_step : (known : KnownObjects) (name : Name) (buckets : ℕ → List Link) (mid : KnownObjects) (now : ℕ → List Link) → KeepsUntouched known name buckets mid now → (word : List ℕ) (n : ℕ) (knows : KnownObjects → Type 0) (added : IsAddedTo mid word n name now knows) → KeepsUntouched known name buckets added.after (with_bucket now (bucket_of word) added.links)
 untouched_step known name buckets mid now kept word n knows added other k ne away =
     let r = kept other k ne away in
     let k_mid : IsKnown mid other = subst (λ o. IsSome o) (sym r.0) k in
@@ -230,13 +230,13 @@ longer word n links after adds = elim adds [
   | inr b ↦ (let e = ap length b.1.3 in omega (arith, e))
 ]
 
-few_step : (now : ℕ → List Link) (word : List ℕ) (n : ℕ) (links : List Link) → AddsCount word n (now (bucket_of word)) links → (c : ℕ) → length (with_bucket now (bucket_of word) links c) ≤ length (now c) + 1
+pub few_step : (now : ℕ → List Link) (word : List ℕ) (n : ℕ) (links : List Link) → AddsCount word n (now (bucket_of word)) links → (c : ℕ) → length (with_bucket now (bucket_of word) links c) ≤ length (now c) + 1
 few_step now word n links adds c = elim (eqb_cases (bucket_of word) c) [
   | inl s ↦ subst (λ t. length (cond t links (now c)) ≤ length (now c) + 1) (sym s.0) (subst (λ d. length links ≤ length (now d) + 1) (sym s.1) (longer word n (now (bucket_of word)) links adds))
   | inr o ↦ subst (λ t. length (cond t links (now c)) ≤ length (now c) + 1) (sym o.0) (omega arith)
 ]
 
-pub merged_step : (m : Merge) (is : IsMerge m) (done : List Link) (knows : KnownObjects → Type 0) (d : IsMerged m is done knows) (word : List ℕ) (n : ℕ) (link : Link) → word ≡ link.word → n ≡ link.count
+unfoldable pub merged_step : (m : Merge) (is : IsMerge m) (done : List Link) (knows : KnownObjects → Type 0) (d : IsMerged m is done knows) (word : List ℕ) (n : ℕ) (link : Link) → word ≡ link.word → n ≡ link.count
     → (after : KnownObjects → Type 0) (added : IsAddedTo d.after word n m.into_name (d.into_table).buckets after) → SharesLink link ((d.into_table).buckets (bucket_of word)) added.links → ((other : KnownObjects) → Contains m.others other → after other × LacksLinks other added.links) → IsMerged m is (done ++ link ∷ []) after
 merged_step m is done knows d word n link e f after added shares asides =
     record {
@@ -259,7 +259,7 @@ merged_step m is done knows d word n link e f after added shares asides =
       aside = λ other has. lacks_bucket other m.into_name (d.into_table).buckets (bucket_of word) added.links (d.aside other has) (asides other has).1;
     }
 
-pub merged_as : (m : Merge) (is : IsMerge m) (done : List Link) (knows after : KnownObjects → Type 0) (d : IsMerged m is done knows) → after d.after → ((other : KnownObjects) → Contains m.others other → after other) → IsMerged m is done after
+abbrev pub merged_as : (m : Merge) (is : IsMerge m) (done : List Link) (knows after : KnownObjects → Type 0) (d : IsMerged m is done knows) → after d.after → ((other : KnownObjects) → Contains m.others other → after other) → IsMerged m is done after
 merged_as m is done knows after d k others = record {
   after = d.after;
   known_now = k;
@@ -334,7 +334,7 @@ length_walk buckets few (suc n) h =
 
 -- ---- single steps
 
-some_not_none : (o : Option ℕ) → (o ≡ None → ⊥) → one_if_none o ≡ 0
+pub some_not_none : (o : Option ℕ) → (o ≡ None → ⊥) → one_if_none o ≡ 0
 some_not_none None h = absurd (h refl)
 some_not_none (Some n) h = refl
 

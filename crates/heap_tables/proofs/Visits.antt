@@ -14,7 +14,7 @@ use Rattle.heap_tables.specs.Cursors.{IsFound, IsNext, IsPast, IsVisited, MayWal
 use Rattle.heap_tables.specs.Reads.{AreShort, IsCopied, Took}
 use Rattle.heap_tables.specs.Walks.{IsApart, IsAtChain}
 use Rattle.heap_tables.specs.declared.cursors.Cursor.{Cursor}
-use Rattle.heap_tables.proofs.Counted.{one_count}
+use Rattle.heap_tables.proofs.RaisedCounts.{one_count}
 use Rattle.heap_tables.proofs.Effects.{value_same}
 use Rattle.heap_tables.proofs.Raised.{distinct_parts, eqb_cases, has_count_at, home_at, lacks_at, table_apart}
 use Rattle.heap_tables.proofs.Fitting.{chain_short}

@@ -16,7 +16,7 @@ use Rattle.heap_tables.specs.Adds.{IsNoEntry}
 use Rattle.heap_tables.specs.Asides.{LacksTable}
 use Rattle.heap_tables.specs.Counted.{count_of, or_zero, raised}
 use Rattle.heap_tables.specs.Merges.{AreSums, Goes, IsMerge, IsMergedPart, IsMergedWhole, MayMerge, Merge, Stops, SharesNone, raised_by, sum_of, walk}
-use Rattle.heap_tables.proofs.Counted.{bucket_small, count_other, count_same, not_none, word_tie}
+use Rattle.heap_tables.proofs.RaisedCounts.{bucket_small, count_other, count_same, not_none, word_tie}
 use Rattle.heap_tables.proofs.Places.{word_cases}
 use Rattle.heap_tables.proofs.Raised.{lacks_at, other_bucket}
 use Rattle.heap_tables.proofs.Untouched.{from_stays, lacks_append, raised_lacks, walk_lacks}

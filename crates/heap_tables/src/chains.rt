@@ -8,17 +8,13 @@ ghost use Rattle.object_layout.specs.declared.names.Name.{Name};
 ghost use Rattle.heap_tables.specs.Runs.{KeepsKnown, Ran, slot_in, stack_in};
 ghost use Rattle.yak_model.specs.Tables.{Link, IsChain, group};
 ghost use Rattle.heap_tables.specs.declared.TheConstants.{FREE_SLOTS, KEY_BYTES};
-ghost use Rattle.heap_tables.specs.declared.chains.TheConstants.{LOOKS};
 ghost use Rattle.heap_tables.specs.declared.chains.Look.TheVariants as look;
 ghost use Rattle.heap_tables.specs.Walks.{HasLinks, IsAtChain, IsClimbed, IsPassed, Looked, HasWalk, IsApart, Walked, Found};
 ghost use Rattle.heap_tables.specs.Asides.{LacksChain};
 
 use crate::keys::{group, is_key};
 use crate::steps::{load, pop, pop_all, store, try_load};
-use yak_model::Caller;
-
-/// How many entries of a chain are looked at on the stack, before the place is put into the table's bucket.
-const LOOKS: u32 = 5;
+use yak_model::{Caller, STACK_SLOTS};
 
 /// What a look at a chain finds.
 #[derive(Clone, Copy, Debug, PartialEq, Eq, Drop)]
@@ -52,31 +48,32 @@ fn look_once<C: Caller>(caller: &mut C, word: &[u8], first: u64, at: u32) -> Loo
     Look::Further
 }
 
-/// Looks at entries of the chain in the top slot, each on top of the one before, as far as there are more and the stack has
-/// room. Gives how many were passed.
-fn climb<C: Caller>(caller: &mut C, word: &[u8], first: u64, at: u32) -> (Look, u32)
+/// Looks at entries of the chain in the top slot, each on top of the one before, as far as there are more, and at so many at
+/// most. Gives how many were passed.
+fn climb<C: Caller>(caller: &mut C, word: &[u8], first: u64, at: u32, looks: u32) -> (Look, u32)
     requires chain { HasLinks (C.standing caller.old) (C.knows caller.old) at }
     requires word { length word.now ≤ KEY_BYTES }
     requires first { first ≡ group word.now 0 }
-    requires room { length (stack_in (C.standing caller.old)) + LOOKS < STACK_SLOTS }
+    requires room { length (stack_in (C.standing caller.old)) + looks < STACK_SLOTS }
     requires top { length (stack_in (C.standing caller.old)) ≡ at + 1 }
     ensures ran { Ran C.base C.tells C.tells_known C.standing caller.old caller.new 0 }
     ensures keeps { KeepsKnown (C.knows caller.old) (C.knows caller.new) }
-    ensures few { result.1 ≤ LOOKS }
-    ensures all { result.0 ≡ look.Further → result.1 ≡ LOOKS }
+    ensures few { result.1 ≤ looks }
+    ensures all { result.0 ≡ look.Further → result.1 ≡ looks }
     ensures climbed { (known : KnownObjects) (links : List Link) → C.knows caller.old known → IsChain known (slot_in (C.standing caller.old) at) links → IsClimbed (C.standing caller.old).own known word.now links at result.0 result.1 (C.standing caller.new).own }
 {
-    for n in 0..LOOKS {
+    for n in 0..looks {
         match look_once(caller, word, first, at + n) {
             Look::End => return (Look::End, n),
             Look::Found => return (Look::Found, n),
             Look::Further => {}
         }
     }
-    (Look::Further, LOOKS)
+    (Look::Further, looks)
 }
 
-/// Looks at the next entries of a chain, and puts the place that it comes to into the table's bucket.
+/// Looks at the next entries of a chain, as many as the stack has room for, and puts the place that it comes to into the table's
+/// bucket.
 fn look_on<C: Caller>(
     caller: &mut C,
     table: u32,
@@ -88,7 +85,7 @@ fn look_on<C: Caller>(
     requires chain { HasWalk (C.standing caller.old) (C.knows caller.old) table bucket }
     requires word { length word.now ≤ KEY_BYTES }
     requires first { first ≡ group word.now 0 }
-    requires room { length (stack_in (C.standing caller.old)) + LOOKS + 1 < STACK_SLOTS }
+    requires room { length (stack_in (C.standing caller.old)) + 2 < STACK_SLOTS }
     requires top { length (stack_in (C.standing caller.old)) ≡ top }
     ensures ran { Ran C.base C.tells C.tells_known C.standing caller.old caller.new 0 }
     ensures own { (C.standing caller.new).own ≡ (C.standing caller.old).own }
@@ -96,14 +93,15 @@ fn look_on<C: Caller>(
     ensures aside { (known : KnownObjects) (name : Name) (values : List Datum) (links : List Link) (other : KnownObjects) → C.knows caller.old known → IsAtChain (C.standing caller.old) known table bucket name values links → IsApart name links → C.knows caller.old other → LacksChain other name links → C.knows caller.new other }
 {
     load(caller, table, bucket);
-    let (said, n) = climb(caller, word, first, top);
+    let looks = STACK_SLOTS as u32 - (top + 2);
+    let (said, n) = climb(caller, word, first, top, looks);
     store(caller, table, bucket, top + n);
     pop_all(caller, n + 1);
     said
 }
 
 /// Walks along a chain of the table to the word's entry, and pushes it if there is one. The place of the walk stays in the table.
-fn walk<C: Caller>(
+pub(crate) fn walk<C: Caller>(
     caller: &mut C,
     table: u32,
     bucket: u32,
@@ -114,7 +112,7 @@ fn walk<C: Caller>(
     requires chain { HasWalk (C.standing caller.old) (C.knows caller.old) table bucket }
     requires word { length word.now ≤ KEY_BYTES }
     requires first { first ≡ group word.now 0 }
-    requires room { length (stack_in (C.standing caller.old)) + LOOKS + 1 < STACK_SLOTS }
+    requires room { length (stack_in (C.standing caller.old)) + 2 < STACK_SLOTS }
     requires top { length (stack_in (C.standing caller.old)) ≡ top }
     ensures ran { Ran C.base C.tells C.tells_known C.standing caller.old caller.new 0 }
     ensures walked { (known : KnownObjects) (name : Name) (values : List Datum) (links : List Link) → C.knows caller.old known → IsAtChain (C.standing caller.old) known table bucket name values links → IsApart name links → length links < 2 ^ 63 → Walked (C.standing caller.old) known name values bucket word.now links result (C.standing caller.new).own (C.knows caller.new) }

@@ -11,7 +11,7 @@ ghost use Rattle.yak_model.specs.Tables.{digits, group, groups, bucket_of};
 ghost use Rattle.heap_tables.specs.declared.TheConstants.{KEY_BYTES};
 ghost use Rattle.heap_tables.specs.Keys.{HasKey, IsKeyInSlot, IsKeyBegun};
 
-use crate::steps::{field_is, pop, push_new, put_int, slot_is, try_load};
+use crate::steps::{field_is, get, int_of, pop, push_new, put_int, slot_is, try_load};
 use object_layout::OutOfHeap;
 use yak_model::{BUCKETS, BYTE_VALUES, Caller, GROUP_BYTES, HASH_FACTOR};
 
@@ -119,6 +119,24 @@ pub(crate) fn is_key<C: Caller>(caller: &mut C, key: u32, word: &[u8], first: u6
         return false;
     }
     has_bytes(caller, key, word, top)
+}
+
+/// The number of the first group of the bytes of a key's word, or 0 where it has no bytes.
+#[inline(always)]
+pub(crate) fn first_group<C: Caller>(caller: &mut C, key: u32, top: u32) -> u64
+    requires key { HasKey (C.standing caller.old) (C.knows caller.old) key }
+    requires room { length (stack_in (C.standing caller.old)) < STACK_SLOTS }
+    requires top { length (stack_in (C.standing caller.old)) ≡ top }
+    ensures ran { Ran C.base C.tells C.tells_known C.standing caller.old caller.new 0 }
+    ensures keeps { KeepsKnown (C.knows caller.old) (C.knows caller.new) }
+    ensures own { (C.standing caller.new).own ≡ (C.standing caller.old).own }
+{
+    if !try_load(caller, key, 1) {
+        return 0;
+    }
+    let shown = get(caller, top);
+    pop(caller);
+    int_of(shown)
 }
 
 /// Pushes a new key of the word.

@@ -1,5 +1,5 @@
 //! The merge of two tables.
-ghost use Rattle.std.specs.Prelude.{◌≡◌, ℕ, ◌+◌, ◌*◌, ◌^◌, ◌<◌, ◌≤◌, [], List, length, None, OnOk, OnErr, IfOk, slice_index_or};
+ghost use Rattle.std.specs.Prelude.{◌≡◌, ℕ, ◌+◌, ◌*◌, ◌^◌, ◌<◌, ◌≤◌, [], List, length, None, OnOk, OnErr, IfOk, IsTrue, true, slice_index_or, ◌↔◌};
 ghost use Rattle.std.specs.FinMap as finite;
 ghost use Rattle.object_layout.specs.declared.TheConstants.{MAX_INT, MAX_SERIAL};
 ghost use Rattle.object_layout.specs.declared.names.Name.{Name};
@@ -10,20 +10,23 @@ ghost use Rattle.yak_model.specs.Private.{KnownObjects, IsKnown};
 ghost use Rattle.yak_model.specs.Room.{entry_words};
 ghost use Rattle.yak_model.specs.Tables.{Link};
 ghost use Rattle.yak_model.specs.Texts.{WordCounts};
-ghost use Rattle.heap_tables.specs.declared.TheConstants.{FREE_SLOTS, KEY_BYTES, MOST_MADE};
+ghost use Rattle.heap_tables.specs.declared.TheConstants.{FREE_SLOTS, KEPT_SLOTS, KEY_BYTES, MOST_MADE};
 ghost use Rattle.heap_tables.specs.Adds.{having_made};
+ghost use Rattle.yak_model.specs.Graph.{Thread};
+ghost use Rattle.heap_tables.specs.Layouts.{AreBelow, GoesLaid, HasGoesLaid, HasNextLaid, MergesLaid};
 ghost use Rattle.heap_tables.specs.Merges.{AreSlots, Goes, HasEntryFor, HasMerged, HasMerging, HasNextEntry, HasShare, HasTables, IsEntryAt, IsMerge, IsMerged, IsMergedPart, IsMergedWhole, IsShare, MayMerge, Merge, MergesEntry, Stops, done_at, walk, with_shared};
 ghost use Rattle.heap_tables.specs.Runs.{IsInSlot, KeepsKnown, Ran, RanOut, next_of, stack_in};
 ghost use Rattle.heap_tables.specs.Walks.{IsEntryInSlot};
 ghost use Rattle.heap_tables.specs.Asides.{LacksChain, LacksTable, LacksValue};
 
-use crate::KEY_BYTES;
+use crate::raising::raise_present;
 use crate::reading::take_entry;
 use crate::seek::seek;
-use crate::steps::{load, pop, stack_size};
+use crate::steps::{load, pop, pop_all, stack_size};
 use crate::tables::{add_present, link_new};
+use crate::{KEPT_SLOTS, KEY_BYTES};
 use object_layout::OutOfHeap;
-use yak_model::{BUCKETS, Caller};
+use yak_model::{BUCKETS, Caller, STACK_SLOTS};
 
 /// Makes an entry for the key of another entry, and puts it at the front of a bucket.
 fn share_key<C: Caller>(
@@ -130,6 +133,7 @@ fn merge_entry<C: Caller>(
     requires room { length (stack_in (C.standing caller.old)) + FREE_SLOTS ≤ STACK_SLOTS }
     requires top { length (stack_in (C.standing caller.old)) ≡ top }
     ensures buffer { length buffer.new ≡ length buffer.old }
+    ensures few { IfOk result (λ more. IsTrue more → place + 1 < 2 ^ 32) }
     ensures merged { IfOk result (λ more. (m : Merge) (is : IsMerge m) → AreSlots (C.standing caller.old) from into m → IsMerged m is (done_at m.buckets bucket place) (C.knows caller.old) → MergesEntry C.base C.tells C.tells_known C.standing m is bucket place more caller.old caller.new (C.knows caller.new)) }
     ensures stopped { OnErr result ((m : Merge) (is : IsMerge m) → AreSlots (C.standing caller.old) from into m → IsMerged m is (done_at m.buckets bucket place) (C.knows caller.old) → Stops C.base C.tells C.tells_known C.standing m is (done_at m.buckets bucket place) caller.old caller.new (C.knows caller.new)) }
 {
@@ -151,6 +155,168 @@ fn merge_entry<C: Caller>(
     }
 }
 
+/// Adds the count of an entry of one table, which has this word and count, to another table where the word is there, of whose chain
+/// entries are laid out. Tells whether it is there, and how many are laid out then.
+fn merge_word<C: Caller>(
+    caller: &mut C,
+    from: u32,
+    into: u32,
+    bucket: u32,
+    place: u32,
+    word: &[u8],
+    n: u64,
+    groups: &mut [u64],
+    at: u32,
+    laid: u32,
+    most: u32,
+) -> (bool, u32)
+    requires tables { HasNextLaid (C.standing caller.old) (C.knows caller.old) from into bucket place at laid word.now n }
+    requires bucket { bucket < BUCKETS }
+    requires word { length word.now ≤ KEY_BYTES }
+    requires groups { STACK_SLOTS ≤ length groups.old }
+    requires top { length (stack_in (C.standing caller.old)) ≡ at + laid + 1 }
+    requires few { laid ≤ most }
+    requires room { at + most + KEPT_SLOTS < STACK_SLOTS }
+    ensures groups { length groups.new ≡ length groups.old }
+    ensures few { result.1 ≤ most }
+    ensures ran { Ran C.base C.tells C.tells_known C.standing caller.old caller.new 0 }
+    ensures merged { (m : Merge) (is : IsMerge m) (start : ℕ) (own : Thread) (link : Link) (rest : List Link) → AreBelow own from into m → length own.stack ≡ at → GoesLaid m is bucket start place laid own (C.standing caller.old).own (C.knows caller.old) → IsEntryAt m bucket place word.now n link rest → MergesLaid m is bucket start place result.1 result.0 own (C.standing caller.new).own (C.knows caller.new) }
+{
+    raise_present(caller, into, bucket, word, n, groups, at, laid, most)
+}
+
+/// Adds the count of the entry at a place of a bucket to another table where its word is there, of whose chain entries are laid out.
+/// Tells whether it is there, and how many are laid out then.
+fn merge_laid<C: Caller>(
+    caller: &mut C,
+    from: u32,
+    into: u32,
+    bucket: u32,
+    place: u32,
+    buffer: &mut [u8],
+    groups: &mut [u64],
+    at: u32,
+    laid: u32,
+    most: u32,
+) -> (bool, u32)
+    requires tables { HasGoesLaid (C.standing caller.old) (C.knows caller.old) from into bucket place at laid }
+    requires bucket { bucket < BUCKETS }
+    requires buffer { KEY_BYTES ≤ length buffer.old }
+    requires groups { STACK_SLOTS ≤ length groups.old }
+    requires top { length (stack_in (C.standing caller.old)) ≡ at + laid + 1 }
+    requires few { laid ≤ most }
+    requires room { at + most + KEPT_SLOTS < STACK_SLOTS }
+    ensures buffer { length buffer.new ≡ length buffer.old }
+    ensures groups { length groups.new ≡ length groups.old }
+    ensures few { result.1 ≤ most }
+    ensures ran { Ran C.base C.tells C.tells_known C.standing caller.old caller.new 0 }
+    ensures merged { (m : Merge) (is : IsMerge m) (start : ℕ) (own : Thread) → AreBelow own from into m → length own.stack ≡ at → GoesLaid m is bucket start place laid own (C.standing caller.old).own (C.knows caller.old) → MergesLaid m is bucket start place result.1 result.0 own (C.standing caller.new).own (C.knows caller.new) }
+{
+    match take_entry(caller, from, bucket, place, buffer, at + laid + 1) {
+        Some((size, count)) => merge_word(
+            caller,
+            from,
+            into,
+            bucket,
+            place,
+            &buffer[..size],
+            count,
+            groups,
+            at,
+            laid,
+            most,
+        ),
+        None => (false, laid),
+    }
+}
+
+/// Adds the counts of the entries from a place of a bucket on to another table as far as their words are there, of whose chain the
+/// front is laid out. Gives how many, and how many are laid out then.
+fn merge_on<C: Caller>(
+    caller: &mut C,
+    from: u32,
+    into: u32,
+    bucket: u32,
+    place: u32,
+    buffer: &mut [u8],
+    groups: &mut [u64],
+    at: u32,
+    most: u32,
+) -> (u32, u32)
+    requires tables { HasGoesLaid (C.standing caller.old) (C.knows caller.old) from into bucket place at 0 }
+    requires bucket { bucket < BUCKETS }
+    requires buffer { KEY_BYTES ≤ length buffer.old }
+    requires groups { STACK_SLOTS ≤ length groups.old }
+    requires room { at + most + KEPT_SLOTS < STACK_SLOTS }
+    ensures buffer { length buffer.new ≡ length buffer.old }
+    ensures groups { length groups.new ≡ length groups.old }
+    ensures few { place + result.0 < 2 ^ 32 }
+    ensures laid { result.1 ≤ most }
+    ensures ran { Ran C.base C.tells C.tells_known C.standing caller.old caller.new 0 }
+    ensures merged { (m : Merge) (is : IsMerge m) (start : ℕ) (own : Thread) → AreBelow own from into m → length own.stack ≡ at → GoesLaid m is bucket start place 0 own (C.standing caller.old).own (C.knows caller.old) → GoesLaid m is bucket start (place + result.0) result.1 own (C.standing caller.new).own (C.knows caller.new) }
+{
+    let mut laid = 0;
+    for turn in 0..u32::MAX - place {
+        let (found, now) = merge_laid(
+            caller,
+            from,
+            into,
+            bucket,
+            place + turn,
+            buffer,
+            groups,
+            at,
+            laid,
+            most,
+        );
+        laid = now;
+        if !found {
+            return (turn, laid);
+        }
+    }
+    (u32::MAX - place, laid)
+}
+
+/// Whether the stack has room for entries that are laid out from a slot on.
+fn has_room(top: u32) -> bool
+    ensures room { IsTrue result ↔ (top + KEPT_SLOTS < STACK_SLOTS) }
+{
+    top < STACK_SLOTS as u32 - KEPT_SLOTS as u32
+}
+
+/// Adds the counts of the entries from a place of a bucket on to another table as far as their words are there, and gives how many.
+/// It lays out the other table's chain on the stack, and walks along it once for all of them.
+fn merge_present<C: Caller>(
+    caller: &mut C,
+    from: u32,
+    into: u32,
+    bucket: u32,
+    place: u32,
+    buffer: &mut [u8],
+    groups: &mut [u64],
+    top: u32,
+) -> u32
+    requires tables { HasMerging (C.standing caller.old) (C.knows caller.old) from into bucket place }
+    requires bucket { bucket < BUCKETS }
+    requires buffer { KEY_BYTES ≤ length buffer.old }
+    requires groups { STACK_SLOTS ≤ length groups.old }
+    requires room { length (stack_in (C.standing caller.old)) + FREE_SLOTS ≤ STACK_SLOTS }
+    requires top { length (stack_in (C.standing caller.old)) ≡ top }
+    ensures buffer { length buffer.new ≡ length buffer.old }
+    ensures groups { length groups.new ≡ length groups.old }
+    ensures few { place + result < 2 ^ 32 }
+    ensures merged { (m : Merge) (is : IsMerge m) → AreSlots (C.standing caller.old) from into m → IsMerged m is (done_at m.buckets bucket place) (C.knows caller.old) → Goes C.base C.tells C.tells_known C.standing m is (done_at m.buckets bucket place) (done_at m.buckets bucket (place + result)) caller.old caller.new (C.knows caller.new) }
+{
+    if !has_room(top) {
+        return 0;
+    }
+    load(caller, into, bucket);
+    let most = STACK_SLOTS as u32 - KEPT_SLOTS as u32 - 1 - top;
+    let (merged, laid) = merge_on(caller, from, into, bucket, place, buffer, groups, top, most);
+    pop_all(caller, laid + 1);
+    merged
+}
+
 /// Adds the counts of a bucket to another table.
 fn merge_bucket<C: Caller>(
     caller: &mut C,
@@ -158,22 +324,28 @@ fn merge_bucket<C: Caller>(
     into: u32,
     bucket: u32,
     buffer: &mut [u8],
+    groups: &mut [u64],
     top: u32,
 ) -> Result<(), OutOfHeap>
     requires tables { HasMerged (C.standing caller.old) (C.knows caller.old) from into bucket }
     requires bucket { bucket < BUCKETS }
     requires buffer { KEY_BYTES ≤ length buffer.old }
+    requires groups { STACK_SLOTS ≤ length groups.old }
     requires names { (C.standing caller.old).own.made + 2 ^ 32 < MAX_SERIAL }
     requires room { length (stack_in (C.standing caller.old)) + FREE_SLOTS ≤ STACK_SLOTS }
     requires top { length (stack_in (C.standing caller.old)) ≡ top }
     ensures buffer { length buffer.new ≡ length buffer.old }
+    ensures groups { length groups.new ≡ length groups.old }
     ensures merged { OnOk result ((m : Merge) (is : IsMerge m) → AreSlots (C.standing caller.old) from into m → IsMerged m is (walk m.buckets bucket) (C.knows caller.old) → Goes C.base C.tells C.tells_known C.standing m is (walk m.buckets bucket) (walk m.buckets (bucket + 1)) caller.old caller.new (C.knows caller.new)) }
     ensures stopped { OnErr result ((m : Merge) (is : IsMerge m) → AreSlots (C.standing caller.old) from into m → IsMerged m is (walk m.buckets bucket) (C.knows caller.old) → Stops C.base C.tells C.tells_known C.standing m is (walk m.buckets bucket) caller.old caller.new (C.knows caller.new)) }
 {
-    for place in 0..u32::MAX {
+    let mut place = 0;
+    for turn in 0..u32::MAX {
+        place += merge_present(caller, from, into, bucket, place, buffer, groups, top);
         if !merge_entry(caller, from, into, bucket, place, buffer, top)? {
             return Ok(());
         }
+        place += 1;
     }
     Ok(())
 }
@@ -184,10 +356,12 @@ fn merge_buckets<C: Caller>(
     from: u32,
     into: u32,
     buffer: &mut [u8],
+    groups: &mut [u64],
     top: u32,
 ) -> Result<(), OutOfHeap>
     requires tables { HasMerged (C.standing caller.old) (C.knows caller.old) from into 0 }
     requires buffer { KEY_BYTES ≤ length buffer.old }
+    requires groups { STACK_SLOTS ≤ length groups.old }
     requires names { (C.standing caller.old).own.made ≤ MOST_MADE }
     requires room { length (stack_in (C.standing caller.old)) + FREE_SLOTS ≤ STACK_SLOTS }
     requires top { length (stack_in (C.standing caller.old)) ≡ top }
@@ -195,7 +369,7 @@ fn merge_buckets<C: Caller>(
     ensures stopped { OnErr result ((m : Merge) (is : IsMerge m) → AreSlots (C.standing caller.old) from into m → IsMerged m is [] (C.knows caller.old) → Stops C.base C.tells C.tells_known C.standing m is [] caller.old caller.new (C.knows caller.new)) }
 {
     for bucket in 0..BUCKETS as u32 {
-        merge_bucket(caller, from, into, bucket, buffer, top)?;
+        merge_bucket(caller, from, into, bucket, buffer, groups, top)?;
     }
     Ok(())
 }
@@ -215,5 +389,6 @@ pub fn merge<C: Caller>(caller: &mut C, from: u32, into: u32) -> Result<(), OutO
 {
     let top = stack_size(caller);
     let mut buffer = [0; KEY_BYTES];
-    merge_buckets(caller, from, into, &mut buffer, top)
+    let mut groups = [0; STACK_SLOTS];
+    merge_buckets(caller, from, into, &mut buffer, &mut groups, top)
 }

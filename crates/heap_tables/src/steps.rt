@@ -243,7 +243,7 @@ pub fn slot_is_null<C: Caller>(caller: &mut C, s: u32) -> bool
 
 /// The integer that a reply shows, or 0.
 #[inline(always)]
-fn int_of(shown: Reply) -> u64
+pub(crate) fn int_of(shown: Reply) -> u64
     ensures { (n : ℕ) → shown ≡ said.Int n → result ≡ n }
 {
     match shown {

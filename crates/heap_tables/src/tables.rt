@@ -25,7 +25,7 @@ use object_layout::OutOfHeap;
 use yak_model::{BUCKETS, Caller, ENTRY_FIELDS};
 
 /// Raises the count of an entry.
-fn raise<C: Caller>(caller: &mut C, entry: u32, n: u64, top: u32)
+pub(crate) fn raise<C: Caller>(caller: &mut C, entry: u32, n: u64, top: u32)
     requires entry { MayRaise (C.standing caller.old) (C.knows caller.old) entry n }
     requires room { length (stack_in (C.standing caller.old)) < STACK_SLOTS }
     requires top { length (stack_in (C.standing caller.old)) ≡ top }

@@ -118,7 +118,7 @@ returns-clause-passed g c known name values links k at apart =
     let up = c.climb-said.ensures.climbed known links (c.load.ensures.keeps known k) chain in
     let slot = climbed_slot (g.C.Caller.standing c.load.new.caller).own known c.args.word.now links c.args.top _ _ _ up c.args.table name values (slot_after own _ (get_or values c.args.bucket datum.Null) known c.args.table name values e at.0) in
     let stored = c.store.ensures.stored known name values (c.climb-said.ensures.keeps known (c.load.ensures.keeps known k)) slot at.1 in
-    climbed_place (g.C.Caller.standing c.load.new.caller).own known c.args.word.now links c.args.top c.climb-said.result.0 c.climb-said.result.1 _ up name values c.args.bucket apart c.climb-said.ensures.all
+    climbed_place (g.C.Caller.standing c.load.new.caller).own known c.args.word.now links c.args.top c.climb-said.result.0 c.climb-said.result.1 _ up name values c.args.bucket apart (λ further. omega (arith, c.climb-said.ensures.all further, c.requires.room, c.requires.top))
     (g.C.Caller.knows c.pop_all.new.caller) (c.pop_all.ensures.keeps _ stored)
 
 pub returns-clause-aside : goal.returns-clause-aside

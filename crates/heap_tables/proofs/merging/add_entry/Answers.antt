@@ -3,7 +3,7 @@ use Rattle.yak_model.specs.Graph.{Thread}
 use Rattle.yak_model.specs.Tables.{bucket_of}
 use Rattle.heap_tables.specs.Adds.{having_made}
 use Rattle.heap_tables.specs.Merges.{AreSlots, done_at}
-use Rattle.heap_tables.proofs.Counted.{lacks_count, lacks_none, bucket_small}
+use Rattle.heap_tables.proofs.RaisedCounts.{lacks_count, lacks_none, bucket_small}
 use Rattle.heap_tables.proofs.Effects.{value_same}
 use Rattle.heap_tables.proofs.OnResult.{err_map, ok_both, ok_map, err_both, ok_three, err_three}
 use Rattle.heap_tables.proofs.RunOn.{then_out, then_ran}

@@ -13,6 +13,7 @@ loop-bucket-init g c =
     let s = C.standing c.args.caller.now in
     record {
       buffer = refl;
+      groups = refl;
       goes = λ m is slots d. goes_nowhere C.base C.tells C.tells_known C.standing m is [] c.args.caller.now c.args.caller.now (C.knows c.args.caller.now) d (ran_none C.base C.tells C.tells_known C.standing c.args.caller.now) refl;
     }
 
@@ -33,6 +34,10 @@ merge_bucket-requires-clause-tables g c =
 pub merge_bucket-requires-clause-buffer : goal.merge_bucket-requires-clause-buffer
 merge_bucket-requires-clause-buffer g c =
     let e = c.loop-bucket.invariant.buffer in omega (arith, c.requires.buffer, e)
+
+pub merge_bucket-requires-clause-groups : goal.merge_bucket-requires-clause-groups
+merge_bucket-requires-clause-groups g c =
+    let e = c.loop-bucket.invariant.groups in omega (arith, c.requires.groups, e)
 
 pub merge_bucket-requires-clause-names : goal.merge_bucket-requires-clause-names
 merge_bucket-requires-clause-names g c =
@@ -95,6 +100,7 @@ loop-bucket-preserved g c =
     let s = C.standing c.args.caller.now in
     record {
       buffer = c.merge_bucket.ensures.buffer ∙ c.loop-bucket.invariant.buffer;
+      groups = c.merge_bucket.ensures.groups ∙ c.loop-bucket.invariant.groups;
       goes = λ m is slots d.
           let G = c.loop-bucket.invariant.goes m is slots d in
           let own = G.own in

@@ -1,4 +1,4 @@
-use Rattle.std.proofs.Common.{ℕ, ◌∙◌, ap, sym, arith, length, drop, take, List}
+use Rattle.std.proofs.Common.{ℕ, ◌∙◌, ap, sym, arith, length, drop, take, List, true≢false}
 use Rattle.yak_model.specs.Graph.{Thread}
 use Rattle.heap_tables.specs.Merges.{AreSlots, IsEntryAt, done_at}
 use Rattle.heap_tables.proofs.Bytes.{length_front}
@@ -6,7 +6,7 @@ use Rattle.heap_tables.proofs.Effects.{value_same}
 use Rattle.heap_tables.proofs.OnResult.{on_err}
 use Rattle.heap_tables.proofs.Sought.{short_first}
 use Rattle.heap_tables.proofs.Untouched.{from_chain, from_short, goes_nowhere, goes_stops, goes_then, merged_as, from_lacks}
-use Rattle.heap_tables.proofs.Visits.{took_nothing, took_parts}
+use Rattle.heap_tables.proofs.Visits.{drop_below, took_nothing, took_parts}
 use Rattle.heap_tables.proofs.merging.merge_entry.Goals as goal
 
 pub take_entry-requires-clause-chain : goal.take_entry-requires-clause-chain
@@ -156,6 +156,27 @@ returns-in_ok-add_entry-in-Some-clause-merged g c m is slots d =
     let first = goes_nowhere C.base C.tells C.tells_known C.standing m is done c.args.caller.now c.take_entry.new.caller (C.knows c.take_entry.new.caller) merged c.take_entry.ensures.ran c.take_entry.ensures.own in
     goes_then C.base C.tells C.tells_known C.standing m is done done _ c.args.caller.now c.take_entry.new.caller c.add_entry.new.caller (C.knows c.take_entry.new.caller) (C.knows c.add_entry.new.caller) first
     (c.in_ok-add_entry-in-Some.ensures.added m is r.0 r.1 now_slots merged entry)
+
+pub returns-in-None-clause-few : goal.returns-in-None-clause-few
+returns-in-None-clause-few g c = λ e. absurd (true≢false (sym e))
+
+pub returns-in_ok-add_entry-in-Some-clause-few : goal.returns-in_ok-add_entry-in-Some-clause-few
+returns-in_ok-add_entry-in-Some-clause-few g c =
+    let C = g.C.Caller in
+    let s = C.standing c.args.caller.now in
+    let h = c.requires.tables in
+    let m = h.0 in
+    let is = h.1 in
+    let slots = h.2 in
+    let d = h.3 in
+    let b = c.args.bucket in
+    let p = c.args.place in
+    let at = from_chain m is b p c.requires.bucket (C.knows c.args.caller.now) d s c.args.from slots.0 in
+    let took = c.in-Some.ensures.took d.after m.from_name m.heads (m.buckets b) d.known_now at.0 at.1 in
+    let r = took_parts (drop p (m.buckets b)) c.in-Some.size c.in-Some.count c.take_entry.new.buffer took.0 in
+    let below = drop_below p (m.buckets b) r.1 r.0 r.2 in
+    let few = is.from_few b c.requires.bucket in
+    λ _. omega (arith, below, few)
 
 pub returns-in_err-add_entry-in-Some-clause-stopped : goal.returns-in_err-add_entry-in-Some-clause-stopped
 returns-in_err-add_entry-in-Some-clause-stopped g c =

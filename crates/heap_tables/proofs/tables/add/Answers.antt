@@ -6,7 +6,7 @@ use Rattle.yak_model.specs.Standing.{Standing}
 use Rattle.yak_model.specs.Texts.{WordCounts}
 use Rattle.heap_tables.specs.Adds.{MayAdd, having_made}
 use Rattle.heap_tables.specs.Counted.{MayCount, count_of}
-use Rattle.heap_tables.proofs.Counted.{added_counts, bucket_small, count_found, grown_counts, lacks_none, makes_uncounted, stay_after, stay_nowhere}
+use Rattle.heap_tables.proofs.RaisedCounts.{added_counts, bucket_small, count_found, grown_counts, lacks_none, makes_uncounted, stay_after, stay_nowhere}
 use Rattle.yak_model.specs.Tables.{bucket_of}
 use Rattle.heap_tables.proofs.Effects.{value_same}
 use Rattle.heap_tables.proofs.Linked.{after_moved}

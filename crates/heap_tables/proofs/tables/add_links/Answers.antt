@@ -11,7 +11,7 @@ use Rattle.yak_model.specs.declared.datum.Datum.TheVariants as datum
 use Rattle.heap_tables.specs.Runs.{pushed, popped}
 use Rattle.heap_tables.proofs.Effects.{slot_same, slot_after, top_after, size_after, take_push}
 use Rattle.yak_model.specs.Tables.{LacksWord, bucket_of, IsChain}
-use Rattle.heap_tables.proofs.Counted.{lacks_count}
+use Rattle.heap_tables.proofs.RaisedCounts.{lacks_count}
 use Rattle.heap_tables.proofs.Asides.{lacks_as, lacks_head}
 use Rattle.std.specs.FinMap.{insert}
 use Rattle.yak_model.specs.declared.TheConstants.{BUCKETS}

@@ -2,7 +2,7 @@ use Rattle.std.proofs.Common.{replicate, refl}
 use Rattle.yak_model.specs.declared.TheConstants.{BUCKETS}
 use Rattle.yak_model.specs.declared.datum.Datum.TheVariants as datum
 use Rattle.heap_tables.specs.Runs.{next_of, with_new}
-use Rattle.heap_tables.proofs.Counted.{empty_counts}
+use Rattle.heap_tables.proofs.RaisedCounts.{empty_counts}
 use Rattle.heap_tables.proofs.OnResult.{ok_map}
 use Rattle.heap_tables.proofs.Raised.{empty_table}
 use Rattle.heap_tables.proofs.tables.make.Goals as goal
