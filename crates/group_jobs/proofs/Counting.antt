@@ -4,7 +4,6 @@ use Rattle.std.specs.FinMap as finite
 use Rattle.std.specs.FinMap.{find}
 use Rattle.std.specs.List.{list_any}
 use Rattle.std.specs.Ordering.{eq_by_cmp}
-use Rattle.std.specs.Cmp.{Equal-is}
 use Rattle.std.proofs.lemmas.Bool.Decides.{nat_tests}
 use Rattle.std.proofs.lemmas.Cmp.{nat_list_cmp_total, eq_by_cmp_equiv}
 use Rattle.std.proofs.lemmas.List.Elements.{All-nil, All-cons}
@@ -12,13 +11,10 @@ use Rattle.std.proofs.lemmas.List.Folds.{list_any-append}
 use Rattle.std.proofs.lemmas.List.Sums.{sum_by-append}
 use Rattle.object_layout.specs.declared.TheConstants.{WORD_LIMIT}
 use Rattle.yak_model.specs.Texts.{WordCounts, places_of, word_cmp, word_counts}
+use Rattle.heap_tables.proofs.Walked.{same_by_test}
 use Rattle.group_jobs.specs.Counts.{has_word}
 use Rattle.group_jobs.specs.LongWords.{is_long}
 use Rattle.group_jobs.proofs.Sorting.{same_word}
-
--- Two words that the test of equality takes for one are one.
-pub same_by_test : (word other : List ℕ) → eq_by_cmp word_cmp word other ≡ true → word ≡ other
-same_by_test word other tie = same_word word other ((Equal-is (word_cmp word other)).0 tie)
 
 find-map : (g : List ℕ → ℕ) (words : List (List ℕ)) (word : List ℕ) → find word_cmp word (map (λ w. (w, g w)) words) ≡ cond (has_word words word) (Some (g word)) None
 find-map g [] word = refl

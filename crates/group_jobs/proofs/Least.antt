@@ -32,7 +32,7 @@ use Rattle.yak_model.proofs.Lists.{contains_cases, contains_cons}
 use Rattle.heap_core.proofs.RoomsNames.{entry-found, found-key, keys_of, present-paged}
 use Rattle.heap_core.proofs.RoomsSums.{Distinct, contains_first, sum-inside, sum-mapped, sum-same}
 use Rattle.heap_core.proofs.Weights.{weight, words_in_all}
-use Rattle.heap_tables.proofs.Counted.{bucket_small}
+use Rattle.heap_tables.proofs.RaisedCounts.{bucket_small}
 use Rattle.heap_tables.proofs.Entries.{key_no_entry, same_entry, same_fields, same_key}
 use Rattle.group_jobs.specs.Alone.{HoldsCounts, HoldsTotal, root_object}
 use Rattle.group_jobs.specs.Tallies.{IsAside}

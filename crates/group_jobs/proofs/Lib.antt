@@ -32,9 +32,7 @@ pub mod Rooms
 pub mod Progress
 pub mod Passing
 pub mod Merging
-pub mod Listed
 pub mod SameTasks
-pub mod Walked
 pub mod Holding
 pub mod ReachedTables
 pub mod Nothing
@@ -44,3 +42,4 @@ pub mod LeastShared
 pub mod CountedShared
 pub mod Aside
 pub mod RootKnown
+pub mod OneWord

@@ -3,7 +3,7 @@ use Rattle.std.proofs.Common.{◌≡◌, List, [], ◌∷◌, length, refl, sym,
 use Rattle.std.specs.declared.cmp.Ordering.{Ordering}
 use Rattle.std.specs.FinMap.{empty, entries, get-empty, len-empty, len-entries}
 use Rattle.yak_model.specs.Texts.{word_cmp, word_counts}
-use Rattle.group_jobs.specs.Counts.{AreEntries}
+use Rattle.heap_tables.specs.Entries.{AreEntries}
 
 nothing_in : {A : Type 0} (xs : List A) → length xs ≡ 0 → xs ≡ []
 nothing_in [] h = refl

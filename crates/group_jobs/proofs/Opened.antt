@@ -13,7 +13,7 @@ use Rattle.yak_model.specs.Texts.{WordCounts, word_cmp, word_counts}
 use Rattle.yak_model.proofs.Names.{get-other}
 use Rattle.heap_tables.specs.Adds.{AreAfter, IsNoEntry, IsNowhere}
 use Rattle.heap_tables.specs.Runs.{next_of, with_made, with_new}
-use Rattle.heap_tables.proofs.Counted.{grown_counts}
+use Rattle.heap_tables.proofs.RaisedCounts.{grown_counts}
 use Rattle.heap_tables.proofs.Effects.{in_bounds, slot_push}
 use Rattle.heap_tables.proofs.Linked.{insert_grows, made_below, other_name}
 use Rattle.group_jobs.specs.Tallies.{AreApart, KeepsAside, KnowsTallies, KnowsTally, Tally}

@@ -1,5 +1,5 @@
 -- Tasks of a text that were counted, and the next one.
-use Rattle.std.proofs.Common.{zero, suc, ◌≡◌, ℕ, ◌+◌, ◌*◌, ◌≤◌, ◌<◌, ◌||◌, Bool, true, false, cond, List, [], ◌∷◌, ◌++◌, length, get_or, take, drop, refl, ◌∙◌, ap, sym, subst, arith, length-append}
+use Rattle.std.proofs.Common.{zero, suc, ◌≡◌, ◌≢◌, ℕ, ◌+◌, ◌*◌, ◌≤◌, ◌<◌, ◌||◌, Bool, true, false, cond, List, [], ◌∷◌, ◌++◌, length, get_or, take, drop, refl, ◌∙◌, ap, sym, subst, arith, length-append}
 use Rattle.std.proofs.lemmas.List.{append_assoc, append-nil}
 use Rattle.std.proofs.lemmas.List.Sums.{sum_by-append, sum_by-cons}
 use Rattle.object_layout.specs.declared.TheConstants.{WORD_LIMIT}
@@ -77,6 +77,15 @@ words_size bytes tasks i d h =
       length-append (words_in bytes (take i tasks)) (words_of (task_bytes bytes (get_or tasks i d)) ++ words_in bytes (drop (suc i) tasks)),
       length-append (words_of (task_bytes bytes (get_or tasks i d))) (words_in bytes (drop (suc i) tasks)),
     )
+
+no_longer : (part all : List (List ℕ)) → part ≢ [] → length part ≤ length all → all ≢ []
+no_longer [] all some h none = some refl
+no_longer (word ∷ part) all some h none = let size = ap length none in omega (arith, h, size)
+
+-- where a task has a word, the tasks have one
+pub words_some : (bytes : List ℕ) (tasks : List Task) (i : ℕ) (d : Task) → i < length tasks → words_of (task_bytes bytes (get_or tasks i d)) ≢ [] → words_in bytes tasks ≢ []
+words_some bytes tasks i d h some =
+    let size = words_size bytes tasks i d h in no_longer (words_of (task_bytes bytes (get_or tasks i d))) (words_in bytes tasks) some (omega (arith, size))
 
 pub words_short : (bytes : List ℕ) (tasks : List Task) (i : ℕ) (d : Task) → i < length tasks → AreShort (words_in bytes tasks) → AreShort (words_of (task_bytes bytes (get_or tasks i d)))
 words_short bytes tasks i d h short =

@@ -1,5 +1,5 @@
 -- How far a count has come, where the stack stays.
-use Rattle.std.proofs.Common.{◌≡◌, ℕ, ◌+◌, ◌≤◌, Bool, true, false, cond, List, [], ◌∷◌, length, get_or, refl, ◌∙◌, ap, arith}
+use Rattle.std.proofs.Common.{◌≡◌, ◌≢◌, ℕ, ◌+◌, ◌≤◌, Bool, true, false, cond, List, [], ◌∷◌, length, get_or, refl, ◌∙◌, ap, arith}
 use Rattle.yak_model.specs.declared.datum.Datum.{Datum}
 use Rattle.yak_model.specs.declared.datum.Datum.TheVariants as datum
 use Rattle.yak_model.specs.Private.{KnownObjects}
@@ -18,6 +18,9 @@ progress_same false s now known done e h = (ap length e ∙ h.0, h.1)
 pub not_busy : (words : List (List ℕ)) → is_busy words ≡ false → words ≡ []
 not_busy [] e = refl
 not_busy (word ∷ words) e = cc
+
+pub busy_some : (words : List (List ℕ)) → is_busy words ≡ true → words ≢ []
+busy_some words e none = cc
 
 -- What a task with words takes at most, with the table of the total.
 pub busy_room : (has : Bool) (words : List (List ℕ)) → is_busy words ≡ true → cond has 0 table_words + (table_words + words_room words) ≤ new_total has true + task_room words

@@ -14,7 +14,8 @@ use Rattle.std.proofs.lemmas.List.Edits.{Swapped, swapped_from_swap, length-swap
 use Rattle.std.proofs.lemmas.List.Elements.{All-head, All-tail}
 use Rattle.std.proofs.lemmas.List.Sorted.{IsPermutation-keeps, IsPermutation-map, All-permutation, list_any-IsPermutation, sorted_far, ranks_by}
 use Rattle.yak_model.specs.Texts.{WordCounts, word_cmp}
-use Rattle.group_jobs.specs.Counts.{has_word, AreEntries}
+use Rattle.group_jobs.specs.Counts.{has_word}
+use Rattle.heap_tables.specs.Entries.{AreEntries}
 
 abbrev Pair : Type 0
 Pair = List ℕ × ℕ

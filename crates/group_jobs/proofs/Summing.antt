@@ -8,7 +8,8 @@ use Rattle.std.proofs.lemmas.Cmp.{nat_list_cmp_total, tied_itself}
 use Rattle.std.proofs.lemmas.List.Folds.{list_any-append}
 use Rattle.std.proofs.lemmas.List.Sums.{sum_by-append, sum_by-cons}
 use Rattle.yak_model.specs.Texts.{WordCounts, word_cmp}
-use Rattle.group_jobs.specs.Counts.{AddsLast, AreEntries, AreParts, Ascends, has_count, sum_for}
+use Rattle.group_jobs.specs.Counts.{AddsLast, AreParts, Ascends, has_count, sum_for}
+use Rattle.heap_tables.specs.Entries.{AreEntries}
 use Rattle.group_jobs.proofs.Sorting.{same_word}
 
 abbrev pub Pair : Type 0

@@ -14,14 +14,17 @@ use Rattle.yak_model.specs.Tables.{AreDifferent, AreInBucket, IsChain, IsCountTa
 use Rattle.yak_model.specs.Texts.{WordCounts, places_of, word_cmp, word_counts}
 use Rattle.heap_tables.specs.Adds.{IsNoEntry, IsNowhere, KeepsOthers, StayAfter, StayNowhere}
 use Rattle.heap_tables.specs.Counted.{count_of, or_zero, raised}
+use Rattle.heap_tables.specs.Cursors.{MayWalk}
 use Rattle.heap_tables.specs.Walks.{IsApart}
 use Rattle.heap_tables.proofs.Entries.{key_no_entry}
 use Rattle.heap_tables.proofs.Raised.{table_apart}
 use Rattle.heap_tables.proofs.Places.{word_cases}
+use Rattle.heap_tables.proofs.Walked.{same_by_test}
 use Rattle.group_jobs.specs.Counts.{has_word}
-use Rattle.group_jobs.specs.Tallies.{AreApart, KnowsTallies, Tallies}
+use Rattle.group_jobs.specs.Tallies.{AreApart, KnowsTallies, Tallies, Tally}
+use Rattle.group_jobs.specs.declared.TheConstants.{MOST_WORDS, TOTAL_SLOT}
 use Rattle.group_jobs.proofs.Aside.{no_table, nowhere}
-use Rattle.group_jobs.proofs.Counting.{count-word_counts, get-word_counts, one_place, places_of-append, same_by_test, word_counts-push}
+use Rattle.group_jobs.proofs.Counting.{count-word_counts, get-word_counts, one_place, places_of-append, word_counts-push}
 
 -- ---- counts of words
 
@@ -116,6 +119,14 @@ are_of words known name table b (l ∷ links) homes lacks =
 pub few_in_bucket : (words : List (List ℕ)) (known : KnownObjects) (name : Name) (table : IsCountTable known name (word_counts words)) (b : ℕ) → b < BUCKETS → length (table.buckets b) ≤ length words
 few_in_bucket words known name table b bound =
     few_links words (table.buckets b) ((table.table).distinct b bound) (are_of words known name table b (table.buckets b) ((table.table).homes b bound) (λ v h. h))
+
+-- The table of the total can be walked through.
+pub tally_walk : (s : Standing) (known : KnownObjects) (done : List (List ℕ)) (t : Tally s known done) → length done ≤ MOST_WORDS → MayWalk s known TOTAL_SLOT t.name (word_counts done)
+tally_walk s known done t few = record {
+  slot = t.slot;
+  is_table = t.table;
+  few = λ b h. let n = few_in_bucket done known t.name t.table b h in omega (arith, n, few);
+}
 
 -- ---- what stays of a table
 

@@ -16,7 +16,8 @@ use Rattle.yak_model.specs.Texts.{counts_of, places_of, word_cmp, word_counts, w
 use Rattle.safepoint_gate.specs.declared.gate.Gate.{Gate}
 use Rattle.task_feed.specs.Dealt.{IsAscending, IsDealt}
 use Rattle.task_feed.proofs.Sums.{dealt_within}
-use Rattle.group_jobs.specs.Counts.{AreEntries, AreParts, has_count, sum_for}
+use Rattle.group_jobs.specs.Counts.{AreParts, has_count, sum_for}
+use Rattle.heap_tables.specs.Entries.{AreEntries}
 use Rattle.group_jobs.specs.Dealings.{dealt_words, tasks_at, words_at}
 use Rattle.group_jobs.specs.Workers.{AllCountedBy, AreSmall, HasCounted, HaveCounted, NoneRefused}
 use Rattle.group_jobs.specs.declared.shares.Worker.{Worker}

@@ -23,14 +23,18 @@ use Rattle.yak_model.specs.Room.{table_words}
 use Rattle.safepoint_gate.specs.declared.rule.Own.{Own}
 use Rattle.safepoint_gate.specs.Steps.{first_calls, first_thread}
 use Rattle.mutator.specs.Callers.{first_past, first_told, standing_shared}
+use Rattle.yak_model.specs.declared.TheConstants.{STACK_SLOTS}
+use Rattle.yak_model.specs.Texts.{word_counts}
+use Rattle.heap_tables.specs.declared.TheConstants.{FREE_SLOTS}
+use Rattle.heap_tables.specs.Cursors.{MayWalk}
 use Rattle.heap_tables.specs.Runs.{slot_in}
 use Rattle.heap_tables.specs.Epochs.{GrowsBy}
 use Rattle.group_jobs.specs.Followed.{Follows, IsSettled, KnowsOwn, entry_refused, refused_in}
-use Rattle.group_jobs.specs.Listing.{IsSmallTally}
 use Rattle.group_jobs.specs.Tallies.{IsProgress, new_total}
-use Rattle.group_jobs.specs.declared.TheConstants.{MOST_WORDS, TOTAL_SLOT}
+use Rattle.group_jobs.specs.declared.TheConstants.{MOST_WORDS, PART_SLOT, TOTAL_SLOT}
 use Rattle.group_jobs.specs.Workers.{HasRefused, IsAtRest, exact_most}
 use Rattle.group_jobs.proofs.Depths.{names_in, same_thread}
+use Rattle.group_jobs.proofs.Tallying.{tally_walk}
 use Rattle.group_jobs.proofs.TaskEpochs.{settled_made, told_settled}
 
 -- ---- lists that grew
@@ -138,9 +142,13 @@ if_err r P x e h = subst (λ q. IfErr q P) e h
 
 -- ---- a table that is read
 
-pub small_tally : (own : List Own) (done : List (List ℕ)) (made refusals : ℕ) (last : Option (Census × ℕ × ℕ)) (rest : IsAtRest own true done) → length done ≤ MOST_WORDS → IsSmallTally (standing_shared own made refusals last) rest.known done
-small_tally own done made refusals last rest few =
-    record { tally = record { name = rest.progress.1.name; slot = rest.progress.1.slot; table = rest.progress.1.table }; few = few }
+pub rest_walk : (own : List Own) (done : List (List ℕ)) (made refusals : ℕ) (last : Option (Census × ℕ × ℕ)) (rest : IsAtRest own true done) → length done ≤ MOST_WORDS → MayWalk (standing_shared own made refusals last) rest.known TOTAL_SLOT rest.progress.1.name (word_counts done)
+rest_walk own done made refusals last rest few =
+    tally_walk (standing_shared own made refusals last) rest.known done (record { name = rest.progress.1.name; slot = rest.progress.1.slot; table = rest.progress.1.table }) few
+
+-- the calls on tables find their slots free above it
+pub free_above : (size : ℕ) → size ≡ PART_SLOT → size + FREE_SLOTS ≤ STACK_SLOTS
+free_above size is = omega (arith, is)
 
 -- at rest with the same stack and depth, and what was known
 pub rest_same : (own now : List Own) (has : Bool) (done : List (List ℕ)) → first_told now ≡ first_told own → (rest : IsAtRest own has done) → KnowsOwn now rest.known → IsAtRest now has done

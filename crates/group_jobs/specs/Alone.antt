@@ -55,10 +55,10 @@ pub record HoldsCounts (m : Areas) (c : Contents) (words : List (List ℕ)) : Ty
   pub root : content_at state.graph root_name ≡ Some root_object
   pub total : words ≢ [] → HoldsTotal state words
 
--- Where the heap had no room, no page was free, and its pages are no more than the count may fill.
+-- Where the heap had no room, no page was free, its pages are no more than the count may fill, and the text has a word.
 abbrev pub TellsWhy : Areas → ℕ → List ℕ → CountError (Unit {0}) → Type 0
 TellsWhy m lines bytes (OutOfHeap census heap) =
-    (census.free ≡ 0) × ((tasks : List Task) × AreTasks bytes lines tasks × (page_words m * m.pages ≤ 2 * most_room 1 (busy_tasks bytes tasks) (words_of bytes) + 2 * page_words m))
+    (census.free ≡ 0) × (words_of bytes ≢ []) × ((tasks : List Task) × AreTasks bytes lines tasks × (page_words m * m.pages ≤ 2 * most_room 1 (busy_tasks bytes tasks) (words_of bytes) + 2 * page_words m))
 TellsWhy m lines bytes Memory = Unit {0}
 
 -- what the worker's caller can tell as the heap opens

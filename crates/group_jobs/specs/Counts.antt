@@ -1,5 +1,5 @@
--- Words in lists, and the entries of a table of counts.
-use Rattle.std.specs.Prelude.{◌≡◌, ◌≢◌, ◌⊎◌, ℕ, ◌+◌, ◌<◌, ◌≤◌, Bool, false, cond, List, [], ◌∷◌, ◌++◌, AllPairs, length, slice_index_or, None, Some}
+-- Words in lists, and lists of counts.
+use Rattle.std.specs.Prelude.{◌≡◌, ◌≢◌, ◌⊎◌, ℕ, ◌+◌, ◌<◌, ◌≤◌, Bool, false, cond, List, [], ◌∷◌, ◌++◌, length, slice_index_or, None, Some}
 use Rattle.std.specs.FinMap as finite
 use Rattle.std.specs.List.{list_any, sum_by}
 use Rattle.std.specs.Ordering.{eq_by_cmp, is_lt}
@@ -8,11 +8,6 @@ use Rattle.yak_model.specs.Texts.{WordCounts, word_cmp}
 -- whether a word stands in a list
 abbrev pub has_word : List (List ℕ) → List ℕ → Bool
 has_word words word = list_any (eq_by_cmp word_cmp word) words
-
--- The entries, in some order, tell of each word of a map once, with its count, and of no other word.
-pub record AreEntries (counts : WordCounts) (entries : List (List ℕ × ℕ)) : Type 0 where
-  pub once : AllPairs (λ one other. one.0 ≢ other.0) entries
-  pub found : (word : List ℕ) → finite.find word_cmp word entries ≡ finite.get counts word
 
 -- ---- counts of words that may stand in a list more than once
 

@@ -8,7 +8,6 @@ pub mod Tallies
 pub mod Followed
 pub mod Shared
 pub mod Workers
-pub mod Listing
 pub mod Printing
 pub mod Dealings
 pub mod Alone

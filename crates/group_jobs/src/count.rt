@@ -16,12 +16,12 @@ ghost use Rattle.group_jobs.specs.LongWords.{has_long_word};
 ghost use Rattle.yak_model.specs.Room.{least_room};
 ghost use Rattle.group_jobs.specs.declared.TheConstants.{INPUT_LIMIT};
 
-use crate::counted::{Counted, sort_counts};
-use crate::listing::read_counts;
+use crate::counted::sort_counts;
 use crate::tallies::count_tasks;
 use crate::tasks::{Task, cut_tasks};
-use crate::{INPUT_LIMIT, WORKER};
+use crate::{INPUT_LIMIT, TOTAL_SLOT, WORKER};
 use heap_core::{Core, CoreCaller};
+use heap_tables::{Counted, read_entries};
 use heap_words::{Image, MakeError, Words};
 use object_layout::{Census, NoMemory};
 use std::alloc::Global;
@@ -40,6 +40,14 @@ pub enum CountError<H> {
     /// There was no room for an object: the pages at that call, and the heap.
     OutOfHeap(Census, H),
     Memory,
+}
+
+impl<H> From<NoMemory> for CountError<H> {
+    ghost from_gives = { λ _ e. e ≡ CountError.Memory };
+
+    fn from(_: NoMemory) -> CountError<H> {
+        CountError::Memory
+    }
 }
 
 /// A heap of so many pages in which one worker counts.
@@ -87,7 +95,7 @@ fn list_counts(
     if !has_total {
         return Ok(Vec::new(alloc));
     }
-    let mut list = read_counts(alloc, caller)?;
+    let mut list = read_entries(alloc, caller, TOTAL_SLOT)?;
     sort_counts(&mut list);
     Ok(list)
 }

@@ -3,33 +3,17 @@ ghost use Rattle.std.specs.Prelude.{◌≡◌, ℕ, List, IsPermutation};
 ghost use Rattle.std.specs.declared.cmp.Ordering.{Ordering};
 ghost use Rattle.std.specs.FinMap as finite;
 ghost use Rattle.yak_model.specs.Texts.{WordCounts, counts_of, word_cmp, word_counts};
-ghost use Rattle.group_jobs.specs.Counts.{AreEntries, Ascends};
+ghost use Rattle.group_jobs.specs.Counts.{Ascends};
+ghost use Rattle.heap_tables.specs.Entries.{AreEntries};
 
+use heap_tables::Counted;
 use std::cmp::Ordering;
-use std::marker::Model;
 
-/// How often a word stands in a text.
-#[derive(Drop)]
-pub struct Counted {
-    pub word: Vec<u8>,
-    pub count: u64,
-}
-
-impl Model for Counted {
-    ghost use Rattle.std.specs.Prelude.{ℕ, List};
-
-    ghost Value = { List ℕ × ℕ };
-
-    ghost view = { λ s. (s.word.items, s.count) };
-}
-
-impl Counted {
-    /// The order of the words, by their bytes.
-    pub(crate) fn order(&self, other: &Counted) -> Ordering
-        ensures { result ≡ word_cmp self.now.0 other.now.0 }
-    {
-        self.word.as_slice().cmp(other.word.as_slice())
-    }
+/// The order of the words, by their bytes.
+pub(crate) fn order(one: &Counted, other: &Counted) -> Ordering
+    ensures { result ≡ word_cmp one.now.0 other.now.0 }
+{
+    one.word.as_slice().cmp(other.word.as_slice())
 }
 
 /// Puts counts into ascending order of the words' bytes.
@@ -39,5 +23,5 @@ pub fn sort_counts(list: &mut Vec<Counted>)
     ensures sorted { (counts : WordCounts) → AreEntries counts list.old.items → list.new.items ≡ finite.entries counts }
     ensures counts { (words : List (List ℕ)) → AreEntries (word_counts words) list.old.items → list.new.items ≡ counts_of words }
 {
-    list.sort_unstable_by(|one, other| one.order(other));
+    list.sort_unstable_by(|one, other| order(one, other));
 }

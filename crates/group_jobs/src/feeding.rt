@@ -12,9 +12,9 @@ ghost use Rattle.group_jobs.specs.declared.tasks.Task.{Task};
 ghost use Rattle.group_jobs.specs.declared.TheConstants.{INPUT_LIMIT};
 
 use crate::count::CountError;
-use crate::counted::Counted;
 use crate::many::{Counts, Opened, close_team, open_team, sum_up};
 use crate::pairs::feed_team;
+use heap_tables::Counted;
 use safepoint_gate::Finished;
 use std::alloc::Global;
 use std::sync::Wait;

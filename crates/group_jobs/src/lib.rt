@@ -7,7 +7,6 @@ mod dealers;
 mod feeding;
 mod followed;
 mod laws;
-mod listing;
 mod long_words;
 mod many;
 mod pairs;
@@ -21,8 +20,9 @@ mod tests;
 mod words;
 
 pub use count::{CountError, CountedAlone, count_one};
-pub use counted::{Counted, sort_counts};
+pub use counted::sort_counts;
 pub use feeding::{Fed, count_fed};
+pub use heap_tables::Counted;
 pub use laws::{
     law_dealt_counts, law_dealt_room, law_dealt_tasks, law_dealt_words, law_one_cut, law_row_more,
     law_row_words,

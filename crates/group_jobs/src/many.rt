@@ -14,10 +14,11 @@ ghost use Rattle.group_jobs.specs.Workers.{AllCounted, AllReady, AreSeats, HasCo
 ghost use Rattle.group_jobs.specs.declared.TheConstants.{INPUT_LIMIT};
 
 use crate::count::CountError;
-use crate::counted::{Counted, sort_counts};
+use crate::counted::sort_counts;
 use crate::shares::Worker;
 use crate::sums::{add_up, append_counts};
 use crate::tasks::{Task, cut_tasks};
+use heap_tables::Counted;
 use heap_words::MakeError;
 use mutator::{Heap, Resting, finish};
 use object_layout::{Census, NoMemory};

@@ -3,7 +3,7 @@ ghost use Rattle.std.specs.Prelude.{◌≡◌, ◌++◌, IfOk, OnOk};
 ghost use Rattle.std.specs.List.{flat_map};
 ghost use Rattle.group_jobs.specs.Printing.{count_line};
 
-use crate::counted::Counted;
+use heap_tables::Counted;
 use object_layout::NoMemory;
 use std::alloc::{AllocError, Global};
 

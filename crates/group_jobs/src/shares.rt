@@ -6,7 +6,7 @@ ghost use Rattle.safepoint_gate.specs.Seats.{IsOf};
 ghost use Rattle.safepoint_gate.specs.Steps.{first_calls};
 ghost use Rattle.yak_model.specs.Room.{table_words};
 ghost use Rattle.yak_model.specs.Texts.{word_counts, words_of};
-ghost use Rattle.group_jobs.specs.Counts.{AreEntries};
+ghost use Rattle.heap_tables.specs.Entries.{AreEntries};
 ghost use Rattle.group_jobs.specs.Dealings.{tasks_at};
 ghost use Rattle.group_jobs.specs.Followed.{Follows, IsSettled, made_in, refused_in};
 ghost use Rattle.group_jobs.specs.Shared.{share};
@@ -15,12 +15,12 @@ ghost use Rattle.group_jobs.specs.Workers.{AreSmall, CountsTask, HaltsTask, HasC
 ghost use Rattle.group_jobs.specs.declared.tasks.Task.{Task};
 ghost use Rattle.group_jobs.specs.declared.TheConstants.{MOST_WORDS, OBJECTS_FOR_WORD};
 
-use crate::counted::Counted;
+use crate::TOTAL_SLOT;
 use crate::dealers::{Dealing, FixedShare};
 use crate::followed::{Followed, Past};
-use crate::listing::read_counts;
 use crate::tallies::count_task;
 use crate::tasks::Task;
+use heap_tables::{Counted, read_entries};
 use mutator::{Heap, Resting};
 use object_layout::{Census, NoMemory};
 use std::alloc::Global;
@@ -119,7 +119,7 @@ fn read_followed<R: Wait, P: Past>(
 {
     let mutator = resting.enter(rt, heap);
     let mut caller: Followed<R, P> = Followed::of(mutator.as_caller(rt, heap));
-    let list = read_counts(alloc, &mut caller);
+    let list = read_entries(alloc, &mut caller, TOTAL_SLOT);
     (caller.into_caller().into_mutator().rest(heap), list)
 }
 

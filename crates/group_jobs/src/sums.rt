@@ -2,9 +2,11 @@
 ghost use Rattle.std.specs.Prelude.{◌≡◌, ◌+◌, ◌≤◌, ◌++◌, ◌∷◌, [], ℕ, List, IfOk, OnOk};
 ghost use Rattle.object_layout.specs.declared.TheConstants.{MAX_INT};
 ghost use Rattle.yak_model.specs.Texts.{WordCounts};
-ghost use Rattle.group_jobs.specs.Counts.{AddsLast, AreEntries, AreParts, Ascends, sum_for};
+ghost use Rattle.group_jobs.specs.Counts.{AddsLast, AreParts, Ascends, sum_for};
+ghost use Rattle.heap_tables.specs.Entries.{AreEntries};
 
-use crate::counted::Counted;
+use crate::counted::order;
+use heap_tables::Counted;
 use object_layout::NoMemory;
 use std::alloc::Global;
 
@@ -31,7 +33,7 @@ fn add_count(sums: &mut Vec<Counted>, counted: Counted) -> Result<(), NoMemory>
     ensures { OnOk result (AddsLast counted sums.old.items sums.new.items) }
 {
     let size = sums.len();
-    if size > 0 && sums[size - 1].order(&counted).is_eq() {
+    if size > 0 && order(&sums[size - 1], &counted).is_eq() {
         sums[size - 1].count += counted.count;
         return Ok(());
     }

@@ -1,5 +1,5 @@
 //! Counting the words of texts in tables of a heap, by whatever caller.
-ghost use Rattle.std.specs.Prelude.{◌≡◌, ℕ, ◌+◌, ◌*◌, ◌-◌, ◌≤◌, ◌<◌, ◌∷◌, ◌++◌, [], List, true, false, cond, ◌||◌, length, OnErr, OnOk, IfOk};
+ghost use Rattle.std.specs.Prelude.{◌≡◌, ◌≢◌, ℕ, ◌+◌, ◌*◌, ◌-◌, ◌≤◌, ◌<◌, ◌∷◌, ◌++◌, [], List, true, false, cond, ◌||◌, length, OnErr, OnOk, IfOk};
 ghost use Rattle.std.specs.List.{All};
 ghost use Rattle.object_layout.specs.declared.names.Name.{Name};
 ghost use Rattle.object_layout.specs.declared.TheConstants.{WORD_LIMIT};
@@ -187,6 +187,7 @@ pub(crate) fn count_task<C: Caller>(
     ensures epoch { OnOk result (CountsEpoch C.standing C.knows caller.old caller.new (words_of bytes.now)) }
     ensures halted { OnErr result (GrowsBy (IsHalted (C.standing caller.old).thread) (C.standing caller.old).list (C.standing caller.new).list) }
     ensures out { OnErr result (WentOut C.base C.tells C.tells_known C.standing caller.old caller.new 1 (new_total has_total true + task_room (words_of bytes.now))) }
+    ensures busy { OnErr result (words_of bytes.now ≢ []) }
 {
     if !has_words(bytes) {
         pass_epoch(caller);
@@ -216,6 +217,7 @@ pub(crate) fn count_tasks<C: Caller>(
     ensures epochs { OnOk result (GrowsBy (MakesEpochs (C.standing caller.old).thread (length tasks.now)) (C.standing caller.old).list (C.standing caller.new).list) }
     ensures halted { OnErr result (GrowsBy (HaltsWithin (C.standing caller.old).thread (length tasks.now)) (C.standing caller.old).list (C.standing caller.new).list) }
     ensures out { OnErr result (WentOut C.base C.tells C.tells_known C.standing caller.old caller.new 1 (table_words + tasks_room bytes.now tasks.now)) }
+    ensures busy { OnErr result (words_in bytes.now tasks.now ≢ []) }
 {
     let mut has_total = false;
     'tasks: for task in tasks {

@@ -11,9 +11,9 @@ use crate::{
     CountError, Counted, INPUT_LIMIT, TOTAL_SLOT, Words, count_fed, count_many, count_one,
     cut_tasks, long_word, print_counts, sort_counts,
 };
-use heap_tables::{Cursor, Entry, add, count_of, make, next_entry};
+use heap_tables::{AddError, Cursor, Entry, add, add_checked, count_of, make, next_entry};
 use heap_words::{MAX_PAGES, MAX_THREADS};
-use object_layout::{NoMemory, OutOfHeap, WORD_LIMIT};
+use object_layout::{MAX_INT, NoMemory, OutOfHeap, WORD_LIMIT};
 use std::alloc::Global;
 use std::sync::Wait;
 use std::sync::atomic::{AtomicU64, Ordering};
@@ -184,6 +184,38 @@ fn walks_through_a_table(rt: HostRuntime) -> Result<(), Fail> {
     let Ok(None) = walk_on(alloc, &mut caller, entry.next) else {
         panic!(rt; "no end");
     };
+    Ok(())
+}
+
+/// Makes a table, adds the greatest integer to the count of a word, and then 1. It gives the answer to that and the count.
+fn add_past_limit<C: Caller>(
+    caller: &mut C,
+    word: &[u8],
+) -> Result<(Result<(), AddError>, Option<u64>), AddError>
+    requires some { KnowsSome (C.knows caller.old) }
+    requires word { length word.now ≤ WORD_LIMIT }
+    requires slots { length (stack_in (C.standing caller.old)) ≡ TOTAL_SLOT }
+    requires names { (C.standing caller.old).own.made ≡ 0 }
+{
+    make(caller)?;
+    add_checked(caller, TOTAL_SLOT, word, MAX_INT)?;
+    let more = add_checked(caller, TOTAL_SLOT, word, 1);
+    let count = count_of(caller, TOTAL_SLOT, word);
+    Ok((more, count))
+}
+
+#[test]
+fn a_sum_that_is_too_large_is_not_added(rt: HostRuntime) -> Result<(), Fail> {
+    let Ok(mut caller) = open_heap(rt.alloc(), 8) else {
+        panic!(rt; "no heap");
+    };
+    match add_past_limit(&mut caller, b"a") {
+        Ok((more, count)) => {
+            assert_eq!(rt; more, Err(AddError::TooLarge));
+            assert_eq!(rt; count, Some(MAX_INT));
+        }
+        Err(_) => panic!(rt; "no room"),
+    }
     Ok(())
 }
 

@@ -7,9 +7,13 @@ use Rattle.std.proofs.lemmas.List.Elements.{All-nil, All-cons, All-head, All-tai
 use Rattle.object_layout.specs.declared.names.Name.{Name}
 use Rattle.yak_model.specs.declared.TheConstants.{BUCKETS}
 use Rattle.yak_model.specs.Private.{KnownObjects}
+use Rattle.yak_model.specs.Standing.{Standing}
 use Rattle.yak_model.specs.Tables.{AreDifferent, AreInBucket, IsCountTable, LacksWord, Link}
 use Rattle.yak_model.specs.Texts.{WordCounts, word_cmp}
+use Rattle.heap_tables.specs.Cursors.{MayWalk}
 use Rattle.heap_tables.proofs.Places.{word_cases}
+use Rattle.sums_by_key.specs.declared.TheConstants.{MOST_LINES, TABLE_SLOT}
+use Rattle.sums_by_key.specs.Held.{Holds}
 use Rattle.sums_by_key.specs.declared.lines.Line.{Line}
 use Rattle.sums_by_key.specs.Sums.{AreSums, is_of, sum_of}
 use Rattle.sums_by_key.proofs.Adding.{same_key}
@@ -101,3 +105,11 @@ few_in_bucket lines sums are known name table b bound =
     let few = few_links (keys_of lines) (table.buckets b) ((table.table).distinct b bound) (are_of lines sums are known name table b (table.buckets b) ((table.table).homes b bound) (λ v h. h)) in
     let size : length (map (λ (line : Line). line.key.now) lines) ≡ length lines = length-map lines (λ (line : Line). line.key.now) in
     omega (arith, few, size)
+
+-- The table of the sums can be walked through.
+pub held_walk : (s : Standing) (known : KnownObjects) (lines : List Line) (t : Holds s known lines) → length lines ≤ MOST_LINES → MayWalk s known TABLE_SLOT t.name t.sums
+held_walk s known lines t few = record {
+  slot = t.slot;
+  is_table = t.table;
+  few = λ b h. let n = few_in_bucket lines t.sums t.are_sums known t.name t.table b h in omega (arith, n, few);
+}

@@ -33,11 +33,6 @@ pub record AreSummable (lines : List Line) : Type 0 where
   pub short : All (λ line. length line.key.now ≤ WORD_LIMIT) lines
   pub small : total_of lines ≤ MAX_INT
 
--- And these lines are few.
-pub record HoldsFew (s : Standing) (known : KnownObjects) (lines : List Line) : Type 0 where
-  pub held : Holds s known lines
-  pub few : length lines ≤ MOST_LINES
-
 -- what a thread has whose stack refers to the root alone
 abbrev pub opening_own : Thread
 opening_own = record { stack = datum.Object root_name ∷ []; depth = 0; made = 0 }

@@ -9,7 +9,6 @@ ghost use Rattle.heap_words.specs.Map.{IsAreas};
 ghost use Rattle.sums_by_key.specs.Printed.{PrintsSums};
 
 mod lines;
-mod listing;
 mod sums;
 mod tables;
 

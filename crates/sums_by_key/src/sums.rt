@@ -4,12 +4,12 @@ ghost use Rattle.heap_words.specs.Map.{IsAreas};
 ghost use Rattle.heap_tables.specs.Runs.{KnowsSome};
 ghost use Rattle.sums_by_key.specs.Held.{AreListed, AreSummable, HoldsSums, Opened, opening_own};
 
+use crate::TABLE_SLOT;
 use crate::lines::Line;
-use crate::listing::read_sums;
 use crate::tables::add_all;
-use group_jobs::{Counted, sort_counts};
+use group_jobs::sort_counts;
 use heap_core::{Core, CoreCaller};
-use heap_tables::make;
+use heap_tables::{Counted, make, read_entries};
 use heap_words::{Image, MakeError};
 use object_layout::{NoMemory, OutOfHeap};
 use std::alloc::Global;
@@ -59,7 +59,7 @@ fn sum_with<C: Caller>(
 {
     open_table(caller)?;
     add_all(caller, lines)?;
-    let mut list = read_sums(alloc, caller)?;
+    let mut list = read_entries(alloc, caller, TABLE_SLOT)?;
     sort_counts(&mut list);
     Ok(list)
 }

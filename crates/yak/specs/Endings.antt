@@ -1,5 +1,5 @@
 -- How a run of the program ends: its status, what the status says of the words and of the input, and what is written.
-use Rattle.std.specs.Prelude.{◌≡◌, ◌+◌, ◌*◌, ◌<◌, ◌≤◌, ◌⊎◌, ℕ, true, false, List, [], ◌++◌, length, codes, decimal, Option, Some, IfSome}
+use Rattle.std.specs.Prelude.{◌≡◌, ◌≢◌, ◌+◌, ◌*◌, ◌<◌, ◌≤◌, ◌⊎◌, ℕ, true, false, List, [], ◌++◌, length, codes, decimal, Option, Some, IfSome}
 use Rattle.std.specs.List.{flat_map}
 use Rattle.std.specs.Io.KnownBytes.{Appends}
 use Rattle.yak_io.specs.Causes.{Rose}
@@ -89,9 +89,10 @@ pub record Counts (options : Options) (bytes text : List ℕ) (held : Held) : Ty
   pub room : least_room (words_of bytes) ≤ page_words (record { pages = options.pages; threads = 1 }) * options.pages
 
 -- The words of the bytes, none of them too long, found no room in a heap of the command's pages, which are no more than the count of
--- its tasks may fill.
+-- its tasks may fill. There is a word.
 pub record RunsOut (options : Options) (bytes : List ℕ) : Type 0 where
   pub short : has_long_word bytes ≡ false
+  pub some : words_of bytes ≢ []
   pub tasks : List Task
   pub cut : AreTasks bytes options.task tasks
   pub room : page_words (record { pages = options.pages; threads = 1 }) * options.pages

@@ -1,4 +1,4 @@
-use Rattle.std.proofs.Common.{◌≡◌, ℕ, ◌*◌, ◌≤◌, List, [], length, get_or, replicate, refl, ◌∙◌, ap, sym, subst, arith, Bool}
+use Rattle.std.proofs.Common.{rules, ◌≡◌, ◌≢◌, ℕ, ◌+◌, ◌*◌, ◌≤◌, List, [], length, get_or, replicate, refl, ◌∙◌, ap, sym, subst, arith, Bool}
 use Rattle.std.specs.FinMap.{empty}
 use Rattle.yak_model.specs.declared.TheConstants.{ROOT_FIELDS}
 use Rattle.yak_model.specs.declared.datum.Datum.TheVariants as datum
@@ -7,8 +7,10 @@ use Rattle.yak_model.proofs.Names.{get-same}
 use Rattle.yak_model.specs.Graph.{Thread}
 use Rattle.yak_model.specs.Standing.{Standing}
 use Rattle.yak_model.specs.Texts.{words_of}
-use Rattle.group_jobs.specs.Alone.{IsListed, opening_known, root_object}
-use Rattle.group_jobs.specs.Tallies.{AreShort, IsProgress, words_in}
+use Rattle.group_jobs.specs.Alone.{IsListed, TellsWhy, opening_known, root_object}
+use Rattle.group_jobs.specs.Tallies.{AreShort, IsProgress, busy_tasks, words_in}
+use Rattle.group_jobs.specs.declared.count.CountError.{CountError}
+use Rattle.group_jobs.specs.declared.count.CountError.TheVariants.{Memory, OutOfHeap}
 use Rattle.group_jobs.specs.Tasks.{AreTasks}
 use Rattle.group_jobs.specs.declared.TheConstants.{INPUT_LIMIT, MOST_WORDS}
 use Rattle.group_jobs.specs.declared.tasks.Task.{Task}
@@ -17,7 +19,7 @@ use Rattle.yak_model.specs.Private.{KnownObjects}
 use Rattle.group_jobs.proofs.Progress.{progress_same}
 use Rattle.group_jobs.proofs.Starting.{few_words, tasks_within}
 use Rattle.group_jobs.proofs.Least.{room_held, root_aside}
-use Rattle.yak_model.specs.Room.{least_room}
+use Rattle.yak_model.specs.Room.{least_room, most_room}
 use Rattle.heap_words.specs.declared.map.Areas.{Areas}
 use Rattle.heap_words.specs.Map.{page_words}
 use Rattle.group_jobs.proofs.count.count_one.Goals as goal
@@ -75,3 +77,19 @@ pub returns-clause-room : goal.returns-clause-room
 returns-clause-room c =
     let map : c.close_heap-core.result.map ≡ record { pages = c.args.pages; threads = 1 } = c.close_heap-core.ensures.map ∙ ap (λ (b : Areas × Areas × ℕ). b.0) (c.list_counts.ensures.base ∙ c.in-Ok-count_tasks.ensures.went.stays.0) ∙ c.in-Ok-open_heap.ensures.map in
     subst (λ (m : Areas). least_room (words_of c.args.bytes.now) ≤ page_words m * m.pages) map (room_held _ _ (words_of c.args.bytes.now) (returns-clause-heap c))
+
+-- what is told of the pages where the heap had no room
+abbrev TellsPages : Areas → ℕ → List ℕ → CountError (Unit {0}) → Type 0
+TellsPages m lines bytes (OutOfHeap census heap) =
+    (census.free ≡ 0) × ((tasks : List Task) × AreTasks bytes lines tasks × (page_words m * m.pages ≤ 2 * most_room 1 (busy_tasks bytes tasks) (words_of bytes) + 2 * page_words m))
+TellsPages m lines bytes Memory = Unit {0}
+
+with_word : (m : Areas) (lines : ℕ) (bytes : List ℕ) (error : CountError (Unit {0})) → words_of bytes ≢ [] → TellsPages m lines bytes error → TellsWhy m lines bytes error
+with_word m lines bytes (OutOfHeap census heap) some told = (told.0, some, told.1)
+with_word m lines bytes Memory some told = tt
+
+pub returns-in_default-count_tasks-clause-why : goal.returns-in_default-count_tasks-clause-why
+returns-in_default-count_tasks-clause-why c =
+    with_word (record { pages = c.args.pages; threads = 1 }) c.args.lines c.args.bytes.now c.why_refused.result
+    (λ none. c.in_default-count_tasks.ensures.busy (ap (words_in c.args.bytes.now) c.deref.ensures.value ∙ c.in-Ok.ensures.words ∙ none))
+    (search rules)

@@ -9,7 +9,7 @@ use Rattle.heap_tables.specs.Epochs.{GrowsBy}
 use Rattle.group_jobs.specs.Epochs.{IsOneEpoch}
 use Rattle.group_jobs.proofs.Grown.{grows_none, halted_within, within_halted}
 use Rattle.group_jobs.proofs.Joined.{went_out, went_then}
-use Rattle.group_jobs.proofs.Progress.{busy_room, not_busy, progress_same}
+use Rattle.group_jobs.proofs.Progress.{busy_room, busy_some, not_busy, progress_same}
 use Rattle.group_jobs.proofs.Rooms.{err_of}
 use Rattle.group_jobs.proofs.tallies.count_task.Goals as goal
 
@@ -86,3 +86,9 @@ returns-clause-epoch g c =
           let t = c.in_ok-count_epoch.ensures.counted r.0 h.1 r.1 r.2 h.4 in
           (t.0, t.1, t.4);
     }
+
+pub returns-in_err-open_total-clause-busy : goal.returns-in_err-open_total-clause-busy
+returns-in_err-open_total-clause-busy g c = err_of c.from_residual.result _ (busy_some (words_of c.args.bytes.now) (sym (c.if-not-has_words.ensures)))
+
+pub returns-in_err-count_epoch-clause-busy : goal.returns-in_err-count_epoch-clause-busy
+returns-in_err-count_epoch-clause-busy g c = err_of c.from_residual-in_err-count_epoch.result _ (busy_some (words_of c.args.bytes.now) (sym (c.if-not-has_words.ensures)))

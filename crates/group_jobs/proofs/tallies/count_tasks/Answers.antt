@@ -9,7 +9,7 @@ use Rattle.heap_tables.specs.Epochs.{GrowsBy}
 use Rattle.group_jobs.specs.Epochs.{IsHalted, IsOneEpoch, MakesEpochs}
 use Rattle.group_jobs.proofs.Grown.{made_halted, made_next, none_made}
 use Rattle.group_jobs.proofs.Joined.{went_most, went_none, went_out, went_then}
-use Rattle.group_jobs.proofs.Passing.{busy_next, room_next, room_within, total_most, total_next, total_out, whole, words_next, words_short, words_size}
+use Rattle.group_jobs.proofs.Passing.{busy_next, room_next, room_within, total_most, total_next, total_out, whole, words_next, words_short, words_size, words_some}
 use Rattle.group_jobs.proofs.Rooms.{err_of}
 use Rattle.group_jobs.proofs.tallies.count_tasks.Goals as goal
 
@@ -115,3 +115,6 @@ returns-in_err-has_total-clause-halted g c =
     err_of c.from_residual.result _
     (made_halted s.thread c.tasks.task-index (length c.args.tasks.now) c.tasks-test.true s.list (C.standing c.tasks.caller).list (C.standing c.count_task.new.caller).list inv.epochs
     (subst (λ t. GrowsBy (IsHalted t) (C.standing c.tasks.caller).list (C.standing c.count_task.new.caller).list) inv.went.makes.thread c.in_err-has_total.ensures.halted))
+
+pub returns-in_err-has_total-clause-busy : goal.returns-in_err-has_total-clause-busy
+returns-in_err-has_total-clause-busy g c = err_of c.from_residual.result _ (words_some c.args.bytes.now c.args.tasks.now c.tasks.task-index none c.tasks-test.true c.in_err-has_total.ensures.busy)

@@ -5,7 +5,7 @@ use Rattle.yak_model.specs.Tables.{bucket_of}
 use Rattle.yak_model.specs.declared.datum.Datum.{Datum}
 use Rattle.yak_model.specs.declared.datum.Datum.TheVariants as datum
 use Rattle.heap_tables.specs.Counted.{MayCount}
-use Rattle.heap_tables.proofs.Counted.{bucket_small}
+use Rattle.heap_tables.proofs.RaisedCounts.{bucket_small}
 use Rattle.heap_tables.proofs.OnResult.{either, err_map, ok_both, ok_map}
 use Rattle.yak_model.specs.Texts.{word_counts}
 use Rattle.object_layout.specs.declared.names.Name.{Name}

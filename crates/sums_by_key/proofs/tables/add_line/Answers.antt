@@ -5,7 +5,7 @@ use Rattle.yak_model.specs.Tables.{bucket_of}
 use Rattle.yak_model.specs.declared.datum.Datum.{Datum}
 use Rattle.yak_model.specs.declared.datum.Datum.TheVariants as datum
 use Rattle.heap_tables.specs.Counted.{MayCount}
-use Rattle.heap_tables.proofs.Counted.{bucket_small}
+use Rattle.heap_tables.proofs.RaisedCounts.{bucket_small}
 use Rattle.heap_tables.proofs.OnResult.{ok_map}
 use Rattle.sums_by_key.specs.Held.{AreSummable, Holds}
 use Rattle.sums_by_key.specs.declared.lines.Line.{Line}

@@ -6,7 +6,7 @@ use Rattle.group_jobs.specs.Followed.{made_in}
 use Rattle.group_jobs.specs.Tallies.{tasks_room, words_in}
 use Rattle.group_jobs.specs.Workers.{own_of}
 use Rattle.yak_model.specs.Texts.{word_counts}
-use Rattle.group_jobs.specs.Counts.{AreEntries}
+use Rattle.heap_tables.specs.Entries.{AreEntries}
 use Rattle.group_jobs.proofs.Nothing.{nothing_counted}
 use Rattle.group_jobs.proofs.Progress.{not_busy}
 use Rattle.group_jobs.proofs.Sharing.{exact_all, read_counted}
