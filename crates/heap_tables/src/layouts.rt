@@ -143,6 +143,26 @@ pub(crate) fn find_on_stack<C: Caller>(
     (None, most)
 }
 
+/// Lays out further entries of a chain without a look at them, so many in all at most. Gives how many are laid out then, fewer only
+/// at the end of the chain.
+pub(crate) fn lay_on<C: Caller>(caller: &mut C, at: u32, laid: u32, most: u32) -> u32
+    requires laid { HasLaid (C.standing caller.old) (C.knows caller.old) at laid }
+    requires top { length (stack_in (C.standing caller.old)) ≡ at + laid + 1 }
+    requires few { laid ≤ most }
+    requires room { at + most < STACK_SLOTS }
+    ensures few { (laid ≤ result) × (result ≤ most) }
+    ensures ran { Ran C.base C.tells C.tells_known C.standing caller.old caller.new 0 }
+    ensures keeps { KeepsKnown (C.knows caller.old) (C.knows caller.new) }
+    ensures laid { (known : KnownObjects) (own : Thread) (links : List Link) → C.knows caller.old known → IsChain known (first_of links) links → IsLaid own links laid (C.standing caller.old).own → length own.stack ≡ at → IsLaid own links result (C.standing caller.new).own × (result < most → length links ≡ result) }
+{
+    for n in laid..most {
+        if !try_load(caller, at + n, 0) {
+            return n;
+        }
+    }
+    most
+}
+
 /// Pushes the word's entry, if there is one in the rest of a chain of the table that the top slot has. The slot `at` has the front
 /// of the chain.
 pub(crate) fn find_beyond<C: Caller>(
