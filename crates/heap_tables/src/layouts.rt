@@ -1,5 +1,5 @@
 //! The first entries of a chain, laid out on the caller's stack.
-ghost use Rattle.std.specs.Prelude.{◌≡◌, ℕ, ◌+◌, ◌<◌, ◌≤◌, List, length, IsTrue, true};
+ghost use Rattle.std.specs.Prelude.{◌≡◌, ℕ, ◌+◌, ◌<◌, ◌≤◌, List, drop, length, IsTrue, true};
 ghost use Rattle.object_layout.specs.declared.names.Name.{Name};
 ghost use Rattle.yak_model.specs.declared.TheConstants.{STACK_SLOTS};
 ghost use Rattle.yak_model.specs.declared.datum.Datum.{Datum};
@@ -10,12 +10,13 @@ ghost use Rattle.heap_tables.specs.declared.TheConstants.{KEPT_SLOTS, KEY_BYTES}
 ghost use Rattle.heap_tables.specs.Asides.{LacksLinks, LacksValue};
 ghost use Rattle.heap_tables.specs.Layouts.{FoundBeyond, HasBeyond, HasEntry, HasLaid, IsAmong, IsBeyond, IsLaid, LaysNext};
 ghost use Rattle.heap_tables.specs.Runs.{KeepsKnown, Ran, slot_in, stack_in};
-ghost use Rattle.heap_tables.specs.Seeks.{first_of};
+ghost use Rattle.heap_tables.specs.Seeks.{IsSkipped, first_of};
 ghost use Rattle.heap_tables.specs.Walks.{HasLinks, IsEntryInSlot};
 
 use crate::KEPT_SLOTS;
 use crate::chains::walk;
 use crate::keys::{first_group, is_key};
+use crate::seek::skip;
 use crate::steps::{load, pop, store, try_load};
 use yak_model::{Caller, STACK_SLOTS};
 
@@ -42,7 +43,7 @@ fn lay_next<C: Caller>(caller: &mut C, groups: &mut [u64], n: u32, at: u32) -> b
 
 /// Whether an entry, of whose word this is noted as the first group, is the word's.
 #[inline(always)]
-fn is_entry_of<C: Caller>(
+pub(crate) fn is_entry_of<C: Caller>(
     caller: &mut C,
     entry: u32,
     noted: u64,
@@ -163,14 +164,29 @@ pub(crate) fn lay_on<C: Caller>(caller: &mut C, at: u32, laid: u32, most: u32) -
     most
 }
 
-/// Pushes the word's entry, if there is one in the rest of a chain of the table that the top slot has. The slot `at` has the front
-/// of the chain.
+/// Puts the place past so many entries of a chain, whose first the top slot has, into the table's bucket.
+fn set_out<C: Caller>(caller: &mut C, table: u32, bucket: u32, further: u32, at: u32, start: u32)
+    requires chain { HasBeyond (C.standing caller.old) (C.knows caller.old) table bucket at start }
+    requires room { length (stack_in (C.standing caller.old)) + 2 < STACK_SLOTS }
+    requires top { length (stack_in (C.standing caller.old)) ≡ start + 1 }
+    ensures ran { Ran C.base C.tells C.tells_known C.standing caller.old caller.new 0 }
+    ensures own { (C.standing caller.new).own ≡ (C.standing caller.old).own }
+    ensures set_out { (known : KnownObjects) (name : Name) (values : List Datum) (links : List Link) → C.knows caller.old known → IsBeyond (C.standing caller.old) known table bucket at start name values links → IsSkipped known name values bucket (drop further links) (C.knows caller.new) }
+    ensures aside { (known : KnownObjects) (name : Name) (values : List Datum) (links : List Link) (other : KnownObjects) → C.knows caller.old known → IsBeyond (C.standing caller.old) known table bucket at start name values links → C.knows caller.old other → LacksValue other (slot_in (C.standing caller.old) table) → LacksLinks other links → C.knows caller.new other }
+{
+    store(caller, table, bucket, start);
+    skip(caller, table, bucket, further, start + 1);
+}
+
+/// Pushes the word's entry, if there is one in the rest of a chain of the table that the top slot has, past so many further entries.
+/// The slot `at` has the front of the chain.
 pub(crate) fn find_beyond<C: Caller>(
     caller: &mut C,
     table: u32,
     bucket: u32,
     word: &[u8],
     first: u64,
+    further: u32,
     at: u32,
     start: u32,
 ) -> bool
@@ -185,7 +201,7 @@ pub(crate) fn find_beyond<C: Caller>(
     ensures known { (known : KnownObjects) (name : Name) (values : List Datum) (links : List Link) → C.knows caller.old known → IsBeyond (C.standing caller.old) known table bucket at start name values links → C.knows caller.new known }
     ensures aside { (known : KnownObjects) (name : Name) (values : List Datum) (links : List Link) (other : KnownObjects) → C.knows caller.old known → IsBeyond (C.standing caller.old) known table bucket at start name values links → C.knows caller.old other → LacksValue other (slot_in (C.standing caller.old) table) → LacksValue other (slot_in (C.standing caller.old) at) → LacksLinks other links → C.knows caller.new other }
 {
-    store(caller, table, bucket, start);
+    set_out(caller, table, bucket, further, at, start);
     let found = walk(caller, table, bucket, word, first, start + 1);
     store(caller, table, bucket, at);
     found

@@ -10,7 +10,7 @@ ghost use Rattle.yak_model.specs.Private.{KnownObjects, IsKnown};
 ghost use Rattle.yak_model.specs.Room.{entry_words};
 ghost use Rattle.yak_model.specs.Tables.{Link};
 ghost use Rattle.yak_model.specs.Texts.{WordCounts};
-ghost use Rattle.heap_tables.specs.declared.TheConstants.{FREE_SLOTS, KEPT_SLOTS, KEY_BYTES, MOST_MADE};
+ghost use Rattle.heap_tables.specs.declared.TheConstants.{FREE_SLOTS, KEPT_SLOTS, KEY_BYTES, MOST_MADE, NOTED};
 ghost use Rattle.heap_tables.specs.Adds.{having_made};
 ghost use Rattle.yak_model.specs.Graph.{Thread};
 ghost use Rattle.heap_tables.specs.Layouts.{AreBelow, GoesLaid, HasGoesLaid, HasNextLaid, MergesLaid};
@@ -19,12 +19,13 @@ ghost use Rattle.heap_tables.specs.Runs.{IsInSlot, KeepsKnown, Ran, RanOut, next
 ghost use Rattle.heap_tables.specs.Walks.{IsEntryInSlot};
 ghost use Rattle.heap_tables.specs.Asides.{LacksChain, LacksTable, LacksValue};
 
-use crate::raising::raise_present;
+use crate::notes::{mark, note, place_of};
+use crate::raising::{raise_at, raise_present};
 use crate::reading::take_entry;
 use crate::seek::seek;
 use crate::steps::{load, pop, pop_all, stack_size};
 use crate::tables::{add_present, link_new};
-use crate::{KEPT_SLOTS, KEY_BYTES};
+use crate::{KEPT_SLOTS, KEY_BYTES, NOTED};
 use object_layout::OutOfHeap;
 use yak_model::{BUCKETS, Caller, STACK_SLOTS};
 
@@ -99,6 +100,7 @@ fn add_entry<C: Caller>(
     place: u32,
     word: &[u8],
     n: u64,
+    notes: &mut [u64],
     top: u32,
 ) -> Result<(), OutOfHeap>
     requires tables { HasNextEntry (C.standing caller.old) (C.knows caller.old) from into bucket place word.now n }
@@ -113,7 +115,9 @@ fn add_entry<C: Caller>(
     if add_present(caller, into, word, n, top) {
         return Ok(());
     }
-    share(caller, from, into, bucket, place, n, top)
+    share(caller, from, into, bucket, place, n, top)?;
+    note(notes, bucket, mark(word));
+    Ok(())
 }
 
 /// Adds the count of the entry at a place of a bucket to another table, and tells whether there is one.
@@ -124,6 +128,7 @@ fn merge_entry<C: Caller>(
     bucket: u32,
     place: u32,
     buffer: &mut [u8],
+    notes: &mut [u64],
     top: u32,
 ) -> Result<bool, OutOfHeap>
     requires tables { HasMerging (C.standing caller.old) (C.knows caller.old) from into bucket place }
@@ -147,6 +152,7 @@ fn merge_entry<C: Caller>(
                 place,
                 &buffer[..size],
                 count,
+                notes,
                 top,
             )?;
             Ok(true)
@@ -166,6 +172,7 @@ fn merge_word<C: Caller>(
     word: &[u8],
     n: u64,
     groups: &mut [u64],
+    notes: &[u64],
     at: u32,
     laid: u32,
     most: u32,
@@ -182,7 +189,13 @@ fn merge_word<C: Caller>(
     ensures ran { Ran C.base C.tells C.tells_known C.standing caller.old caller.new 0 }
     ensures merged { (m : Merge) (is : IsMerge m) (start : ℕ) (own : Thread) (link : Link) (rest : List Link) → AreBelow own from into m → length own.stack ≡ at → GoesLaid m is bucket start place laid own (C.standing caller.old).own (C.knows caller.old) → IsEntryAt m bucket place word.now n link rest → MergesLaid m is bucket start place result.1 result.0 own (C.standing caller.new).own (C.knows caller.new) }
 {
-    raise_present(caller, into, bucket, word, n, groups, at, laid, most)
+    if notes.is_empty() {
+        return raise_present(caller, into, bucket, word, n, groups, at, laid, most);
+    }
+    match place_of(notes, bucket, mark(word)) {
+        Some(noted) => raise_at(caller, into, bucket, word, n, noted, at, laid, most),
+        None => (false, laid),
+    }
 }
 
 /// Adds the count of the entry at a place of a bucket to another table where its word is there, of whose chain entries are laid out.
@@ -195,6 +208,7 @@ fn merge_laid<C: Caller>(
     place: u32,
     buffer: &mut [u8],
     groups: &mut [u64],
+    notes: &[u64],
     at: u32,
     laid: u32,
     most: u32,
@@ -222,6 +236,7 @@ fn merge_laid<C: Caller>(
             &buffer[..size],
             count,
             groups,
+            notes,
             at,
             laid,
             most,
@@ -240,6 +255,7 @@ fn merge_on<C: Caller>(
     place: u32,
     buffer: &mut [u8],
     groups: &mut [u64],
+    notes: &[u64],
     at: u32,
     most: u32,
 ) -> (u32, u32)
@@ -265,6 +281,7 @@ fn merge_on<C: Caller>(
             place + turn,
             buffer,
             groups,
+            notes,
             at,
             laid,
             most,
@@ -294,6 +311,7 @@ fn merge_present<C: Caller>(
     place: u32,
     buffer: &mut [u8],
     groups: &mut [u64],
+    notes: &[u64],
     top: u32,
 ) -> u32
     requires tables { HasMerging (C.standing caller.old) (C.knows caller.old) from into bucket place }
@@ -312,7 +330,9 @@ fn merge_present<C: Caller>(
     }
     load(caller, into, bucket);
     let most = STACK_SLOTS as u32 - KEPT_SLOTS as u32 - 1 - top;
-    let (merged, laid) = merge_on(caller, from, into, bucket, place, buffer, groups, top, most);
+    let (merged, laid) = merge_on(
+        caller, from, into, bucket, place, buffer, groups, notes, top, most,
+    );
     pop_all(caller, laid + 1);
     merged
 }
@@ -325,6 +345,7 @@ fn merge_bucket<C: Caller>(
     bucket: u32,
     buffer: &mut [u8],
     groups: &mut [u64],
+    notes: &mut [u64],
     top: u32,
 ) -> Result<(), OutOfHeap>
     requires tables { HasMerged (C.standing caller.old) (C.knows caller.old) from into bucket }
@@ -341,8 +362,10 @@ fn merge_bucket<C: Caller>(
 {
     let mut place = 0;
     for turn in 0..u32::MAX {
-        place += merge_present(caller, from, into, bucket, place, buffer, groups, top);
-        if !merge_entry(caller, from, into, bucket, place, buffer, top)? {
+        place += merge_present(
+            caller, from, into, bucket, place, buffer, groups, notes, top,
+        );
+        if !merge_entry(caller, from, into, bucket, place, buffer, notes, top)? {
             return Ok(());
         }
         place += 1;
@@ -357,6 +380,7 @@ fn merge_buckets<C: Caller>(
     into: u32,
     buffer: &mut [u8],
     groups: &mut [u64],
+    notes: &mut [u64],
     top: u32,
 ) -> Result<(), OutOfHeap>
     requires tables { HasMerged (C.standing caller.old) (C.knows caller.old) from into 0 }
@@ -369,9 +393,29 @@ fn merge_buckets<C: Caller>(
     ensures stopped { OnErr result ((m : Merge) (is : IsMerge m) → AreSlots (C.standing caller.old) from into m → IsMerged m is [] (C.knows caller.old) → Stops C.base C.tells C.tells_known C.standing m is [] caller.old caller.new (C.knows caller.new)) }
 {
     for bucket in 0..BUCKETS as u32 {
-        merge_bucket(caller, from, into, bucket, buffer, groups, top)?;
+        merge_bucket(caller, from, into, bucket, buffer, groups, notes, top)?;
     }
     Ok(())
+}
+
+/// Adds all counts of one table to another, with notes on the words of the other.
+fn merge_with<C: Caller>(
+    caller: &mut C,
+    from: u32,
+    into: u32,
+    notes: &mut [u64],
+) -> Result<(), OutOfHeap>
+    requires tables { HasTables (C.standing caller.old) (C.knows caller.old) from into }
+    requires names { (C.standing caller.old).own.made ≤ MOST_MADE }
+    requires room { length (stack_in (C.standing caller.old)) + FREE_SLOTS ≤ STACK_SLOTS }
+    ensures merged { OnOk result ((known : KnownObjects) (from_name into_name : Name) (from_counts into_counts : WordCounts) (may : MayMerge (C.standing caller.old) known from into from_name into_name from_counts into_counts) → C.knows caller.old known → IsMergedWhole C.base C.tells C.tells_known C.standing known from_name into_name from_counts into_counts (may.from_table).buckets (may.into_table).buckets caller.old caller.new (C.knows caller.new)) }
+    ensures stopped { OnErr result ((known : KnownObjects) (from_name into_name : Name) (from_counts into_counts : WordCounts) (may : MayMerge (C.standing caller.old) known from into from_name into_name from_counts into_counts) → C.knows caller.old known → IsMergedPart C.base C.tells C.tells_known C.standing known from_name into_name from_counts into_counts (may.from_table).buckets (may.into_table).buckets caller.old caller.new (C.knows caller.new)) }
+    ensures aside { (known : KnownObjects) (from_name into_name : Name) (from_counts into_counts : WordCounts) (may : MayMerge (C.standing caller.old) known from into from_name into_name from_counts into_counts) (other : KnownObjects) → C.knows caller.old known → C.knows caller.old other → LacksTable other from_name (may.from_table).buckets → LacksTable other into_name (may.into_table).buckets → C.knows caller.new other }
+{
+    let top = stack_size(caller);
+    let mut buffer = [0; KEY_BYTES];
+    let mut groups = [0; STACK_SLOTS];
+    merge_buckets(caller, from, into, &mut buffer, &mut groups, notes, top)
 }
 
 /// Adds all counts of one table to another. A new word gets an entry of its own, which shares the key.
@@ -387,8 +431,48 @@ pub fn merge<C: Caller>(caller: &mut C, from: u32, into: u32) -> Result<(), OutO
     ensures stopped { OnErr result ((known : KnownObjects) (from_name into_name : Name) (from_counts into_counts : WordCounts) (may : MayMerge (C.standing caller.old) known from into from_name into_name from_counts into_counts) → C.knows caller.old known → IsMergedPart C.base C.tells C.tells_known C.standing known from_name into_name from_counts into_counts (may.from_table).buckets (may.into_table).buckets caller.old caller.new (C.knows caller.new)) }
     ensures aside { (known : KnownObjects) (from_name into_name : Name) (from_counts into_counts : WordCounts) (may : MayMerge (C.standing caller.old) known from into from_name into_name from_counts into_counts) (other : KnownObjects) → C.knows caller.old known → C.knows caller.old other → LacksTable other from_name (may.from_table).buckets → LacksTable other into_name (may.into_table).buckets → C.knows caller.new other }
 {
-    let top = stack_size(caller);
-    let mut buffer = [0; KEY_BYTES];
-    let mut groups = [0; STACK_SLOTS];
-    merge_buckets(caller, from, into, &mut buffer, &mut groups, top)
+    merge_with(caller, from, into, &mut [])
+}
+
+/// Notes on the words of one table.
+#[derive(Drop)]
+pub struct Notes {
+    words: Vec<u64>,
+}
+
+impl Notes {
+    /// Notes on a table of no words. Where there is no memory for them they hold nothing, and help nothing.
+    pub fn new(alloc: Global) -> Notes
+        ensures few { length result.words.items ≤ BUCKETS * NOTED }
+    {
+        match vec![in alloc; 0u64; BUCKETS * NOTED] {
+            Ok(words) => Notes { words },
+            Err(_) => Notes {
+                words: Vec::new(alloc),
+            },
+        }
+    }
+}
+
+/// Adds all counts of one table to another, as `merge` does, and notes where the other table has its words, so that later merges
+/// into it find them without reading the keys before them. The notes begin as those of `Notes::new` where the other table has no
+/// words, and go with this table from then on. Wrong notes cost time and change nothing.
+///
+/// # Errors
+///
+/// `OutOfHeap` where the heap has no room for an entry. The counts of the entries before it in the walk were added.
+pub fn merge_noting<C: Caller>(
+    caller: &mut C,
+    from: u32,
+    into: u32,
+    notes: &mut Notes,
+) -> Result<(), OutOfHeap>
+    requires tables { HasTables (C.standing caller.old) (C.knows caller.old) from into }
+    requires names { (C.standing caller.old).own.made ≤ MOST_MADE }
+    requires room { length (stack_in (C.standing caller.old)) + FREE_SLOTS ≤ STACK_SLOTS }
+    ensures merged { OnOk result ((known : KnownObjects) (from_name into_name : Name) (from_counts into_counts : WordCounts) (may : MayMerge (C.standing caller.old) known from into from_name into_name from_counts into_counts) → C.knows caller.old known → IsMergedWhole C.base C.tells C.tells_known C.standing known from_name into_name from_counts into_counts (may.from_table).buckets (may.into_table).buckets caller.old caller.new (C.knows caller.new)) }
+    ensures stopped { OnErr result ((known : KnownObjects) (from_name into_name : Name) (from_counts into_counts : WordCounts) (may : MayMerge (C.standing caller.old) known from into from_name into_name from_counts into_counts) → C.knows caller.old known → IsMergedPart C.base C.tells C.tells_known C.standing known from_name into_name from_counts into_counts (may.from_table).buckets (may.into_table).buckets caller.old caller.new (C.knows caller.new)) }
+    ensures aside { (known : KnownObjects) (from_name into_name : Name) (from_counts into_counts : WordCounts) (may : MayMerge (C.standing caller.old) known from into from_name into_name from_counts into_counts) (other : KnownObjects) → C.knows caller.old known → C.knows caller.old other → LacksTable other from_name (may.from_table).buckets → LacksTable other into_name (may.into_table).buckets → C.knows caller.new other }
+{
+    merge_with(caller, from, into, notes.words.as_mut_slice())
 }

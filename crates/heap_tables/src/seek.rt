@@ -35,7 +35,7 @@ fn pass<C: Caller>(caller: &mut C, table: u32, bucket: u32, top: u32) -> bool
 }
 
 /// Passes so many entries of a chain, or all that there are. The rest of the chain is left in the table's bucket.
-fn skip<C: Caller>(caller: &mut C, table: u32, bucket: u32, n: u32, top: u32)
+pub(crate) fn skip<C: Caller>(caller: &mut C, table: u32, bucket: u32, n: u32, top: u32)
     requires chain { HasWalk (C.standing caller.old) (C.knows caller.old) table bucket }
     requires room { length (stack_in (C.standing caller.old)) + 1 < STACK_SLOTS }
     requires top { length (stack_in (C.standing caller.old)) ≡ top }
