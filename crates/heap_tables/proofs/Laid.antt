@@ -15,7 +15,7 @@ use Rattle.heap_tables.specs.Runs.{pushed, slot_in, with_field, without_top}
 use Rattle.heap_tables.specs.Seeks.{first_of}
 use Rattle.heap_tables.specs.Walks.{IsAtChain, Walked, with_place}
 use Rattle.heap_tables.proofs.Effects.{in_bounds}
-use Rattle.heap_tables.proofs.Places.{chain_agrees, insert_agrees, place_again, place_same}
+use Rattle.heap_tables.proofs.Places.{append_nil, chain_agrees, insert_agrees, place_again, place_same}
 use Rattle.heap_tables.proofs.Raised.{with_sum}
 use Rattle.heap_tables.proofs.Sought.{chain_front, drop_more, entry_drop, front_is}
 use Rattle.heap_tables.proofs.Visits.{drop_below}
@@ -93,6 +93,30 @@ module _ (own : Thread) (links : List Link) where
       let long = firsts_length links n in
       let less : length (own.stack ++ firsts links n) - (n + 1) ≡ length own.stack = omega (arith, size, long) in
       ap (λ o. without_top o (n + 1)) e ∙ ap (λ (st : List Datum). record own { stack = st }) (ap (λ k. take k (own.stack ++ firsts links n)) less ∙ take-append_seam own.stack (firsts links n))
+
+-- fewer of them
+firsts_more : (links : List Link) (m d : ℕ) → (more : List Datum) × (firsts links (m + d) ≡ firsts links m ++ more)
+firsts_more links m zero = let none : m + 0 ≡ m = omega arith in ([], ap (firsts links) none ∙ sym (append_nil (firsts links m)))
+firsts_more links m (suc d) =
+    let next : m + suc d ≡ suc (m + d) = omega arith in
+    let r = firsts_more links m d in
+    let last = first_of (drop (suc (m + d)) links) ∷ [] in
+    (r.0 ++ last, ap (firsts links) next ∙ firsts_push links (m + d) ∙ ap (λ vs. vs ++ last) r.1 ∙ append_assoc (firsts links m) r.0 last)
+
+pub laid_kept : (own : Thread) (links : List Link) (n m : ℕ) (after last : Thread) → m ≤ n → IsLaid own links n after → last ≡ without_top after (n - m) → IsLaid own links m last
+laid_kept own links n m after last fewer laid e =
+    let d = n - m in
+    let whole : n ≡ m + d = omega (arith, fewer) in
+    let r = firsts_more links m d in
+    let st : own.stack ++ firsts links n ≡ (own.stack ++ firsts links m) ++ r.0 = ap (λ k. own.stack ++ firsts links k) whole ∙ ap (λ vs. own.stack ++ vs) r.1 ∙ sym (append_assoc own.stack (firsts links m) r.0) in
+    let all = length-append own.stack (firsts links n) in
+    let part = length-append own.stack (firsts links m) in
+    let long = firsts_length links n in
+    let short = firsts_length links m in
+    let less : length (own.stack ++ firsts links n) - d ≡ length (own.stack ++ firsts links m) = omega (arith, all, part, long, short, fewer) in
+    let few = laid.0 in
+    (omega (arith, few, fewer), e ∙ ap (λ o. without_top o d) laid.1
+        ∙ ap (λ (vs : List Datum). record own { stack = vs }) (ap (λ k. take k (own.stack ++ firsts links n)) less ∙ ap (take (length (own.stack ++ firsts links m))) st ∙ take-append_seam (own.stack ++ firsts links m) r.0))
 
 -- ---- the chain
 

@@ -27,6 +27,7 @@ use crate::steps::{load, pop, pop_all, stack_size};
 use crate::tables::{add_present, link_new};
 use crate::{KEPT_SLOTS, KEY_BYTES, NOTED};
 use object_layout::OutOfHeap;
+use std::alloc::Global;
 use yak_model::{BUCKETS, Caller, STACK_SLOTS};
 
 /// Makes an entry for the key of another entry, and puts it at the front of a bucket.
@@ -115,9 +116,11 @@ fn add_entry<C: Caller>(
     if add_present(caller, into, word, n, top) {
         return Ok(());
     }
-    share(caller, from, into, bucket, place, n, top)?;
-    note(notes, bucket, mark(word));
-    Ok(())
+    let added = share(caller, from, into, bucket, place, n, top);
+    if added.is_ok() {
+        note(notes, bucket, mark(word));
+    }
+    added
 }
 
 /// Adds the count of the entry at a place of a bucket to another table, and tells whether there is one.

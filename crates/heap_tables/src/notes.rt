@@ -25,6 +25,9 @@ pub(crate) fn place_of(notes: &[u64], bucket: u32, mark: u64) -> Option<u32>
         return None;
     }
     let words = notes[start];
+    if words > u64::from(u32::MAX) {
+        return None;
+    }
     for i in 1..NOTED {
         if words < i as u64 {
             return None;

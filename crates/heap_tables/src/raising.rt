@@ -163,7 +163,10 @@ fn raise_near<C: Caller>(
     ensures aside { (known : KnownObjects) (name : Name) (heads : List Datum) (buckets : ℕ → List Link) (own : Thread) (other : KnownObjects) → C.knows caller.old known → MayAdd (C.standing caller.old) known table word.now n name heads buckets → IsLaid own (buckets (bucket_of word.now)) laid (C.standing caller.old).own → length own.stack ≡ at → slice_index_or own.stack table datum.Null ≡ datum.Object name → C.knows caller.old other → LacksTable other name buckets → C.knows caller.new other }
 {
     let now = lay_on(caller, at, laid, place + 1);
-    let found = now > place && raise_laid(caller, table, bucket, word, n, place, at, now);
+    if now <= place {
+        return (false, keep_most(caller, at, now, most));
+    }
+    let found = raise_laid(caller, table, bucket, word, n, place, at, now);
     (found, keep_most(caller, at, now, most))
 }
 

@@ -54,8 +54,8 @@ returns-then-add_present-clause-added g c m is link rest slots d at =
     (λ none. lacks_count word (table.buckets (bucket_of word)) a.1.0 (table.absent word (get_now m is b p c.requires.bucket (C.knows c.args.caller.now) d word link at.1 ∙ none)) a.1.1)
     c.add_present.ensures.ran c.add_present.ensures.own
 
-pub share-requires-clause-number : goal.share-requires-clause-number
-share-requires-clause-number g c =
+pub share-added-requires-clause-number : goal.share-added-requires-clause-number
+share-added-requires-clause-number g c =
     let C = g.C.Caller in
     let s = C.standing c.args.caller.now in
     let h = c.requires.tables in
@@ -74,8 +74,8 @@ share-requires-clause-number g c =
     let table = d.into_table in
     may.number
 
-pub share-requires-clause-tables : goal.share-requires-clause-tables
-share-requires-clause-tables g c =
+pub share-added-requires-clause-tables : goal.share-added-requires-clause-tables
+share-added-requires-clause-tables g c =
     let C = g.C.Caller in
     let s = C.standing c.args.caller.now in
     let h = c.requires.tables in
@@ -98,23 +98,23 @@ share-requires-clause-tables g c =
     let shares = is_share m is b p c.requires.bucket (C.knows c.args.caller.now) d (C.standing c.add_present.new.caller) c.args.from c.args.into now_slots link rest at.0 in
     (d.after, m.from_name, m.into_name, m.heads, table.heads, m.buckets b, link, rest, missing.1, shares)
 
-pub share-requires-clause-names : goal.share-requires-clause-names
-share-requires-clause-names g c =
+pub share-added-requires-clause-names : goal.share-added-requires-clause-names
+share-added-requires-clause-names g c =
     omega (arith, c.requires.names, ap (λ (o : Thread). o.made) c.add_present.ensures.own)
 
-pub share-requires-clause-room : goal.share-requires-clause-room
-share-requires-clause-room g c =
+pub share-added-requires-clause-room : goal.share-added-requires-clause-room
+share-added-requires-clause-room g c =
     omega (arith, c.requires.room, ap (λ (o : Thread). length o.stack) c.add_present.ensures.own)
 
-pub share-requires-clause-top : goal.share-requires-clause-top
-share-requires-clause-top g c =
+pub share-added-requires-clause-top : goal.share-added-requires-clause-top
+share-added-requires-clause-top g c =
     omega (arith, c.requires.top, ap (λ (o : Thread). length o.stack) c.add_present.ensures.own)
 
-pub returns-clause-added : goal.returns-clause-added
-returns-clause-added g c =
+pub returns-then-is_ok-clause-added : goal.returns-then-is_ok-clause-added
+returns-then-is_ok-clause-added g c =
     let C = g.C.Caller in
     let s = C.standing c.args.caller.now in
-    ok_map c.share.result _ _
+    ok_map c.share-added.result _ _
     (λ all m is link rest slots d at.
     let b = c.args.bucket in
     let p = c.args.place in
@@ -128,8 +128,8 @@ returns-clause-added g c =
     let shares = is_share m is b p c.requires.bucket (C.knows c.args.caller.now) d (C.standing c.add_present.new.caller) c.args.from c.args.into now_slots link rest at.0 in
     let sh = all.0 d.after m.from_name m.into_name m.heads table.heads (m.buckets b) link rest missing.1 shares in
     let mid = C.standing c.add_present.new.caller in
-    let added = shared_now m is b p c.requires.bucket (C.knows c.args.caller.now) d word n link rest at missing.0 mid sh.1 (C.knows c.share.new.caller) sh.0 in
-    let merged = merged_step m is (done_at m.buckets b p) (C.knows c.args.caller.now) d word n link at.1 at.2 (C.knows c.share.new.caller) added.0.0 added.0.1
+    let added = shared_now m is b p c.requires.bucket (C.knows c.args.caller.now) d word n link rest at missing.0 mid sh.1 (C.knows c.share-added.new.caller) sh.0 in
+    let merged = merged_step m is (done_at m.buckets b p) (C.knows c.args.caller.now) d word n link at.1 at.2 (C.knows c.share-added.new.caller) added.0.0 added.0.1
     (λ other has.
     let lacks = d.aside other has in
     let still = c.if-add_present.ensures.aside d.after m.into_name table.heads table.buckets other d.known_now may (d.others_known other has) lacks in
@@ -138,15 +138,15 @@ returns-clause-added g c =
     let r = all.1 d.after m.from_name m.into_name m.heads table.heads (m.buckets b) link rest other missing.1 shares still from lacks.head front in
     (r.0, subst (LacksLinks other) (sym added.1) (λ h. none_known other (next_of mid) r.1 h, lacks_at other p (m.buckets b) rest link at.0 from.1, lacks.links (bucket_of word) (bucket_small word)))) in
     let absent = sym (get_now m is b p c.requires.bucket (C.knows c.args.caller.now) d word link at.1) ∙ lacks_none d.after m.into_name d.counts table word missing.0 in
-    goes_new C.base C.tells C.tells_known C.standing m is b p word n link rest at c.args.caller.now c.share.new.caller (C.knows c.share.new.caller) merged absent
+    goes_new C.base C.tells C.tells_known C.standing m is b p word n link rest at c.args.caller.now c.share-added.new.caller (C.knows c.share-added.new.caller) merged absent
     (then_ran C.base C.tells C.tells_known C.standing _ _ _ _ c.add_present.ensures.ran all.2.0) (all.2.1 ∙ ap (λ o. having_made o 1) own))
-    (ok_three c.share.result _ _ _ c.share.ensures.shared c.share.ensures.aside (ok_both c.share.result _ _ c.share.ensures.ran c.share.ensures.own))
+    (ok_three c.share-added.result _ _ _ c.share-added.ensures.shared c.share-added.ensures.aside (ok_both c.share-added.result _ _ c.share-added.ensures.ran c.share-added.ensures.own))
 
-pub returns-clause-stopped : goal.returns-clause-stopped
-returns-clause-stopped g c =
+pub returns-else-is_ok-clause-stopped : goal.returns-else-is_ok-clause-stopped
+returns-else-is_ok-clause-stopped g c =
     let C = g.C.Caller in
     let s = C.standing c.args.caller.now in
-    err_map c.share.result _ _
+    err_map c.share-added.result _ _
     (λ all m is link rest slots d at.
     let b = c.args.bucket in
     let p = c.args.place in
@@ -160,7 +160,7 @@ returns-clause-stopped g c =
     let shares = is_share m is b p c.requires.bucket (C.knows c.args.caller.now) d (C.standing c.add_present.new.caller) c.args.from c.args.into now_slots link rest at.0 in
     let kept = all.0 d.after m.from_name m.into_name m.heads table.heads (m.buckets b) link rest missing.1 shares in
     let absent = sym (get_now m is b p c.requires.bucket (C.knows c.args.caller.now) d word link at.1) ∙ lacks_none d.after m.into_name d.counts table word missing.0 in
-    stops_here C.base C.tells C.tells_known C.standing m is b p word n link rest c.requires.bucket at c.args.caller.now c.share.new.caller (C.knows c.share.new.caller)
-    (merged_as m is (done_at m.buckets b p) (C.knows c.args.caller.now) (C.knows c.share.new.caller) d kept (λ other has. all.1 d.after m.from_name m.into_name m.heads table.heads (m.buckets b) link rest other missing.1 shares (c.if-add_present.ensures.aside d.after m.into_name table.heads table.buckets other d.known_now may (d.others_known other has) (d.aside other has)) (from_lacks m is b c.requires.bucket other has))) absent
+    stops_here C.base C.tells C.tells_known C.standing m is b p word n link rest c.requires.bucket at c.args.caller.now c.share-added.new.caller (C.knows c.share-added.new.caller)
+    (merged_as m is (done_at m.buckets b p) (C.knows c.args.caller.now) (C.knows c.share-added.new.caller) d kept (λ other has. all.1 d.after m.from_name m.into_name m.heads table.heads (m.buckets b) link rest other missing.1 shares (c.if-add_present.ensures.aside d.after m.into_name table.heads table.buckets other d.known_now may (d.others_known other has) (d.aside other has)) (from_lacks m is b c.requires.bucket other has))) absent
     (then_out C.base C.tells C.tells_known C.standing _ _ _ _ _ c.add_present.ensures.ran all.2.0) (all.2.1 ∙ own))
-    (err_three c.share.result _ _ _ c.share.ensures.kept c.share.ensures.left (err_both c.share.result _ _ c.share.ensures.ran_out c.share.ensures.same))
+    (err_three c.share-added.result _ _ _ c.share-added.ensures.kept c.share-added.ensures.left (err_both c.share-added.result _ _ c.share-added.ensures.ran_out c.share-added.ensures.same))

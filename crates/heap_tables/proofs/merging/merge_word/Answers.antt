@@ -22,8 +22,27 @@ raise_present-requires-clause-bucket g c =
     let h = c.requires.tables in
     word_home h.0 h.1 c.args.bucket h.2 c.args.place c.args.laid h.3 s.own (C.knows c.args.caller.now) h.8 c.requires.bucket c.args.word.now c.args.n h.4 h.5 h.9
 
-pub returns-clause-merged : goal.returns-clause-merged
-returns-clause-merged g c m is start own link rest below size y at =
+pub raise_at-requires-clause-laid : goal.raise_at-requires-clause-laid
+raise_at-requires-clause-laid g c =
+    let C = g.C.Caller in
+    let s = C.standing c.args.caller.now in
+    let h = c.requires.tables in
+    let y = h.8 in
+    let d = y.merged in
+    let table = d.into_table in
+    let home = word_home h.0 h.1 c.args.bucket h.2 c.args.place c.args.laid h.3 s.own (C.knows c.args.caller.now) y c.requires.bucket c.args.word.now c.args.n h.4 h.5 h.9 in
+    let may = laid_may h.0 h.1 c.args.bucket h.2 c.args.place c.args.laid h.3 s.own (C.knows c.args.caller.now) y c.requires.bucket c.args.word.now c.args.n h.4 h.5 h.9 s c.args.from c.args.into refl h.6 (omega (arith, c.ranges.place)) in
+    (d.after, (h.0).into_name, table.heads, table.buckets, h.3, d.known_now, may, subst (λ k. IsLaid h.3 (table.buckets k) c.args.laid s.own) home y.laid, h.7, h.6.1)
+
+pub raise_at-requires-clause-bucket : goal.raise_at-requires-clause-bucket
+raise_at-requires-clause-bucket g c =
+    let C = g.C.Caller in
+    let s = C.standing c.args.caller.now in
+    let h = c.requires.tables in
+    word_home h.0 h.1 c.args.bucket h.2 c.args.place c.args.laid h.3 s.own (C.knows c.args.caller.now) h.8 c.requires.bucket c.args.word.now c.args.n h.4 h.5 h.9
+
+pub returns-then-is_empty-clause-merged : goal.returns-then-is_empty-clause-merged
+returns-then-is_empty-clause-merged g c m is start own link rest below size y at =
     let C = g.C.Caller in
     let s = C.standing c.args.caller.now in
     let d = y.merged in
@@ -35,3 +54,20 @@ returns-clause-merged g c m is start own link rest below size y at =
     (c.raise_present.ensures.raised d.after m.into_name table.heads table.buckets own d.known_now may laid size below.1)
     (c.raise_present.ensures.laid d.after m.into_name table.heads table.buckets own d.known_now may laid size below.1)
     (λ other has. c.raise_present.ensures.aside d.after m.into_name table.heads table.buckets own other d.known_now may laid size below.1 (d.others_known other has) (d.aside other has))
+
+pub returns-in-Some-clause-merged : goal.returns-in-Some-clause-merged
+returns-in-Some-clause-merged g c m is start own link rest below size y at =
+    let C = g.C.Caller in
+    let s = C.standing c.args.caller.now in
+    let d = y.merged in
+    let table = d.into_table in
+    let home = word_home m is c.args.bucket start c.args.place c.args.laid own s.own (C.knows c.args.caller.now) y c.requires.bucket c.args.word.now c.args.n link rest at in
+    let may = laid_may m is c.args.bucket start c.args.place c.args.laid own s.own (C.knows c.args.caller.now) y c.requires.bucket c.args.word.now c.args.n link rest at s c.args.from c.args.into refl below (omega (arith, c.ranges.place)) in
+    let laid = subst (λ k. IsLaid own (table.buckets k) c.args.laid s.own) home y.laid in
+    laid_merges m is c.args.bucket start c.args.place c.args.laid own s.own (C.knows c.args.caller.now) y c.requires.bucket c.args.word.now c.args.n link rest at _ _ (C.standing c.raise_at.new.caller).own (C.knows c.raise_at.new.caller)
+    (c.raise_at.ensures.raised d.after m.into_name table.heads table.buckets own d.known_now may laid size below.1)
+    (c.raise_at.ensures.laid d.after m.into_name table.heads table.buckets own d.known_now may laid size below.1)
+    (λ other has. c.raise_at.ensures.aside d.after m.into_name table.heads table.buckets own other d.known_now may laid size below.1 (d.others_known other has) (d.aside other has))
+
+pub returns-in-None-clause-merged : goal.returns-in-None-clause-merged
+returns-in-None-clause-merged g c m is start own link rest below size y at = y

@@ -11,7 +11,7 @@ use Rattle.std.specs.List.{Contains}
 use Rattle.std.proofs.lemmas.List.Elements.{Contains-get_or}
 use Rattle.heap_tables.specs.Asides.{LacksTable}
 use Rattle.yak_model.specs.Private.{KnownObjects}
-use Rattle.heap_tables.proofs.merging.merge.Goals as goal
+use Rattle.heap_tables.proofs.merging.merge_with.Goals as goal
 
 pub merge_buckets-requires-clause-tables : goal.merge_buckets-requires-clause-tables
 merge_buckets-requires-clause-tables g c =
