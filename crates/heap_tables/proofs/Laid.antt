@@ -12,7 +12,7 @@ use Rattle.yak_model.specs.Tables.{IsChain, IsEntry, LacksWord, Link}
 use Rattle.heap_tables.specs.Adds.{AddsCount}
 use Rattle.heap_tables.specs.Layouts.{FoundBeyond, IsBeyond, IsLaid, LaysNext, firsts, laid_out}
 use Rattle.heap_tables.specs.Runs.{pushed, slot_in, with_field, without_top}
-use Rattle.heap_tables.specs.Seeks.{first_of}
+use Rattle.heap_tables.specs.Seeks.{IsSkipped, first_of}
 use Rattle.heap_tables.specs.Walks.{IsAtChain, Walked, with_place}
 use Rattle.heap_tables.proofs.Effects.{in_bounds}
 use Rattle.heap_tables.proofs.Places.{append_nil, chain_agrees, insert_agrees, place_again, place_same}
@@ -166,6 +166,19 @@ module _ (own after : Thread) (known : KnownObjects) (head : Datum) where
   lays_more (link ∷ links) chain null on =
       (link, links, refl, on chain.1.0 link chain.0 chain.1.1 ∙ ap (pushed own) (chain_front known chain.1.0 links chain.1.2))
 
+-- no more entry
+pub lays_none : (known : KnownObjects) (head : Datum) (links : List Link) → IsChain known head links
+    → ((next : Datum) (link : Link) → head ≡ datum.Object link.entry → IsEntry known next link → ⊥)
+    → links ≡ []
+lays_none known head [] chain some = refl
+lays_none known head (link ∷ links) chain some = absurd (some chain.1.0 link chain.0 chain.1.1)
+
+pub all_passed : (n : ℕ) (links : List Link) → n ≤ length links → drop n links ≡ [] → length links ≡ n
+all_passed zero [] few e = refl
+all_passed zero (l ∷ links) few e = cc
+all_passed (suc n) [] few e = absurd (omega (arith, few))
+all_passed (suc n) (l ∷ links) few e = let h = all_passed n links (omega (arith, few)) e in omega (arith, h)
+
 pub laid_next : (own : Thread) (links : List Link) (n : ℕ) (mid after : Thread) → IsLaid own links n mid → LaysNext mid (drop n links) true after → IsLaid own links (n + 1) after
 laid_next own links n mid after laid next =
     let more = drop_below n links next.1 next.0 next.2 in
@@ -196,14 +209,25 @@ laid_raised own after word k links later there adds n laid = elim adds [
 -- ---- a walk from a later place
 
 module _ (s : Standing) (known : KnownObjects) (table b at start : ℕ) (name : Name) (values : List Datum) (links : List Link) (y : IsBeyond s known table b at start name values links) where
+  -- a place further on, put into the table's bucket
+  pub skipped_at : (place : Datum) (rest : List Link) → IsChain (with_place known name values b place) place rest → (now : Standing) → now.own ≡ s.own → IsAtChain now (with_place known name values b place) table b name (set values b place) rest
+  skipped_at place rest chain now own = (
+    (ap (λ (o : Thread). get_or o.stack table datum.Null) own ∙ y.slot.0, get-same known name (Fields (set values b place))),
+    subst (λ n. b < n) (sym (length-set values b place)) y.within,
+    subst (λ d. IsChain (with_place known name values b place) d rest) (sym (get_or-set_same values b place datum.Null y.within)) chain,
+  )
+
   pub beyond_at : (now : Standing) → now.own ≡ s.own → IsAtChain now (with_place known name values b (slot_in s start)) table b name (set values b (slot_in s start)) links
   beyond_at now own =
-      let place = slot_in s start in (
-        (ap (λ (o : Thread). get_or o.stack table datum.Null) own ∙ y.slot.0, get-same known name (Fields (set values b place))),
-        subst (λ n. b < n) (sym (length-set values b place)) y.within,
-        subst (λ d. IsChain (with_place known name values b place) d links) (sym (get_or-set_same values b place datum.Null y.within))
-            (chain_agrees known (with_place known name values b place) name (insert_agrees known name _) links place y.apart y.chain),
-      )
+      let place = slot_in s start in
+      skipped_at place links (chain_agrees known (with_place known name values b place) name (insert_agrees known name _) links place y.apart y.chain) now own
+
+-- a place that was put over another one
+pub skipped_again : (known : KnownObjects) (name : Name) (values : List Datum) (b : ℕ) (first : Datum) (rest : List Link) (knows : KnownObjects → Type 0)
+    → IsSkipped (with_place known name values b first) name (set values b first) b rest knows → IsSkipped known name values b rest knows
+skipped_again known name values b first rest knows k =
+    let same = place_again known name values b first k.place in
+    record { place = k.place; chain = subst (λ m. IsChain m k.place rest) same k.chain; known_now = subst knows same k.known_now }
 
 pub beyond_found : (own : Thread) (s : Standing) (known : KnownObjects) (name : Name) (values : List Datum) (b : ℕ) (word : List ℕ) (links : List Link) (said : Bool) (last : Thread) (knows : KnownObjects → Type 0)
     → s.own ≡ own → Walked s known name values b word links said last knows → FoundBeyond own word links said last

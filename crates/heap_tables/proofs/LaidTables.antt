@@ -1,5 +1,5 @@
 -- A table with the first entries of a chain laid out on a stack, where a count is raised.
-use Rattle.std.proofs.Common.{zero, suc, ◌≡◌, ℕ, ◌+◌, ◌≤◌, true, List, [], ◌∷◌, ◌++◌, drop, get_or, refl, ◌∙◌, ap, sym, subst, length, arith, append_assoc}
+use Rattle.std.proofs.Common.{zero, suc, ◌≡◌, ℕ, ◌+◌, ◌≤◌, Bool, true, false, List, [], ◌∷◌, ◌++◌, drop, get_or, refl, ◌∙◌, ap, sym, subst, length, arith, append_assoc}
 use Rattle.object_layout.specs.declared.TheConstants.{MAX_INT}
 use Rattle.object_layout.specs.declared.names.Name.{Name}
 use Rattle.yak_model.specs.declared.datum.Datum.{Datum}
@@ -10,7 +10,7 @@ use Rattle.yak_model.specs.Standing.{Standing}
 use Rattle.yak_model.specs.Tables.{AreDifferent, HasCount, IsChain, IsEntry, LacksWord, Link, bucket_of}
 use Rattle.heap_tables.specs.Adds.{MayAdd, with_count}
 use Rattle.heap_tables.specs.Asides.{LacksTable, LacksValue}
-use Rattle.heap_tables.specs.Layouts.{IsBeyond, IsLaid, RaisesPresent}
+use Rattle.heap_tables.specs.Layouts.{FoundBeyond, IsBeyond, IsLaid, RaisesPresent}
 use Rattle.heap_tables.specs.Seeks.{first_of}
 use Rattle.heap_tables.proofs.Asides.{lacks_as, lacks_head, lacks_rest}
 use Rattle.heap_tables.proofs.RaisedCounts.{bucket_small}
@@ -18,7 +18,7 @@ use Rattle.heap_tables.proofs.Laid.{chain_first, laid_at, laid_chain}
 use Rattle.heap_tables.proofs.Raised.{distinct_parts, has_count_at, lacks_at, raised_table, table_apart}
 use Rattle.heap_tables.proofs.Sought.{apart_drop, chain_front}
 
-drop_length : (n : ℕ) (links : List Link) → length (drop n links) ≤ length links
+pub drop_length : (n : ℕ) (links : List Link) → length (drop n links) ≤ length links
 drop_length zero [] = omega arith
 drop_length zero (l ∷ links) = omega arith
 drop_length (suc n) [] = omega arith
@@ -35,6 +35,10 @@ pub parts_past : (n : ℕ) (links passed rest : List Link) (link : Link) → dro
 parts_past n links passed rest link e =
     let r = split_at n links in
     (r.0 ++ passed, r.1 ∙ ap (λ ls. r.0 ++ ls) e ∙ sym (append_assoc r.0 passed (link ∷ rest)))
+
+pub found_past : (own : Thread) (word : List ℕ) (n : ℕ) (links : List Link) (said : Bool) (last : Thread) → FoundBeyond own word (drop n links) said last → FoundBeyond own word links said last
+found_past own word n links true last f = let r = parts_past n links f.0 f.2 f.1 f.3 in (r.0, f.1, f.2, r.1, f.4, f.5)
+found_past own word n links false last f = f
 
 module _ (s : Standing) (known : KnownObjects) (table : ℕ) (word : List ℕ) (n : ℕ) (name : Name) (heads : List Datum) (buckets : ℕ → List Link) (may : MayAdd s known table word n name heads buckets) where
   pub may_chain : IsChain known (get_or heads (bucket_of word) datum.Null) (buckets (bucket_of word))
