@@ -11,6 +11,7 @@ use Rattle.yak_model.specs.Tables.{AreDifferent, HasCount, IsChain, IsEntry, Lac
 use Rattle.heap_tables.specs.Adds.{MayAdd, with_count}
 use Rattle.heap_tables.specs.Asides.{LacksTable, LacksValue}
 use Rattle.heap_tables.specs.Layouts.{FoundBeyond, IsBeyond, IsLaid, RaisesPresent}
+use Rattle.heap_tables.specs.Runs.{KeepsKnown, KnowsSome}
 use Rattle.heap_tables.specs.Seeks.{first_of}
 use Rattle.heap_tables.proofs.Asides.{lacks_as, lacks_head, lacks_rest}
 use Rattle.heap_tables.proofs.RaisedCounts.{bucket_small}
@@ -35,6 +36,16 @@ pub parts_past : (n : ℕ) (links passed rest : List Link) (link : Link) → dro
 parts_past n links passed rest link e =
     let r = split_at n links in
     (r.0 ++ passed, r.1 ∙ ap (λ ls. r.0 ++ ls) e ∙ sym (append_assoc r.0 passed (link ∷ rest)))
+
+-- what is known after a count was raised or none
+pub raises_some : (known : KnownObjects) (word : List ℕ) (n : ℕ) (name : Name) (buckets : ℕ → List Link) (said : Bool) (knows : KnownObjects → Type 0) → RaisesPresent known word n name buckets said knows → KnowsSome knows
+raises_some known word n name buckets true knows r = (r.0.after, r.0.known_now)
+raises_some known word n name buckets false knows r = (known, r)
+
+pub raises_kept : (known : KnownObjects) (word : List ℕ) (n : ℕ) (name : Name) (buckets : ℕ → List Link) (said : Bool) (knows later : KnownObjects → Type 0) → RaisesPresent known word n name buckets said knows → KeepsKnown knows later → RaisesPresent known word n name buckets said later
+raises_kept known word n name buckets true knows later r keeps =
+    let a = r.0 in (record { after = a.after; heads = a.heads; links = a.links; known_now = keeps a.after a.known_now; is_table = a.is_table; adds = a.adds; others = a.others; fresh = a.fresh }, r.1)
+raises_kept known word n name buckets false knows later r keeps = keeps known r
 
 pub found_past : (own : Thread) (word : List ℕ) (n : ℕ) (links : List Link) (said : Bool) (last : Thread) → FoundBeyond own word (drop n links) said last → FoundBeyond own word links said last
 found_past own word n links true last f = let r = parts_past n links f.0 f.2 f.1 f.3 in (r.0, f.1, f.2, r.1, f.4, f.5)

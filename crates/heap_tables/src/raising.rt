@@ -10,8 +10,8 @@ ghost use Rattle.yak_model.specs.Tables.{Link, bucket_of, group};
 ghost use Rattle.heap_tables.specs.declared.TheConstants.{KEPT_SLOTS, KEY_BYTES, NEAR_SLOTS};
 ghost use Rattle.heap_tables.specs.Adds.{MayAdd};
 ghost use Rattle.heap_tables.specs.Asides.{LacksTable};
-ghost use Rattle.heap_tables.specs.Layouts.{HasLaid, HasLaidTable, IsLaid, RaisesPresent};
-ghost use Rattle.heap_tables.specs.Runs.{KeepsKnown, Ran, stack_in};
+ghost use Rattle.heap_tables.specs.Layouts.{HasLaidTable, IsLaid, RaisesPresent};
+ghost use Rattle.heap_tables.specs.Runs.{KeepsKnown, KnowsSome, Ran, stack_in};
 
 use crate::NEAR_SLOTS;
 use crate::keys::group;
@@ -121,7 +121,7 @@ fn raise_laid<C: Caller>(
 
 /// Drops what is laid out past so many entries, and gives how many are laid out then.
 fn keep_most<C: Caller>(caller: &mut C, at: u32, laid: u32, most: u32) -> u32
-    requires laid { HasLaid (C.standing caller.old) (C.knows caller.old) at laid }
+    requires some { KnowsSome (C.knows caller.old) }
     requires top { length (stack_in (C.standing caller.old)) ≡ at + laid + 1 }
     ensures few { result ≤ most }
     ensures ran { Ran C.base C.tells C.tells_known C.standing caller.old caller.new 0 }
