@@ -63,12 +63,6 @@ pub lacks_head : (other known : KnownObjects) (head : Datum) (links : List Link)
 lacks_head other known head [] chain lacks = subst (LacksValue other) (sym chain) tt
 lacks_head other known head (l ∷ links) chain lacks = subst (LacksValue other) (sym chain.0) lacks.0
 
--- the first entry of a chain, and what comes after it
-pub first_left : (other known : KnownObjects) (head : Datum) (links : List Link) → IsChain known head links → head ≢ datum.Null → LacksLinks other links
-    → (next : Datum) × (link : Link) × (head ≡ datum.Object link.entry) × IsEntry known next link × LacksValue other next
-first_left other known head [] chain null lacks = absurd (null chain)
-first_left other known head (l ∷ links) chain null lacks = (chain.1.0, l, chain.0, chain.1.1, lacks_head other known chain.1.0 links chain.1.2 lacks.2)
-
 -- ---- new objects
 
 pub lacks_insert : (other : KnownObjects) (name : Name) (content : Content) (value : Datum) → value ≢ datum.Object name → LacksValue other value → LacksValue (insert other name content) value

@@ -22,9 +22,6 @@ Agree m n name = (x : Name) → x ≢ name → get n x ≡ get m x
 pub insert_agrees : (known : KnownObjects) (name : Name) (c : Content) → Agree known (insert known name c) name
 insert_agrees known name c x o = get-other known name c x o
 
-pub inserts_agree : (known : KnownObjects) (name : Name) (c d : Content) → Agree (insert known name c) (insert known name d) name
-inserts_agree known name c d x o = get-other known name d x o ∙ sym (get-other known name c x o)
-
 pub insert_again : (known : KnownObjects) (name : Name) (c d : Content) → insert (insert known name c) name d ≡ insert known name d
 insert_again known name c d = same_map name_cmp_total name_cmp-IsAntisymmetric _ _ (λ x. elim (same_or_other x name) [
   | inl e ↦ ap (get (insert (insert known name c) name d)) e ∙ get-same (insert known name c) name d ∙ sym (ap (get (insert known name d)) e ∙ get-same known name d)

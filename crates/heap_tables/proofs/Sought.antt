@@ -12,10 +12,10 @@ use Rattle.yak_model.specs.Tables.{Link, IsChain, IsEntry}
 use Rattle.heap_tables.specs.Walks.{IsApart, IsAtChain, with_place}
 use Rattle.heap_tables.specs.declared.TheConstants.{KEY_BYTES}
 use Rattle.heap_tables.specs.Reads.{AreShort, IsCopied, Took}
-use Rattle.heap_tables.specs.Seeks.{IsSkipped, Passed, first_of}
+use Rattle.heap_tables.specs.Seeks.{IsSkipped, first_of}
 use Rattle.heap_tables.specs.Runs.{pushed}
 use Rattle.heap_tables.proofs.Effects.{size_after, slot_after, slot_below, top_after}
-use Rattle.heap_tables.proofs.Places.{chain_agrees, inserts_agree, place_again, place_same}
+use Rattle.heap_tables.proofs.Places.{place_again, place_same}
 
 drop_suc : {A : Type 0} (n : ℕ) (xs rest : List A) (x : A) → drop n xs ≡ x ∷ rest → drop (suc n) xs ≡ rest
 drop_suc zero [] rest x e = cc
@@ -44,17 +44,6 @@ pub chain_front : (known : KnownObjects) (head : Datum) (links : List Link) → 
 chain_front known head [] chain = chain
 chain_front known head (l ∷ links) chain = chain.0
 
-module _ (known : KnownObjects) (name : Name) (values : List Datum) (b : ℕ) (knows : KnownObjects → Type 0) where
-  pub passed_end : (links : List Link) → IsChain known (get_or values b datum.Null) links → get_or values b datum.Null ≡ datum.Null → knows known → Passed known name values b links false knows
-  passed_end [] chain null k = (refl, k)
-  passed_end (link ∷ links) chain null k = let e = chain.0 in cc
-
-  pub passed_on : (links : List Link) → IsChain known (get_or values b datum.Null) links → get_or values b datum.Null ≢ datum.Null
-      → ((next : Datum) (link : Link) → get_or values b datum.Null ≡ datum.Object link.entry → IsEntry known next link → knows (insert known name (Fields (set values b next))))
-      → Passed known name values b links true knows
-  passed_on [] chain null stored = absurd (null chain)
-  passed_on (link ∷ links) chain null stored = (refl, (chain.1.0, chain.1.1, chain.1.2, stored chain.1.0 link chain.0 chain.1.1))
-
 pub first_link : (known : KnownObjects) (head : Datum) (links : List Link) → IsChain known head links → head ≢ datum.Null → (next : Datum) × (link : Link) × (head ≡ datum.Object link.entry) × IsEntry known next link
 first_link known head [] chain null = absurd (null chain)
 first_link known head (link ∷ links) chain null = (chain.1.0, link, chain.0, chain.1.1)
@@ -75,28 +64,6 @@ module _ (s : Standing) (known : KnownObjects) (table : ℕ) (name : Name) (valu
     subst (λ n. b < n) (sym (length-set values b p.place)) at.1,
     subst (λ d. IsChain (with_place known name values b p.place) d rest) (sym (get_or-set_same values b p.place datum.Null at.1)) p.chain,
   )
-
-  pub more_skip : (knows ka : KnownObjects → Type 0) (rest : List Link) (p : IsSkipped known name values b rest knows) → IsApart name rest
-      → Passed (with_place known name values b p.place) name (set values b p.place) b rest true ka
-      → (link : Link) × (after : List Link) × (rest ≡ link ∷ after) × IsSkipped known name values b after ka
-  more_skip knows ka [] p apart passed = absurd (true≢false passed.0)
-  more_skip knows ka (link ∷ after) p apart passed =
-      let r = passed.1 in (
-        link,
-        after,
-        refl,
-        record {
-          place = r.0;
-          chain = chain_agrees (with_place known name values b p.place) (with_place known name values b r.0) name (inserts_agree known name _ _) after r.0 apart.2 r.2;
-          known_now = subst ka (place_again known name values b p.place r.0) r.3;
-        },
-      )
-
-  pub end_skip : (knows ka : KnownObjects → Type 0) (rest : List Link) (p : IsSkipped known name values b rest knows)
-      → Passed (with_place known name values b p.place) name (set values b p.place) b rest false ka
-      → (rest ≡ []) × IsSkipped known name values b [] ka
-  end_skip knows ka [] p passed = (refl, record { place = p.place; chain = p.chain; known_now = passed.1 })
-  end_skip knows ka (link ∷ after) p passed = absurd (true≢false (sym passed.0))
 
 -- a table on the way to a place in one of its chains, whose front is in a slot: the stack before the front was pushed, after
 -- it, and with the entry at the place

@@ -130,8 +130,3 @@ abbrev pub IsShown : Datum → Reply → Type 0
 IsShown datum.Null said = said ≡ reply.Null
 IsShown (datum.Int i) said = said ≡ reply.Int i
 IsShown (datum.Object name) said = (k : ℕ) × (said ≡ reply.Object k)
-
--- Two slots refer to objects of one known map that have so many fields.
-abbrev pub HasFields : Standing → (KnownObjects → Type 0) → ℕ → ℕ → ℕ → ℕ → Type 0
-HasFields s knows i f j g =
-    (known : KnownObjects) × (name : Name) × (values : List Datum) × (to_name : Name) × (to_values : List Datum) × knows known × IsInSlot s known i name values × (f < length values) × IsInSlot s known j to_name to_values × (g < length to_values)

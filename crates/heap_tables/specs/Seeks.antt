@@ -13,12 +13,6 @@ abbrev pub first_of : List Link → Datum
 first_of [] = datum.Null
 first_of (link ∷ links) = datum.Object link.entry
 
--- What it leaves to pass the first entry of a chain.
-abbrev pub Passed : KnownObjects → Name → List Datum → ℕ → List Link → Bool → (KnownObjects → Type 0) → Type 0
-Passed known name values b [] said knows = (said ≡ false) × knows known
-Passed known name values b (link ∷ links) said knows =
-    (said ≡ true) × ((next : Datum) × IsEntry known next link × IsChain known next links × knows (with_field known name values b next))
-
 -- The rest of a chain is in the table's bucket.
 pub record IsSkipped (known : KnownObjects) (name : Name) (values : List Datum) (b : ℕ) (rest : List Link) (knows : KnownObjects → Type 0) : Type 0 where
   pub place : Datum

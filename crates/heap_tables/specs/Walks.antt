@@ -50,10 +50,6 @@ abbrev pub IsAtChain : Standing → KnownObjects → ℕ → ℕ → Name → Li
 IsAtChain s known table b name values links =
     IsInSlot s known table name values × (b < length values) × IsChain known (slice_index_or values b datum.Null) links
 
-abbrev pub HasChain : Standing → (KnownObjects → Type 0) → ℕ → ℕ → Type 0
-HasChain s knows table b =
-    (known : KnownObjects) × (name : Name) × (values : List Datum) × (links : List Link) × knows known × IsAtChain s known table b name values links
-
 -- The object is no part of the chain.
 abbrev pub IsApart : Name → List Link → Type 0
 IsApart name [] = Unit {0}

@@ -1,5 +1,5 @@
 //! Ways to a place in the chain of a bucket.
-ghost use Rattle.std.specs.Prelude.{◌≡◌, ℕ, ◌+◌, ◌^◌, ◌<◌, List, length, drop, slice_index_or, IsTrue, IsFalse};
+ghost use Rattle.std.specs.Prelude.{◌≡◌, ℕ, ◌+◌, ◌^◌, ◌<◌, ◌≤◌, ◌⊎◌, [], List, length, drop, slice_index_or, IsTrue, IsFalse};
 ghost use Rattle.object_layout.specs.declared.names.Name.{Name};
 ghost use Rattle.yak_model.specs.declared.TheConstants.{STACK_SLOTS};
 ghost use Rattle.yak_model.specs.declared.datum.Datum.{Datum};
@@ -7,31 +7,41 @@ ghost use Rattle.yak_model.specs.declared.datum.Datum.TheVariants as datum;
 ghost use Rattle.yak_model.specs.Private.{KnownObjects};
 ghost use Rattle.yak_model.specs.Tables.{Link};
 ghost use Rattle.heap_tables.specs.Runs.{KeepsKnown, Ran, pushed, stack_in};
-ghost use Rattle.heap_tables.specs.Walks.{HasChain, HasWalk, IsApart, IsAtChain};
-ghost use Rattle.heap_tables.specs.Seeks.{IsSkipped, Passed, first_of};
+ghost use Rattle.heap_tables.specs.Walks.{HasWalk, IsApart, IsAtChain};
+ghost use Rattle.heap_tables.specs.Seeks.{IsSkipped, first_of};
 ghost use Rattle.heap_tables.specs.Asides.{LacksChain};
 
-use crate::steps::{copy_field, load, pop, slot_is_null, store};
-use yak_model::Caller;
+use crate::layouts::lay_on;
+use crate::steps::{load, pop_all, store};
+use yak_model::{Caller, STACK_SLOTS};
 
-/// Puts the next entry of a chain into the table's bucket, and tells whether there was one to pass.
-fn pass<C: Caller>(caller: &mut C, table: u32, bucket: u32, top: u32) -> bool
-    requires chain { HasChain (C.standing caller.old) (C.knows caller.old) table bucket }
+/// The smaller of two numbers.
+fn smaller(a: u32, b: u32) -> u32
+    ensures first { result ≤ a }
+    ensures second { result ≤ b }
+    ensures one { (result ≡ a) ⊎ (result ≡ b) }
+{
+    if a < b { a } else { b }
+}
+
+/// Passes so many entries of a chain, or as many as there are or as the stack has room for, at least one of them: the place that it
+/// comes to is put into the table's bucket. Gives how many.
+fn leap<C: Caller>(caller: &mut C, table: u32, bucket: u32, n: u32, top: u32) -> u32
+    requires chain { HasWalk (C.standing caller.old) (C.knows caller.old) table bucket }
     requires room { length (stack_in (C.standing caller.old)) + 1 < STACK_SLOTS }
     requires top { length (stack_in (C.standing caller.old)) ≡ top }
+    ensures few { result ≤ n }
     ensures ran { Ran C.base C.tells C.tells_known C.standing caller.old caller.new 0 }
     ensures own { (C.standing caller.new).own ≡ (C.standing caller.old).own }
-    ensures passed { (known : KnownObjects) (name : Name) (values : List Datum) (links : List Link) → C.knows caller.old known → IsAtChain (C.standing caller.old) known table bucket name values links → Passed known name values bucket links result (C.knows caller.new) }
-    ensures aside { (known : KnownObjects) (name : Name) (values : List Datum) (links : List Link) (other : KnownObjects) → C.knows caller.old known → IsAtChain (C.standing caller.old) known table bucket name values links → C.knows caller.old other → LacksChain other name links → C.knows caller.new other }
+    ensures passed { (known : KnownObjects) (name : Name) (values : List Datum) (links : List Link) → C.knows caller.old known → IsAtChain (C.standing caller.old) known table bucket name values links → IsApart name links → IsSkipped known name values bucket (drop result links) (C.knows caller.new) × (result ≡ 0 → 0 < n → links ≡ []) }
+    ensures aside { (known : KnownObjects) (name : Name) (values : List Datum) (links : List Link) (other : KnownObjects) → C.knows caller.old known → IsAtChain (C.standing caller.old) known table bucket name values links → IsApart name links → C.knows caller.old other → LacksChain other name links → C.knows caller.new other }
 {
     load(caller, table, bucket);
-    if slot_is_null(caller, top) {
-        pop(caller);
-        return false;
-    }
-    copy_field(caller, top, 0, table, bucket, top + 1);
-    pop(caller);
-    true
+    let most = smaller(n, STACK_SLOTS as u32 - 1 - top);
+    let passed = lay_on(caller, top, 0, most);
+    store(caller, table, bucket, top + passed);
+    pop_all(caller, passed + 1);
+    passed
 }
 
 /// Passes so many entries of a chain, or all that there are. The rest of the chain is left in the table's bucket.
@@ -44,10 +54,16 @@ pub(crate) fn skip<C: Caller>(caller: &mut C, table: u32, bucket: u32, n: u32, t
     ensures skipped { (known : KnownObjects) (name : Name) (values : List Datum) (links : List Link) → C.knows caller.old known → IsAtChain (C.standing caller.old) known table bucket name values links → IsApart name links → IsSkipped known name values bucket (drop n links) (C.knows caller.new) }
     ensures aside { (known : KnownObjects) (name : Name) (values : List Datum) (links : List Link) (other : KnownObjects) → C.knows caller.old known → IsAtChain (C.standing caller.old) known table bucket name values links → IsApart name links → C.knows caller.old other → LacksChain other name links → C.knows caller.new other }
 {
-    for i in 0..n {
-        if !pass(caller, table, bucket, top) {
+    let mut left = n;
+    for turn in 0..n {
+        if left == 0 {
             return;
         }
+        let passed = leap(caller, table, bucket, left, top);
+        if passed == 0 {
+            return;
+        }
+        left -= passed;
     }
 }
 

@@ -3,7 +3,7 @@ ghost use Rattle.std.specs.Prelude.{◌≡◌, ◌≢◌, ℕ, ◌+◌, ◌-◌,
 ghost use Rattle.std.specs.FinMap as finite;
 ghost use Rattle.yak_model.specs.Private.{GivesAway, KnownObjects};
 ghost use Rattle.heap_tables.specs.Asides.{LacksValue};
-ghost use Rattle.heap_tables.specs.Runs.{KeepsKnown, IsInSlot, HasField, HasFields, KnowsSome, Ran, stack_in, slot_in, pushed, popped, without_top, next_of, with_made, with_new, with_field, IsShown, RanOut};
+ghost use Rattle.heap_tables.specs.Runs.{KeepsKnown, IsInSlot, HasField, KnowsSome, Ran, stack_in, slot_in, pushed, popped, without_top, next_of, with_made, with_new, with_field, IsShown, RanOut};
 ghost use Rattle.object_layout.specs.declared.names.Name.{Name};
 ghost use Rattle.object_layout.specs.declared.TheConstants.{MAX_FIELDS, MAX_INT, MAX_SERIAL, OBJECT_WORDS};
 ghost use Rattle.yak_model.specs.declared.TheConstants.{STACK_SLOTS};
@@ -201,21 +201,6 @@ pub fn put_int<C: Caller>(caller: &mut C, s: u32, f: u32, n: u64, top: u32)
 {
     push_int(caller, n);
     store(caller, s, f, top);
-    pop(caller);
-}
-
-/// Copies a field of a known object into one of another known object.
-pub fn copy_field<C: Caller>(caller: &mut C, s: u32, f: u32, to: u32, g: u32, top: u32)
-    requires both { HasFields (C.standing caller.old) (C.knows caller.old) s f to g }
-    requires room { length (stack_in (C.standing caller.old)) < STACK_SLOTS }
-    requires top { length (stack_in (C.standing caller.old)) ≡ top }
-    ensures ran { Ran C.base C.tells C.tells_known C.standing caller.old caller.new 0 }
-    ensures own { (C.standing caller.new).own ≡ (C.standing caller.old).own }
-    ensures stored { (known : KnownObjects) (name to_name : Name) (values to_values : List Datum) → C.knows caller.old known → IsInSlot (C.standing caller.old) known s name values → f < length values → IsInSlot (C.standing caller.old) known to to_name to_values → g < length to_values → C.knows caller.new (with_field known to_name to_values g (slice_index_or values f datum.Null)) }
-    ensures aside { (known : KnownObjects) (name : Name) (values : List Datum) (other : KnownObjects) → C.knows caller.old known → IsInSlot (C.standing caller.old) known s name values → f < length values → C.knows caller.old other → LacksValue other (slice_index_or values f datum.Null) → LacksValue other (slot_in (C.standing caller.old) to) → C.knows caller.new other }
-{
-    load(caller, s, f);
-    store(caller, to, g, top);
     pop(caller);
 }
 
