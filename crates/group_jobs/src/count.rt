@@ -21,7 +21,7 @@ use crate::tallies::count_tasks;
 use crate::tasks::{Task, cut_tasks};
 use crate::{INPUT_LIMIT, TOTAL_SLOT, WORKER};
 use heap_core::{Core, CoreCaller};
-use heap_tables::{Counted, read_entries};
+use heap_tables::{Counted, Notes, read_entries};
 use heap_words::{Image, MakeError, Words};
 use object_layout::{Census, NoMemory};
 use std::alloc::Global;
@@ -138,7 +138,8 @@ pub fn count_one(
     let Ok(mut caller) = open_heap(alloc, pages) else {
         return Err(CountError::Memory);
     };
-    let Ok(has_total) = count_tasks(&mut caller, bytes, &tasks) else {
+    let mut notes = Notes::new(alloc);
+    let Ok(has_total) = count_tasks(&mut caller, &mut notes, bytes, &tasks) else {
         return Err(why_refused(caller));
     };
     let Ok(list) = list_counts(alloc, &mut caller, has_total) else {

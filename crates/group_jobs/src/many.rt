@@ -18,7 +18,7 @@ use crate::counted::sort_counts;
 use crate::shares::Worker;
 use crate::sums::{add_up, append_counts};
 use crate::tasks::{Task, cut_tasks};
-use heap_tables::Counted;
+use heap_tables::{Counted, Notes};
 use heap_words::MakeError;
 use mutator::{Heap, Resting, finish};
 use object_layout::{Census, NoMemory};
@@ -51,12 +51,13 @@ fn hire(alloc: Global, heap: &Heap, mut resting: Vec<Resting>) -> Result<Vec<Wor
     ensures ready { IfOk result (λ team. (bytes : List ℕ) → AllReady heap.now.gate bytes team.items) }
 {
     let mut team = Vec::new(alloc);
-    while !resting.is_empty() {
+    'hired: while !resting.is_empty() {
         let next = resting.remove(0);
         let worker = Worker {
             thread: next.thread(),
             resting: Some(next),
             has_total: false,
+            notes: Notes::new(alloc),
             refused: None,
         };
         put_worker(&mut team, worker)?;
@@ -167,6 +168,7 @@ fn dismiss(mut team: Vec<Worker>, back: &mut Vec<Resting>) -> Result<(), NoMemor
             thread: _,
             resting,
             has_total: _,
+            notes: _,
             refused: _,
         } = team.remove(0);
         match resting {

@@ -20,7 +20,7 @@ use crate::dealers::{Dealing, FixedShare};
 use crate::followed::{Followed, Past};
 use crate::tallies::count_task;
 use crate::tasks::Task;
-use heap_tables::{Counted, read_entries};
+use heap_tables::{Counted, Notes, read_entries};
 use mutator::{Heap, Resting};
 use object_layout::{Census, NoMemory};
 use std::alloc::Global;
@@ -29,13 +29,14 @@ use std::sync::Wait;
 use yak_io::Brake;
 use yak_model::Caller;
 
-/// A worker of a count: its thread's way to the heap, whether it has a table of all that it counted, and the pages at the call for
-/// an object for which the heap had no room.
+/// A worker of a count: its thread's way to the heap, whether it has a table of all that it counted and what it noted of it, and the
+/// pages at the call for an object for which the heap had no room.
 #[derive(Drop)]
 pub(crate) struct Worker {
     pub(crate) thread: u8,
     pub(crate) resting: Option<Resting>,
     pub(crate) has_total: bool,
+    pub(crate) notes: Notes,
     pub(crate) refused: Option<Census>,
 }
 
@@ -46,6 +47,7 @@ fn count_followed<R: Wait, P: Past>(
     heap: &Heap,
     resting: Resting,
     has_total: bool,
+    notes: &mut Notes,
     bytes: &[u8],
 ) -> (Resting, Result<bool, Census>)
     requires begun { P.begun ≡ resting.away.seat.me.0.own }
@@ -64,7 +66,7 @@ fn count_followed<R: Wait, P: Past>(
 {
     let mutator = resting.enter(rt, heap);
     let mut caller: Followed<R, P> = Followed::of(mutator.as_caller(rt, heap));
-    let counted = count_task(&mut caller, has_total, bytes);
+    let counted = count_task(&mut caller, has_total, notes, bytes);
     let full = caller.full();
     let resting = caller.into_caller().into_mutator().rest(heap);
     match (counted, full) {
@@ -80,6 +82,7 @@ fn count_rested<R: Wait>(
     heap: &Heap,
     resting: Resting,
     has_total: bool,
+    notes: &mut Notes,
     bytes: &[u8],
 ) -> (Resting, Result<bool, Census>)
     requires heap { IsOf heap.now.gate resting.away.seat.table_id resting.away.seat.me.0 }
@@ -95,7 +98,7 @@ fn count_rested<R: Wait>(
     ensures counted { IfOk result.1 (λ has. CountsTask heap.now.gate.map resting.away.seat.me.0.own result.0.away.seat.me.0.own has_total (words_of bytes.now) has) }
     ensures halted { IfErr result.1 (λ census. (census.free ≡ 0) × HaltsTask resting.away.seat.me.0.own result.0.away.seat.me.0.own has_total (words_of bytes.now)) }
 {
-    count_followed::<R, Brand>(rt, heap, resting, has_total, bytes)
+    count_followed::<R, Brand>(rt, heap, resting, has_total, notes, bytes)
 }
 
 /// The words and counts of the thread's table of the total, in the order of the walk through it.
@@ -208,7 +211,14 @@ impl Worker {
         match self.resting.take() {
             Some(resting) => {
                 let text = &bytes[task.start as usize..task.end as usize];
-                let (resting, counted) = count_rested(rt, heap, resting, self.has_total, text);
+                let (resting, counted) = count_rested(
+                    rt,
+                    heap,
+                    resting,
+                    self.has_total,
+                    &mut self.notes,
+                    text,
+                );
                 self.resting = Some(resting);
                 match counted {
                     Ok(has_total) => self.has_total = has_total,

@@ -19,7 +19,7 @@ ghost use Rattle.group_jobs.specs.declared.TheConstants.{MOST_WORDS, OBJECTS_FOR
 use crate::tasks::Task;
 use crate::words::Words;
 use crate::{PART_SLOT, TOTAL_SLOT};
-use heap_tables::{add, begin, end, make, merge, pop};
+use heap_tables::{Notes, add, begin, end, make, merge_noting, pop};
 use object_layout::OutOfHeap;
 use yak_model::Caller;
 
@@ -74,7 +74,7 @@ fn open_part<C: Caller>(caller: &mut C) -> Result<(), OutOfHeap>
 }
 
 /// Adds the counts of a part to those of the total, and drops the part's table.
-fn close_part<C: Caller>(caller: &mut C) -> Result<(), OutOfHeap>
+fn close_part<C: Caller>(caller: &mut C, notes: &mut Notes) -> Result<(), OutOfHeap>
     requires tables { HasTallies (C.standing caller.old) (C.knows caller.old) 0 }
     requires names { (C.standing caller.old).own.made ≤ MOST_MADE }
     requires slots { length (stack_in (C.standing caller.old)) ≡ PART_SLOT + 1 }
@@ -84,13 +84,13 @@ fn close_part<C: Caller>(caller: &mut C) -> Result<(), OutOfHeap>
     ensures closed { OnOk result ((known : KnownObjects) (name : Name) (done doing : List (List ℕ)) → C.knows caller.old known → Tallies (C.standing caller.old) known name done doing → length done + length doing ≤ MOST_WORDS → KnowsPart (C.standing caller.old) known (C.standing caller.new) (C.knows caller.new) name (done ++ doing) doing × Went C.base C.tells C.tells_known C.standing caller.old caller.new (entry_words * length doing) × ((C.standing caller.new).own.made ≤ (C.standing caller.old).own.made + length doing)) }
     ensures out { OnErr result ((known : KnownObjects) (name : Name) (done doing : List (List ℕ)) → C.knows caller.old known → Tallies (C.standing caller.old) known name done doing → length done + length doing ≤ MOST_WORDS → WentOut C.base C.tells C.tells_known C.standing caller.old caller.new (C.standing caller.old).own.depth (entry_words * length doing)) }
 {
-    merge(caller, PART_SLOT, TOTAL_SLOT)?;
+    merge_noting(caller, PART_SLOT, TOTAL_SLOT, notes)?;
     pop(caller);
     Ok(())
 }
 
 /// Counts the words of a task in a table of its own, and adds the counts to those of the total.
-fn count_part<C: Caller>(caller: &mut C, bytes: &[u8]) -> Result<(), OutOfHeap>
+fn count_part<C: Caller>(caller: &mut C, notes: &mut Notes, bytes: &[u8]) -> Result<(), OutOfHeap>
     requires table { HasTally (C.standing caller.old) (C.knows caller.old) (length (words_of bytes.now)) }
     requires short { AreShort (words_of bytes.now) }
     requires names { (C.standing caller.old).own.made + (3 * length (words_of bytes.now) + 1) ≤ MOST_MADE }
@@ -105,11 +105,11 @@ fn count_part<C: Caller>(caller: &mut C, bytes: &[u8]) -> Result<(), OutOfHeap>
 {
     open_part(caller)?;
     count_words(caller, bytes)?;
-    close_part(caller)
+    close_part(caller, notes)
 }
 
 /// Counts the words of a task, in an epoch of its own.
-fn count_epoch<C: Caller>(caller: &mut C, bytes: &[u8]) -> Result<(), OutOfHeap>
+fn count_epoch<C: Caller>(caller: &mut C, notes: &mut Notes, bytes: &[u8]) -> Result<(), OutOfHeap>
     requires table { HasTally (C.standing caller.old) (C.knows caller.old) (length (words_of bytes.now)) }
     requires short { AreShort (words_of bytes.now) }
     requires outside { (C.standing caller.old).own.depth ≡ 0 }
@@ -125,7 +125,7 @@ fn count_epoch<C: Caller>(caller: &mut C, bytes: &[u8]) -> Result<(), OutOfHeap>
     ensures out { OnErr result (WentOut C.base C.tells C.tells_known C.standing caller.old caller.new 1 (table_words + words_room (words_of bytes.now))) }
 {
     begin(caller);
-    count_part(caller, bytes)?;
+    count_part(caller, notes, bytes)?;
     end(caller);
     Ok(())
 }
@@ -173,6 +173,7 @@ fn has_words(bytes: &[u8]) -> bool
 pub(crate) fn count_task<C: Caller>(
     caller: &mut C,
     has_total: bool,
+    notes: &mut Notes,
     bytes: &[u8],
 ) -> Result<bool, OutOfHeap>
     requires progress { HasProgress has_total (C.standing caller.old) (C.knows caller.old) (length (words_of bytes.now)) }
@@ -194,7 +195,7 @@ pub(crate) fn count_task<C: Caller>(
         return Ok(has_total);
     }
     open_total(caller, has_total)?;
-    count_epoch(caller, bytes)?;
+    count_epoch(caller, notes, bytes)?;
     Ok(true)
 }
 
@@ -202,6 +203,7 @@ pub(crate) fn count_task<C: Caller>(
 /// are words.
 pub(crate) fn count_tasks<C: Caller>(
     caller: &mut C,
+    notes: &mut Notes,
     bytes: &[u8],
     tasks: &[Task],
 ) -> Result<bool, OutOfHeap>
@@ -224,6 +226,7 @@ pub(crate) fn count_tasks<C: Caller>(
         has_total = count_task(
             caller,
             has_total,
+            notes,
             &bytes[task.start as usize..task.end as usize],
         )?;
     }

@@ -3,15 +3,15 @@ use Rattle.mutator.specs.Resting.{seats_of}
 use Rattle.group_jobs.proofs.Hired.{hired_count, hired_ready, hired_rest, taken}
 use Rattle.group_jobs.proofs.many.hire.Goals as goal
 
-pub loop-resting-preserved : goal.loop-resting-preserved
-loop-resting-preserved c =
-    let inv = c.loop-resting.invariant in
+pub hired-preserved : goal.hired-preserved
+hired-preserved c =
+    let inv = c.hired.invariant in
     let gate = c.args.heap.now.gate in
     let all = seats_of c.args.resting.items in
-    let resting = c.loop-resting.resting.items in
+    let resting = c.hired.resting.items in
     let left = c.remove-next.new.self.items in
     let next = c.remove-next.result in
-    let team = c.loop-resting.team.items in
+    let team = c.hired.team.items in
     let after = c.put_worker.new.team.items in
     let cut = taken resting left next (search rules) c.remove-next.ensures.value c.remove-next.ensures.items in
     let put = c.in_ok-put_worker.ensures in

@@ -7,12 +7,12 @@ use Rattle.mutator.specs.Resting.{seats_of}
 use Rattle.group_jobs.specs.Workers.{AllReady}
 use Rattle.group_jobs.proofs.many.hire.Given as goal
 
-abbrev pub invariant-loop-resting : goal.invariant-loop-resting
-invariant-loop-resting l = record {
+abbrev pub invariant-hired : goal.invariant-hired
+invariant-hired l = record {
   rest : (j : ℕ) (a : Away) → get_elem? (seats_of l.resting.items) j ≡ some a → get_elem? (seats_of l.fn.resting.items) (length l.team.items + j) ≡ some a;
   count : length l.team.items + length (seats_of l.resting.items) ≡ length (seats_of l.fn.resting.items);
   ready : (bytes : List ℕ) → AllReady l.heap.gate bytes l.team.items;
 }
 
-abbrev pub decreases-loop-resting : goal.decreases-loop-resting
-decreases-loop-resting l = vec_len l.resting
+abbrev pub decreases-hired : goal.decreases-hired
+decreases-hired l = vec_len l.resting
