@@ -17,6 +17,8 @@ use Rattle.yak_model.specs.Graph.{Thread}
 use Rattle.yak_model.specs.Room.{entry_words, key_words}
 use Rattle.yak_model.specs.Tables.{groups}
 use Rattle.heap_tables.specs.Runs.{Ran, RanOut}
+use Rattle.heap_tables.specs.declared.chains.Look.{Look}
+use Rattle.heap_tables.specs.declared.chains.Look.TheVariants as look
 
 -- The word's count has risen, in an entry that was there or in a new one at the front.
 abbrev pub AddsCount : List ℕ → ℕ → List Link → List Link → Type 0
@@ -100,6 +102,12 @@ abbrev pub AddsPresent : KnownObjects → List ℕ → ℕ → Name → (ℕ →
 AddsPresent known word n name buckets said knows =
     (said ≡ true → IsAddedTo known word n name buckets knows × ((m : ℕ) × HasCount word (buckets (bucket_of word)) m))
     × (said ≡ false → LacksWord word (buckets (bucket_of word)) × knows known)
+
+-- The count is raised where the word was found, nothing changes where the chain ended, and all is as it was where it goes on.
+abbrev pub AddsNear : KnownObjects → List ℕ → ℕ → Name → (ℕ → List Link) → Look → (KnownObjects → Type 0) → Type 0
+AddsNear known word n name buckets look.Found knows = IsAddedTo known word n name buckets knows × ((m : ℕ) × HasCount word (buckets (bucket_of word)) m)
+AddsNear known word n name buckets look.End knows = LacksWord word (buckets (bucket_of word)) × knows known
+AddsNear known word n name buckets look.Further knows = knows known
 
 -- A slot refers to a known object of three fields.
 abbrev pub HasBlank : Standing → (KnownObjects → Type 0) → ℕ → Type 0

@@ -15,14 +15,15 @@ ghost use Rattle.yak_model.specs.Texts.{WordCounts};
 ghost use Rattle.heap_tables.specs.Counted.{HasCountTable, MayCount, IsCounted, IsUncounted, HasTableLook, MayLook};
 ghost use Rattle.yak_model.specs.Tables.{bucket_of};
 ghost use Rattle.heap_tables.specs.Walks.{IsEntryInSlot};
+ghost use Rattle.heap_tables.specs.declared.chains.Look.TheVariants as look;
 ghost use Rattle.heap_tables.specs.Asides.{LacksValue, KnowsWithNext, LacksTable};
-ghost use Rattle.heap_tables.specs.Adds.{AddRan, AddRanOut, AddsPresent, HasTable, MakesForNew, MayAdd, MayRaise, with_count, HasBlank, with_fields, with_linked, IsAddedTo, Grows, StayAfter};
+ghost use Rattle.heap_tables.specs.Adds.{AddRan, AddRanOut, AddsNear, AddsPresent, HasTable, MakesForNew, MayAdd, MayRaise, with_count, HasBlank, with_fields, with_linked, IsAddedTo, Grows, StayAfter};
 
-use crate::chains::find;
-use crate::keys::{bucket_of, make_key};
-use crate::steps::{field_int, load, pop, push_new, put_int, stack_size, store};
+use crate::chains::{Look, climb, find};
+use crate::keys::{bucket_of, group, make_key};
+use crate::steps::{field_int, load, pop, pop_all, push_new, put_int, stack_size, store};
 use object_layout::OutOfHeap;
-use yak_model::{BUCKETS, Caller, ENTRY_FIELDS};
+use yak_model::{BUCKETS, Caller, ENTRY_FIELDS, STACK_SLOTS};
 
 /// Raises the count of an entry.
 pub(crate) fn raise<C: Caller>(caller: &mut C, entry: u32, n: u64, top: u32)
@@ -56,8 +57,8 @@ pub fn make<C: Caller>(caller: &mut C) -> Result<(), OutOfHeap>
     push_new(caller, BUCKETS as u32)
 }
 
-/// Adds to the count of a word that is in the table, and tells whether it is.
-pub(crate) fn add_present<C: Caller>(
+/// Adds to the count of a word that is in the table, and tells whether it is. The place of the walk is put into the table for a while.
+fn add_far<C: Caller>(
     caller: &mut C,
     table: u32,
     word: &[u8],
@@ -82,6 +83,70 @@ pub(crate) fn add_present<C: Caller>(
     } else {
         pop(caller);
         false
+    }
+}
+
+/// Whether a look has found the word.
+fn is_found(said: Look) -> bool
+    ensures { IsTrue result ↔ (said ≡ look.Found) }
+{
+    said == Look::Found
+}
+
+/// Adds to the count of a word that is among the first entries of its chain, as many as the stack has room for. Tells whether it is
+/// there, or further, or nowhere.
+fn add_near<C: Caller>(
+    caller: &mut C,
+    table: u32,
+    bucket: u32,
+    word: &[u8],
+    n: u64,
+    top: u32,
+) -> Look
+    requires table { HasTable (C.standing caller.old) (C.knows caller.old) table word.now n }
+    requires bucket { bucket ≡ bucket_of word.now }
+    requires word { length word.now ≤ KEY_BYTES }
+    requires room { length (stack_in (C.standing caller.old)) + FREE_SLOTS ≤ STACK_SLOTS }
+    requires top { length (stack_in (C.standing caller.old)) ≡ top }
+    ensures ran { Ran C.base C.tells C.tells_known C.standing caller.old caller.new 0 }
+    ensures own { (C.standing caller.new).own ≡ (C.standing caller.old).own }
+    ensures added { (known : KnownObjects) (name : Name) (heads : List Datum) (buckets : ℕ → List Link) → C.knows caller.old known → MayAdd (C.standing caller.old) known table word.now n name heads buckets → AddsNear known word.now n name buckets result (C.knows caller.new) }
+    ensures aside { (known : KnownObjects) (name : Name) (heads : List Datum) (buckets : ℕ → List Link) (other : KnownObjects) → C.knows caller.old known → MayAdd (C.standing caller.old) known table word.now n name heads buckets → C.knows caller.old other → LacksTable other name buckets → C.knows caller.new other }
+{
+    load(caller, table, bucket);
+    let looks = STACK_SLOTS as u32 - (top + 3);
+    let (said, passed) = climb(caller, word, group(word, 0), top, looks);
+    if !is_found(said) {
+        pop_all(caller, passed + 1);
+        return said;
+    }
+    raise(caller, top + passed, n, top + passed + 1);
+    pop_all(caller, passed + 1);
+    Look::Found
+}
+
+/// Adds to the count of a word that is in the table, and tells whether it is.
+pub(crate) fn add_present<C: Caller>(
+    caller: &mut C,
+    table: u32,
+    word: &[u8],
+    n: u64,
+    top: u32,
+) -> bool
+    requires table { HasTable (C.standing caller.old) (C.knows caller.old) table word.now n }
+    requires word { length word.now ≤ KEY_BYTES }
+    requires room { length (stack_in (C.standing caller.old)) + FREE_SLOTS ≤ STACK_SLOTS }
+    requires top { length (stack_in (C.standing caller.old)) ≡ top }
+    ensures ran { Ran C.base C.tells C.tells_known C.standing caller.old caller.new 0 }
+    ensures own { (C.standing caller.new).own ≡ (C.standing caller.old).own }
+    ensures added { (known : KnownObjects) (name : Name) (heads : List Datum) (buckets : ℕ → List Link) → C.knows caller.old known → MayAdd (C.standing caller.old) known table word.now n name heads buckets → AddsPresent known word.now n name buckets result (C.knows caller.new) }
+    ensures aside { (known : KnownObjects) (name : Name) (heads : List Datum) (buckets : ℕ → List Link) (other : KnownObjects) → C.knows caller.old known → MayAdd (C.standing caller.old) known table word.now n name heads buckets → C.knows caller.old other → LacksTable other name buckets → C.knows caller.new other }
+{
+    let bucket = bucket_of(word);
+    match add_near(caller, table, bucket, word, n, top) {
+        Look::Found => true,
+        Look::End => false,
+        Look::Further => add_far(caller, table, word, n, top),
     }
 }
 
