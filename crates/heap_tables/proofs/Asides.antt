@@ -7,7 +7,7 @@ use Rattle.yak_model.specs.declared.datum.Datum.TheVariants as datum
 use Rattle.yak_model.specs.Graph.{Content, Fields, fields_or_none}
 use Rattle.yak_model.specs.Private.{GivesAway, IsKnown, KnownObjects, LosesAll, RefersKnown}
 use Rattle.yak_model.specs.Spaces.{Walk, here, onward}
-use Rattle.yak_model.specs.Tables.{IsChain, IsEntry, LacksWord, Link, groups}
+use Rattle.yak_model.specs.Tables.{IsChain, LacksWord, Link, groups}
 use Rattle.yak_model.specs.declared.TheConstants.{BUCKETS}
 use Rattle.heap_tables.specs.Adds.{AddsCount, with_bucket, with_fields}
 use Rattle.heap_tables.specs.Keys.{IsKeyBegun}

@@ -114,9 +114,11 @@ laid_kept own links n m after last fewer laid e =
     let long = firsts_length links n in
     let short = firsts_length links m in
     let less : length (own.stack ++ firsts links n) - d ≡ length (own.stack ++ firsts links m) = omega (arith, all, part, long, short, fewer) in
-    let few = laid.0 in
-    (omega (arith, few, fewer), e ∙ ap (λ o. without_top o d) laid.1
-        ∙ ap (λ (vs : List Datum). record own { stack = vs }) (ap (λ k. take k (own.stack ++ firsts links n)) less ∙ ap (take (length (own.stack ++ firsts links m))) st ∙ take-append_seam (own.stack ++ firsts links m) r.0))
+    let few = laid.0 in (
+      omega (arith, few, fewer),
+      e ∙ ap (λ o. without_top o d) laid.1
+          ∙ ap (λ (vs : List Datum). record own { stack = vs }) (ap (λ k. take k (own.stack ++ firsts links n)) less ∙ ap (take (length (own.stack ++ firsts links m))) st ∙ take-append_seam (own.stack ++ firsts links m) r.0),
+    )
 
 -- ---- the chain
 

@@ -1,6 +1,6 @@
 -- Ways to a place in a chain.
-use Rattle.std.proofs.Common.{zero, suc, ◌≡◌, ◌≢◌, ℕ, ◌+◌, ◌<◌, ◌≤◌, true, false, List, [], ◌∷◌, get_or, set, drop, refl, ◌∙◌, ap, sym, subst, true≢false, length, Some, None, arith, length-set, get_or-set_same}
-use Rattle.std.specs.FinMap.{get, insert}
+use Rattle.std.proofs.Common.{◌⊎◌, inl, inr, zero, suc, ◌≡◌, ◌≢◌, ℕ, ◌+◌, ◌<◌, ◌≤◌, List, [], ◌∷◌, get_or, set, drop, refl, ◌∙◌, ap, sym, subst, length, Some, None, arith, length-set, get_or-set_same}
+use Rattle.std.specs.FinMap.{get}
 use Rattle.object_layout.specs.declared.names.Name.{Name}
 use Rattle.yak_model.specs.declared.datum.Datum.{Datum}
 use Rattle.yak_model.specs.declared.datum.Datum.TheVariants as datum
@@ -15,7 +15,7 @@ use Rattle.heap_tables.specs.Reads.{AreShort, IsCopied, Took}
 use Rattle.heap_tables.specs.Seeks.{IsSkipped, first_of}
 use Rattle.heap_tables.specs.Runs.{pushed}
 use Rattle.heap_tables.proofs.Effects.{size_after, slot_after, slot_below, top_after}
-use Rattle.heap_tables.proofs.Places.{place_again, place_same}
+use Rattle.heap_tables.proofs.Places.{place_same}
 
 drop_suc : {A : Type 0} (n : ℕ) (xs rest : List A) (x : A) → drop n xs ≡ x ∷ rest → drop (suc n) xs ≡ rest
 drop_suc zero [] rest x e = cc
@@ -112,6 +112,36 @@ short_first zero [] rest link short e = cc
 short_first zero (l ∷ links) rest link short e = let q : l ≡ link = cc in subst (λ (m : Link). length m.word ≤ KEY_BYTES) q short.0
 short_first (suc n) [] rest link short e = cc
 short_first (suc n) (l ∷ links) rest link short e = short_first n links rest link short.1 e
+
+pub short_drop : (n : ℕ) (links : List Link) → AreShort links → AreShort (drop n links)
+short_drop zero [] short = short
+short_drop zero (l ∷ links) short = short
+short_drop (suc n) [] short = short
+short_drop (suc n) (l ∷ links) short = short_drop n links short.1
+
+-- a place that is past the end, or was come to
+all_dropped : (n : ℕ) (links : List Link) → length links ≡ n → drop n links ≡ []
+all_dropped zero [] e = refl
+all_dropped zero (l ∷ links) e = absurd (omega (arith, e))
+all_dropped (suc n) [] e = refl
+all_dropped (suc n) (l ∷ links) e = all_dropped n links (omega (arith, e))
+
+pub drop_reached : (n m : ℕ) (links : List Link) → n ≤ m → (n < m → length links ≡ n) → drop n links ≡ drop m links
+drop_reached n m links few end = elim (le_cases n m few) [
+  | inl less ↦ let none = all_dropped n links (end less) in none ∙ sym (drop_past n m links none few)
+  | inr same ↦ ap (λ k. drop k links) same
+]
+  where
+    le_cases : (n m : ℕ) → n ≤ m → (n < m) ⊎ (n ≡ m)
+    le_cases zero zero h = inr refl
+    le_cases zero (suc m) h = inl (omega arith)
+    le_cases (suc n) zero h = absurd (omega (arith, h))
+    le_cases (suc n) (suc m) h = elim (le_cases n m (omega (arith, h))) [ inl less ↦ inl (omega (arith, less)) | inr same ↦ inr (ap suc same) ]
+
+pub first_of_links : (known : KnownObjects) (head : Datum) (links : List Link) → IsChain known head links → head ≢ datum.Null
+    → (link : Link) × (rest : List Link) × (next : Datum) × (links ≡ link ∷ rest) × (head ≡ datum.Object link.entry) × IsEntry known next link
+first_of_links known head [] chain null = absurd (null chain)
+first_of_links known head (link ∷ links) chain null = (link, links, chain.1.0, refl, chain.0, chain.1.1)
 
 pub took_none : (ls : List Link) (buffer : List ℕ) → first_of ls ≡ datum.Null → Took ls None buffer
 took_none [] buffer e = refl

@@ -4,9 +4,10 @@ use Rattle.object_layout.specs.declared.names.Name.{Name}
 use Rattle.yak_model.specs.declared.datum.Datum.{Datum}
 use Rattle.yak_model.specs.Private.{KnownObjects}
 use Rattle.yak_model.specs.Standing.{Standing}
-use Rattle.yak_model.specs.Tables.{Link}
+use Rattle.yak_model.specs.Tables.{IsChain, Link}
 use Rattle.heap_tables.specs.declared.TheConstants.{KEY_BYTES}
 use Rattle.heap_tables.specs.Keys.{IsKeyInSlot}
+use Rattle.heap_tables.specs.Runs.{slot_in}
 use Rattle.heap_tables.specs.Walks.{IsApart, IsAtChain, IsEntryInSlot}
 
 -- The keys of the links' words fit pages.
@@ -26,6 +27,10 @@ HasKeyByte s knows i n =
 abbrev pub HasShortEntry : Standing → (KnownObjects → Type 0) → ℕ → Type 0
 HasShortEntry s knows i =
     (known : KnownObjects) × (next : Datum) × (link : Link) × knows known × IsEntryInSlot s known i next link × (length link.word ≤ KEY_BYTES)
+
+-- A slot has the first of a chain of such words.
+abbrev pub HasShortLinks : Standing → (KnownObjects → Type 0) → ℕ → Type 0
+HasShortLinks s knows i = (known : KnownObjects) × (links : List Link) × knows known × IsChain known (slot_in s i) links × AreShort links
 
 -- A slot refers to a table one of whose chains has such words alone.
 abbrev pub HasShortWalk : Standing → (KnownObjects → Type 0) → ℕ → ℕ → Type 0

@@ -1,11 +1,10 @@
 -- What is left in a table on the way to a place in one of its chains.
-use Rattle.std.specs.Prelude.{◌≡◌, ℕ, Bool, true, false, List, [], ◌∷◌}
+use Rattle.std.specs.Prelude.{ℕ, List, [], ◌∷◌}
 use Rattle.object_layout.specs.declared.names.Name.{Name}
 use Rattle.yak_model.specs.declared.datum.Datum.{Datum}
 use Rattle.yak_model.specs.declared.datum.Datum.TheVariants as datum
 use Rattle.yak_model.specs.Private.{KnownObjects}
-use Rattle.yak_model.specs.Tables.{Link, IsChain, IsEntry}
-use Rattle.heap_tables.specs.Runs.{with_field}
+use Rattle.yak_model.specs.Tables.{Link, IsChain}
 use Rattle.heap_tables.specs.Walks.{with_place}
 
 -- a reference to the first entry of the links, null if there is none

@@ -50,7 +50,13 @@ fn look_once<C: Caller>(caller: &mut C, word: &[u8], first: u64, at: u32) -> Loo
 
 /// Looks at entries of the chain in the top slot, each on top of the one before, as far as there are more, and at so many at
 /// most. Gives how many were passed.
-pub(crate) fn climb<C: Caller>(caller: &mut C, word: &[u8], first: u64, at: u32, looks: u32) -> (Look, u32)
+pub(crate) fn climb<C: Caller>(
+    caller: &mut C,
+    word: &[u8],
+    first: u64,
+    at: u32,
+    looks: u32,
+) -> (Look, u32)
     requires chain { HasLinks (C.standing caller.old) (C.knows caller.old) at }
     requires word { length word.now ≤ KEY_BYTES }
     requires first { first ≡ group word.now 0 }

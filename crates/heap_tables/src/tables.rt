@@ -58,13 +58,7 @@ pub fn make<C: Caller>(caller: &mut C) -> Result<(), OutOfHeap>
 }
 
 /// Adds to the count of a word that is in the table, and tells whether it is. The place of the walk is put into the table for a while.
-fn add_far<C: Caller>(
-    caller: &mut C,
-    table: u32,
-    word: &[u8],
-    n: u64,
-    top: u32,
-) -> bool
+fn add_far<C: Caller>(caller: &mut C, table: u32, word: &[u8], n: u64, top: u32) -> bool
     requires table { HasTable (C.standing caller.old) (C.knows caller.old) table word.now n }
     requires word { length word.now ≤ KEY_BYTES }
     requires room { length (stack_in (C.standing caller.old)) + FREE_SLOTS ≤ STACK_SLOTS }

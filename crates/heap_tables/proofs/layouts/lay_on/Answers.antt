@@ -1,5 +1,4 @@
-use Rattle.std.proofs.Common.{◌≡◌, ◌+◌, ◌<◌, ◌∙◌, sym, subst, arith, drop, length, true≢false}
-use Rattle.yak_model.specs.declared.datum.Datum.TheVariants as datum
+use Rattle.std.proofs.Common.{◌≡◌, ◌∙◌, sym, subst, arith, drop, true≢false}
 use Rattle.yak_model.specs.Tables.{entry_fields}
 use Rattle.heap_tables.specs.Layouts.{IsLaid}
 use Rattle.heap_tables.proofs.Laid.{all_passed, laid_chain, laid_next, laid_size, lays_end, lays_more, lays_none}
@@ -30,9 +29,9 @@ returns-then-not-try_load-clause-laid g c known own links k chain first size =
     let laid = inv.laid known own links k chain first size in
     let there = laid_chain known own links chain n c.args.at before laid size n (omega arith) in
     let end = lays_end before _ known _ (drop n links) there (λ null. (c.if-not-try_load.ensures.null null).1)
-      (λ next link head entry. true≢false (sym (c.if-not-try_load.ensures.pushed known link.entry (entry_fields next link.key link.count) (inv.keeps known k) (head, entry.0) (omega arith)).0)) in
+    (λ next link head entry. true≢false (sym (c.if-not-try_load.ensures.pushed known link.entry (entry_fields next link.key link.count) (inv.keeps known k) (head, entry.0) (omega arith)).0)) in
     let none = lays_none known _ (drop n links) there
-      (λ next link head entry. true≢false (sym (c.if-not-try_load.ensures.pushed known link.entry (entry_fields next link.key link.count) (inv.keeps known k) (head, entry.0) (omega arith)).0)) in
+    (λ next link head entry. true≢false (sym (c.if-not-try_load.ensures.pushed known link.entry (entry_fields next link.key link.count) (inv.keeps known k) (head, entry.0) (omega arith)).0)) in
     ((laid.0, end ∙ laid.1), λ fewer. all_passed n links laid.0 none)
 
 pub loop-n-preserved : goal.loop-n-preserved
@@ -46,7 +45,7 @@ loop-n-preserved g c = let C = g.C.Caller in record {
       let laid = inv.laid known own links k chain first size in
       let there = laid_chain known own links chain n c.args.at before laid size n (omega arith) in
       let next = lays_more before (C.standing c.try_load.new.caller).own known _ (drop n links) there (λ null. true≢false (c.if-not-try_load.ensures.null null).0)
-        (λ next link head entry. (c.if-not-try_load.ensures.pushed known link.entry (entry_fields next link.key link.count) (inv.keeps known k) (head, entry.0) (omega arith)).1) in
+      (λ next link head entry. (c.if-not-try_load.ensures.pushed known link.entry (entry_fields next link.key link.count) (inv.keeps known k) (head, entry.0) (omega arith)).1) in
       laid_next own links n before (C.standing c.try_load.new.caller).own laid next;
 }
 

@@ -1,4 +1,4 @@
-use Rattle.std.proofs.Common.{sym, set}
+use Rattle.std.proofs.Common.{set}
 use Rattle.yak_model.specs.declared.datum.Datum.TheVariants as datum
 use Rattle.heap_tables.specs.Runs.{slot_in}
 use Rattle.heap_tables.specs.Walks.{with_place}

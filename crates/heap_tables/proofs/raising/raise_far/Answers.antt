@@ -1,4 +1,4 @@
-use Rattle.std.proofs.Common.{◌+◌, ◌∙◌, arith}
+use Rattle.std.proofs.Common.{◌∙◌, arith}
 use Rattle.yak_model.specs.Tables.{bucket_of}
 use Rattle.heap_tables.proofs.Laid.{laid_below, laid_size}
 use Rattle.heap_tables.proofs.LaidTables.{may_first, may_now}

@@ -1,4 +1,4 @@
-use Rattle.std.proofs.Common.{◌≡◌, ◌+◌, ◌<◌, ◌≤◌, ◌∙◌, List, [], ◌∷◌, inl, inr, ap, sym, refl, arith, drop, get_or, length}
+use Rattle.std.proofs.Common.{◌≡◌, ◌+◌, ◌<◌, ◌∙◌, List, [], ◌∷◌, inl, inr, ap, sym, refl, arith, drop, get_or, length}
 use Rattle.yak_model.specs.Graph.{Thread}
 use Rattle.yak_model.specs.Tables.{Link}
 use Rattle.yak_model.specs.declared.datum.Datum.TheVariants as datum
@@ -203,18 +203,17 @@ returns-clause-passed g c known name values links k at apart =
     let kept = c.lay_on-passed.ensures.keeps known (c.load.ensures.keeps known k) in
     let place = slot_in now (c.args.top + passed) in
     let there = laid_chain known s.own links first passed c.args.top now.own on.0 c.requires.top passed (omega arith) in
-    let stored = c.store.ensures.stored known name values kept (slot, at.0.1) at.1 in
-    (
+    let stored = c.store.ensures.stored known name values kept (slot, at.0.1) at.1 in (
       record {
         place = place;
         chain = chain_agrees known _ name (insert_agrees known name _) (drop passed links) place (apart_drop name passed links apart) there;
         known_now = c.pop_all.ensures.keeps _ stored;
       },
       λ none some.
-      let room = c.requires.room in
-      let top = c.requires.top in
-      let fewer : passed < c.smaller-most.result = elim c.smaller-most.ensures.one [ inl e ↦ omega (arith, none, some, e) | inr e ↦ omega (arith, none, e, room, top) ] in
-      none_of links (on.1 fewer ∙ none),
+          let room = c.requires.room in
+          let top = c.requires.top in
+          let fewer : passed < c.smaller-most.result = elim c.smaller-most.ensures.one [ inl e ↦ omega (arith, none, some, e) | inr e ↦ omega (arith, none, e, room, top) ] in
+          none_of links (on.1 fewer ∙ none),
     )
 
 pub returns-clause-aside : goal.returns-clause-aside

@@ -1,4 +1,4 @@
-use Rattle.std.proofs.Common.{◌≡◌, ◌+◌, ◌-◌, ◌<◌, ◌≤◌, ◌∙◌, ℕ, zero, suc, List, [], ◌∷◌, ap, sym, subst, refl, arith, length, set, drop, drop-drop}
+use Rattle.std.proofs.Common.{◌≡◌, ◌+◌, ◌-◌, ◌∙◌, ℕ, zero, suc, List, [], ◌∷◌, ap, sym, subst, refl, arith, length, set, drop, drop-drop}
 use Rattle.yak_model.specs.Graph.{Thread}
 use Rattle.yak_model.specs.Tables.{Link}
 use Rattle.heap_tables.specs.Seeks.{IsSkipped}
@@ -38,8 +38,7 @@ leap-passed-requires-clause-chain g c =
     let p = c.loop-turn.invariant.place h.0 h.1 h.2 h.3 h.4 h.5 h.6 in
     let own = c.loop-turn.invariant.own in
     let rest = drop (c.args.n - c.loop-turn.left) h.3 in
-    let short = drop_length (c.args.n - c.loop-turn.left) h.3 in
-    (
+    let short = drop_length (c.args.n - c.loop-turn.left) h.3 in (
       with_place h.0 h.1 h.2 c.args.bucket p.place,
       h.1,
       set h.2 c.args.bucket p.place,

@@ -1,4 +1,4 @@
-use Rattle.std.proofs.Common.{◌≡◌, ◌+◌, ◌<◌, ◌∙◌, ◌++◌, ◌∷◌, ap, sym, subst, refl, arith, length, get_or, true≢false}
+use Rattle.std.proofs.Common.{◌+◌, ◌<◌, ◌∙◌, ◌++◌, ◌∷◌, ap, sym, subst, refl, arith, length, get_or, true≢false}
 use Rattle.yak_model.specs.Graph.{Thread}
 use Rattle.yak_model.specs.declared.datum.Datum.TheVariants as datum
 use Rattle.yak_model.specs.Tables.{HasCount, IsChain, bucket_of}
@@ -461,8 +461,7 @@ returns-clause-added g c known name heads buckets k may =
     let size = climbed_size mid known word links c.args.top _ _ _ up in
     let kept = c.climb-said.ensures.keeps known (c.load.ensures.keeps known k) in
     let f = near_found mid known word links c.args.top _ _ _ up (c.if-not-is_found.ensures.0 refl) in
-    let lifted = c.raise.ensures.raised known f.2 f.0 kept (f.5, f.6) in
-    (
+    let lifted = c.raise.ensures.raised known f.2 f.0 kept (f.5, f.6) in (
       raised_table known name heads buckets t word c.args.n small up.passed f.1 f.0 f.3 f.4 f.2 f.6 (C.knows c.pop_all-2.new.caller) (c.pop_all-2.ensures.keeps _ lifted),
       ((f.0).count, subst (λ ls. HasCount word ls (f.0).count) (sym f.3) (has_count_at word up.passed f.1 f.0 up.lacks f.4)),
     )
