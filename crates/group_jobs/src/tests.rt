@@ -237,13 +237,12 @@ fn may_count(pages: u32, workers: u8, bytes: &[u8]) -> bool
 fn count_shared<R: Threads + Wait + Sync, B: Brake + Sync>(
     rt: &R,
     alloc: Global,
-    text: &str,
+    bytes: &[u8],
     pages: u32,
     workers: u8,
     fed: bool,
     brake: &B,
 ) -> Option<Vec<Counted>> {
-    let bytes = text.as_bytes();
     if !may_count(pages, workers, bytes) {
         return None;
     }
@@ -280,7 +279,8 @@ fn counts_texts_by_workers(rt: HostRuntime) -> Result<(), Fail> {
             (3, true),
             (8, true),
         ] {
-            let Some(list) = count_shared(&rt, alloc, text, 64, workers, fed, &NoBrake) else {
+            let Some(list) = count_shared(&rt, alloc, text.as_bytes(), 64, workers, fed, &NoBrake)
+            else {
                 panic!(rt; "no counts");
             };
             match print_counts(alloc, &list) {
@@ -290,6 +290,47 @@ fn counts_texts_by_workers(rt: HostRuntime) -> Result<(), Fail> {
                 Err(error) => panic!(rt; "no text: {error}"),
             }
         }
+    }
+    Ok(())
+}
+
+#[test]
+fn finds_words_far_back_in_a_chain(rt: HostRuntime) -> Result<(), Fail> {
+    let alloc = rt.alloc();
+    let letters = b"abcdefghijklmnopqrstuvwxyz";
+    let mut lines = Vec::new(alloc);
+    let mut want = Vec::new(alloc);
+    for a in letters {
+        for b in letters {
+            for c in letters {
+                // words of one bucket, more than the stack has room for
+                if (961 * u32::from(*a) + 31 * u32::from(*b) + u32::from(*c)) % 128 == 7 {
+                    lines.extend_from_slice(&[*a, *b, *c, b'\n'])?;
+                    want.extend_from_slice(&[b'3', b' ', *a, *b, *c, b'\n'])?;
+                }
+            }
+        }
+    }
+    let mut text = Vec::new(alloc);
+    for _ in 0..3 {
+        text.extend_from_slice(&lines)?;
+    }
+    if !may_count(64, 1, &text) {
+        panic!(rt; "no such count");
+    }
+    match count_one(alloc, 64, 16, &text) {
+        Ok(counted) => match print_counts(alloc, &counted.list) {
+            Ok(told) => assert_eq!(rt; told.as_slice(), want.as_slice()),
+            Err(error) => panic!(rt; "no text: {error}"),
+        },
+        Err(_) => panic!(rt; "no counts"),
+    }
+    let Some(list) = count_shared(&rt, alloc, &text, 64, 2, true, &NoBrake) else {
+        panic!(rt; "no counts");
+    };
+    match print_counts(alloc, &list) {
+        Ok(told) => assert_eq!(rt; told.as_slice(), want.as_slice()),
+        Err(error) => panic!(rt; "no text: {error}"),
     }
     Ok(())
 }
@@ -347,7 +388,7 @@ fn two_workers_meet(rt: HostRuntime) -> Result<(), Fail> {
             second: AtomicU64::new(0),
             missed: AtomicU64::new(0),
         };
-        let text = "the cat saw the dog\nthe dog ran\n";
+        let text = b"the cat saw the dog\nthe dog ran\n";
         let Some(list) = count_shared(&rt, alloc, text, 64, 2, fed, &brake) else {
             panic!(rt; "no counts");
         };
