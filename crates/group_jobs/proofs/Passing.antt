@@ -16,6 +16,14 @@ pub words_cat : (bytes : List ℕ) (xs ys : List Task) → words_in bytes (xs ++
 words_cat bytes [] ys = refl
 words_cat bytes (x ∷ xs) ys = ap (λ ws. words_of (task_bytes bytes x) ++ ws) (words_cat bytes xs ys) ∙ sym (append_assoc (words_of (task_bytes bytes x)) (words_in bytes xs) (words_in bytes ys))
 
+pub front_none : (xs ys : List (List ℕ)) → xs ++ ys ≡ [] → xs ≡ []
+front_none [] ys e = refl
+front_none (x ∷ xs) ys e = cc
+
+pub back_none : (xs ys : List (List ℕ)) → xs ++ ys ≡ [] → ys ≡ []
+back_none [] ys e = e
+back_none (x ∷ xs) ys e = cc
+
 pub words_one : (bytes : List ℕ) (x : Task) → words_in bytes (x ∷ []) ≡ words_of (task_bytes bytes x)
 words_one bytes x = append-nil (words_of (task_bytes bytes x))
 

@@ -1,5 +1,5 @@
 -- Where a worker found no room, the heap is no greater than what all workers may fill.
-use Rattle.std.proofs.Common.{◌≡◌, ◌⊎◌, inl, inr, ℕ, zero, suc, ◌+◌, ◌*◌, ◌-◌, ◌≤◌, ◌<◌, List, [], ◌∷◌, ◌++◌, map, length, get_or, refl, sym, ap, ◌∙◌, subst, arith}
+use Rattle.std.proofs.Common.{◌≡◌, ◌⊎◌, inl, inr, ℕ, zero, suc, ◌+◌, ◌*◌, ◌-◌, ◌≤◌, ◌<◌, All, List, [], ◌∷◌, ◌++◌, map, length, get_or, refl, sym, ap, ◌∙◌, subst, arith}
 use Rattle.std.proofs.Math.Nat.{mul-le-mul_left}
 use Rattle.std.proofs.lemmas.List.{append-nil}
 use Rattle.std.proofs.lemmas.List.FromFn.{length-range_with_len}
@@ -10,7 +10,8 @@ use Rattle.object_layout.specs.declared.replies.Census.{Census}
 use Rattle.object_layout.specs.declared.replies.Reply.TheVariants as reply
 use Rattle.heap_words.specs.declared.map.Areas.{Areas}
 use Rattle.heap_words.specs.Map.{page_words}
-use Rattle.task_feed.specs.Dealt.{IsDealt}
+use Rattle.task_feed.specs.Dealt.{IsAscending, IsDealt}
+use Rattle.task_feed.proofs.Sums.{dealt_within}
 use Rattle.yak_model.specs.declared.history.Entry.{Entry}
 use Rattle.yak_model.specs.declared.history.Entry.TheVariants.{Said}
 use Rattle.yak_model.specs.Graph.{Limits, Thread, idle, standard_limits}
@@ -43,6 +44,8 @@ use Rattle.group_jobs.proofs.Grown.{bounds_cat}
 use Rattle.group_jobs.proofs.Parted.{IsParted, parted_from}
 use Rattle.group_jobs.proofs.PartSums.{history_threads, part_cat, part_within, parts_sum}
 use Rattle.group_jobs.proofs.Weighing.{history_weighs}
+use Rattle.group_jobs.proofs.ShareRows.{row_some}
+use Rattle.group_jobs.proofs.Totals.{have_at}
 use Rattle.group_jobs.proofs.WorkerCalls.{worker_halted, worker_refused, worker_room}
 
 -- ---- a thread's depth at any point
@@ -202,6 +205,8 @@ module _ (gate : Gate) (bytes : List ℕ) (lines : ℕ) (tasks : List Task) (row
   ran_out size same census some =
       let found = worker_refused gate bytes tasks row workers counted seats long are v finishes census some in
       let k : ℕ = found.1.0 in
+      let lt = found.1.1 in
+      let here : k < v.map.threads = omega (arith, lt, full) in
       let asked : ℕ = found.1.2.0 in (
         found.0,
         record {
@@ -212,6 +217,8 @@ module _ (gate : Gate) (bytes : List ℕ) (lines : ℕ) (tasks : List Task) (row
           within = let threads = ap (λ (m : Areas). m.threads) same in let lt = found.1.1 in omega arith;
           asked = asked;
           refused = found.1.2.1;
+          some = row_some bytes lines tasks (row k) cut (have_at (λ (r : List ℕ). IsAscending r) row v.map.threads k here dealt.ascending)
+              (have_at (λ (r : List ℕ). All (λ task. task < length tasks) r) row v.map.threads k here (dealt_within (length tasks) (map row (range_with_len 0 v.map.threads)) left dealt)) found.1.3;
           tasks = tasks;
           cut = cut;
           room = subst (λ (m : Areas). page_words m * m.pages ≤ 2 * most_room m.threads (busy_tasks bytes tasks) (words_of bytes) + page_words m * (m.threads + 1)) same (room_shared k asked found.1.2.1);

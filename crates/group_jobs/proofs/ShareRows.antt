@@ -96,6 +96,19 @@ small_row bytes lines tasks row are ascending below small =
     let few = small.1 in
     (row_short bytes tasks row (subst AreShort (sym (words_of_tasks bytes lines tasks are)) small.0), omega arith)
 
+-- where a row has a word, the text has one
+pub row_some : (bytes : List ℕ) (lines : ℕ) (tasks : List Task) (row : List ℕ) → AreTasks bytes lines tasks → IsAscending row → All (λ task. task < length tasks) row → words_at bytes tasks row ≢ [] → words_of bytes ≢ []
+row_some bytes lines tasks row are ascending below some none =
+    let sizes = row_words_within (λ (word : List ℕ). 1) bytes lines tasks row are ascending below in
+    let one = size_is (words_at bytes tasks row) in
+    let all = size_is (words_of bytes) in
+    let nothing = ap length none in
+    some (empty (words_at bytes tasks row) (omega (arith, sizes, one, all, nothing)))
+  where
+    empty : (words : List (List ℕ)) → length words ≡ 0 → words ≡ []
+    empty [] e = refl
+    empty (word ∷ words) e = absurd (omega (arith, e))
+
 -- each of the tasks is a part of the text
 pub task_within : (bytes : List ℕ) (lines : ℕ) (tasks : List Task) (i : ℕ) (d : Task) → AreTasks bytes lines tasks → i < length tasks → ((get_or tasks i d).start ≤ (get_or tasks i d).end) × ((get_or tasks i d).end ≤ length bytes)
 task_within bytes lines tasks i d are lt = from 0 tasks i are lt

@@ -31,7 +31,7 @@ use Rattle.group_jobs.specs.declared.tasks.Task.{Task}
 use Rattle.group_jobs.specs.declared.TheConstants.{MOST_WORDS, OBJECTS_FOR_WORD}
 use Rattle.group_jobs.proofs.Following.{goes_further}
 use Rattle.group_jobs.proofs.Grown.{bounds_cat}
-use Rattle.group_jobs.proofs.Passing.{busy_cat, rooms_cat, rooms_one, words_cat, words_one}
+use Rattle.group_jobs.proofs.Passing.{back_none, busy_cat, front_none, rooms_cat, rooms_one, words_cat, words_one}
 use Rattle.group_jobs.proofs.Rooms.{all_right}
 
 -- ---- epochs
@@ -219,7 +219,7 @@ module _ (gate : Gate) (t : ℕ) (bytes : List ℕ) (tasks : List Task) (w after
           room = subst (λ (l : List Own). made_in (first_calls l) ≤ table_words + tasks_room bytes (tasks ++ task ∷ [])) (sym own_now) (let a = more.room in let b = total_at_most has in omega arith);
           halted = (length (tasks ++ task ∷ []), inl (subst (λ (l : List Own). AreEpochs t (length (tasks ++ task ∷ [])) (bounds_in (first_calls l))) (sym own_now) more.epochs));
           going = λ _. subst (λ (x : List Own × Bool). IsGoing gate.map.threads t bytes (tasks ++ task ∷ []) x.0 x.1) (λ i. (sym own_now i, sym has_is i)) more;
-          refused = subst (λ (o : Option Census). ForSome o (λ census. (census.free ≡ 0) × HasRefused t (first_calls (own_of after.resting)))) (sym (refused ∙ unrefused)) (none_some (λ census. (census.free ≡ 0) × HasRefused t (first_calls (own_of after.resting))));
+          refused = subst (λ (o : Option Census). ForSome o (λ census. (census.free ≡ 0) × HasRefused t (first_calls (own_of after.resting)) × (words_in bytes (tasks ++ task ∷ []) ≢ []))) (sym (refused ∙ unrefused)) (none_some (λ census. (census.free ≡ 0) × HasRefused t (first_calls (own_of after.resting)) × (words_in bytes (tasks ++ task ∷ []) ≢ [])));
         }
 
     -- there was none
@@ -236,7 +236,7 @@ module _ (gate : Gate) (t : ℕ) (bytes : List ℕ) (tasks : List Task) (w after
             (subst (λ u. AreHalted u (length tasks) (bounds_in (first_calls now))) first_is (halts.bounds (length tasks) (subst (λ u. AreEpochs u (length tasks) (bounds_in (first_calls was))) (sym first_is) going.epochs))),
       );
       going = λ none. absurd (true≢false (ap is_some (sym refused ∙ none)));
-      refused = λ c e. (ap (λ (x : Census). x.free) (some_same c census (sym e ∙ refused)) ∙ none_free, subst (λ (l : List Own). HasRefused t (first_calls l)) (sym own_now) (subst (λ u. HasRefused u (first_calls now)) first_is halts.refused));
+      refused = λ c e. (ap (λ (x : Census). x.free) (some_same c census (sym e ∙ refused)) ∙ none_free, subst (λ (l : List Own). HasRefused t (first_calls l)) (sym own_now) (subst (λ u. HasRefused u (first_calls now)) first_is halts.refused), λ none. halts.busy (back_none (words_in bytes tasks) words (sym (more_words bytes tasks task) ∙ none)));
     }
       where
         some_same : (a b : Census) → Some a ≡ Some b → a ≡ b
@@ -275,5 +275,5 @@ skipped gate t bytes tasks more w stopped had = record {
   room = let a = had.room in let room = rooms_cat bytes tasks more in omega arith;
   halted = had.halted;
   going = λ none. absurd (stopped none);
-  refused = had.refused;
+  refused = λ census e. let r = had.refused census e in (r.0, r.1, λ none. r.2 (front_none (words_in bytes tasks) (words_in bytes more) (sym (words_cat bytes tasks more) ∙ none)));
 }

@@ -113,7 +113,7 @@ parts_few words list word parts = elim (has_count list word) as (λ b. has_count
 -- ---- rows by the numbers of workers
 
 -- what holds of all rows holds of each
-have_at : (P : List ℕ → Type 0) (row : ℕ → List ℕ) (n k : ℕ) → k < n → All P (map row (range_with_len 0 n)) → P (row k)
+pub have_at : (P : List ℕ → Type 0) (row : ℕ → List ℕ) (n k : ℕ) → k < n → All P (map row (range_with_len 0 n)) → P (row k)
 have_at P row n k lt all = subst (λ z. P (row z)) (zero-add k) (from 0 n k lt all)
   where
     from : (start size j : ℕ) → j < size → All P (map row (range_with_len start size)) → P (row (start + j))

@@ -1,5 +1,5 @@
 -- The own lists of workers that have rested are the parts of the one history.
-use Rattle.std.proofs.Common.{◌≡◌, ℕ, ◌+◌, ◌≤◌, ◌<◌, List, [], ◌∷◌, length, get_or, refl, sym, ap, ◌∙◌, subst, arith, Option}
+use Rattle.std.proofs.Common.{◌≡◌, ◌≢◌, ℕ, ◌+◌, ◌≤◌, ◌<◌, List, [], ◌∷◌, length, get_or, refl, sym, ap, ◌∙◌, subst, arith, Option}
 use Rattle.object_layout.specs.declared.replies.Census.{Census}
 use Rattle.heap_words.specs.declared.map.Areas.{Areas}
 use Rattle.yak_model.specs.declared.history.Entry.{Entry}
@@ -16,7 +16,7 @@ use Rattle.mutator.specs.Finishing.{Finishes}
 use Rattle.group_jobs.specs.Dealings.{tasks_at}
 use Rattle.group_jobs.specs.Epochs.{AreHalted, bounds_in}
 use Rattle.group_jobs.specs.Followed.{made_in}
-use Rattle.group_jobs.specs.Tallies.{tasks_room}
+use Rattle.group_jobs.specs.Tallies.{tasks_room, words_in}
 use Rattle.group_jobs.specs.Workers.{AllCountedBy, AreSeats, HasRefused, IsThere, SomeRefused, own_of}
 use Rattle.group_jobs.specs.declared.shares.Worker.{Worker}
 use Rattle.group_jobs.specs.declared.tasks.Task.{Task}
@@ -53,8 +53,8 @@ module _ (gate : Gate) (bytes : List ℕ) (tasks : List Task) (row : ℕ → Lis
       subst (λ (l : List Entry). (n : ℕ) × AreHalted (k + 1) n (bounds_in l)) (sym (worker_calls k w.0 lt)) (counted k w.0 lt).halted
 
   -- where a worker found no room, no page was free, and its own list has the call
-  pub worker_refused : (census : Census) → SomeRefused workers census → (census.free ≡ 0) × ((k : ℕ) × (k < length workers) × HasRefused (k + 1) (part v.history (k + 1)))
+  pub worker_refused : (census : Census) → SomeRefused workers census → (census.free ≡ 0) × ((k : ℕ) × (k < length workers) × HasRefused (k + 1) (part v.history (k + 1)) × (words_in bytes (tasks_at tasks (row k)) ≢ []))
   worker_refused census (k, lt, is) =
       let w = element workers k lt in
       let found = (counted k w.0 lt).refused census (is w.0) in
-      (found.0, (k, lt, subst (HasRefused (k + 1)) (sym (worker_calls k w.0 lt)) found.1))
+      (found.0, (k, lt, subst (HasRefused (k + 1)) (sym (worker_calls k w.0 lt)) found.1, found.2))

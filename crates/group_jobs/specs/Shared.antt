@@ -95,7 +95,7 @@ pub record IsCountedFed (size : Areas) (lines : ℕ) (bytes : List ℕ) (rows : 
 
 -- ---- where the heap had no room
 
--- Some worker's own list has a call for an object that was out of heap, in a heap of this size. One history explains the words of
+-- Some worker's own list has a call for an object that was out of heap, in a heap of this size, and the text has a word. One history explains the words of
 -- the heap, and its pages are no more than the count may fill.
 pub record RanOutShared (size : Areas) (lines : ℕ) (bytes : List ℕ) (v : View) : Type 0 where
   pub map_is : v.map ≡ size
@@ -105,6 +105,7 @@ pub record RanOutShared (size : Areas) (lines : ℕ) (bytes : List ℕ) (v : Vie
   pub within : worker < size.threads
   pub asked : ℕ
   pub refused : Contains (part v.history (worker + 1)) (Said (worker + 1) (call.New asked) reply.OutOfHeap)
+  pub some : words_of bytes ≢ []
   pub tasks : List Task
   pub cut : AreTasks bytes lines tasks
   pub room : page_words size * size.pages ≤ 2 * most_room size.threads (busy_tasks bytes tasks) (words_of bytes) + page_words size * (size.threads + 1)

@@ -1,5 +1,5 @@
 -- The workers of a count, and what each of them leaves.
-use Rattle.std.specs.Prelude.{◌≡◌, ℕ, ◌+◌, ◌*◌, ◌-◌, ◌^◌, ◌<◌, ◌≤◌, ◌||◌, Bool, true, cond, List, [], ◌∷◌, ◌++◌, length, map, slice_index_or, Option, None, Some}
+use Rattle.std.specs.Prelude.{◌≡◌, ◌≢◌, ℕ, ◌+◌, ◌*◌, ◌-◌, ◌^◌, ◌<◌, ◌≤◌, ◌||◌, Bool, true, cond, List, [], ◌∷◌, ◌++◌, length, map, slice_index_or, Option, None, Some}
 use Rattle.std.specs.List.{Contains, range_with_len, slice_get}
 use Rattle.std.specs.Option.{ForSome}
 use Rattle.object_layout.specs.declared.calls.Call.TheVariants as call
@@ -78,6 +78,7 @@ pub record HaltsTask (was now : List Own) (has_total : Bool) (words : List (List
   pub room : made_in (first_calls now) ≤ made_in (first_calls was) + (new_total has_total true + task_room words)
   pub refused : HasRefused (first_thread was) (first_calls now)
   pub bounds : (k : ℕ) → AreEpochs (first_thread was) k (bounds_in (first_calls was)) → AreHalted (first_thread was) k (bounds_in (first_calls now))
+  pub busy : words ≢ []
 
 -- Its table was read: the thread has what it had and knows what it knew, after calls that begin and end no epoch and make no object.
 pub record ReadsTotal (was now : List Own) : Type 0 where
@@ -119,7 +120,7 @@ pub record HasCounted (gate : Gate) (t : ℕ) (bytes : List ℕ) (tasks : List T
   pub room : made_in (first_calls (own_of w.resting)) ≤ table_words + tasks_room bytes tasks
   pub halted : (n : ℕ) × AreHalted t n (bounds_in (first_calls (own_of w.resting)))
   pub going : w.refused ≡ None → IsGoing gate.map.threads t bytes tasks (own_of w.resting) w.has_total
-  pub refused : ForSome w.refused (λ census. (census.free ≡ 0) × HasRefused t (first_calls (own_of w.resting)))
+  pub refused : ForSome w.refused (λ census. (census.free ≡ 0) × HasRefused t (first_calls (own_of w.resting)) × (words_in bytes tasks ≢ []))
 
 -- The words are short and few enough.
 abbrev pub AreSmall : List (List ℕ) → Type 0

@@ -107,5 +107,6 @@ returns-in-Err-Some-clause-halted g c =
         room = exact_words (made_in (first_calls first)) (made_in (first_calls after)) last.caller.made start.made out.words (new_total c.args.has_total true + task_room words) counts made_zero out.makes.counted out.makes.within (let small = total_most c.args.has_total true in omega arith);
         refused = subst (λ t. HasRefused t (first_calls after)) out.makes.thread (found_refused (first_thread after) (first_calls after) own_list some);
         bounds = halted_bounds (first_thread first) (first_calls first) more.0 (first_calls after) more.1 more.2;
+        busy = on_error _ _ _ c.in-Err-Some.is-0 ensured.busy;
       }),
     )
