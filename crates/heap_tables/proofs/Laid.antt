@@ -15,7 +15,7 @@ use Rattle.heap_tables.specs.Runs.{pushed, slot_in, with_field, without_top}
 use Rattle.heap_tables.specs.Seeks.{IsSkipped, first_of}
 use Rattle.heap_tables.specs.Walks.{IsAtChain, Walked, with_place}
 use Rattle.heap_tables.proofs.Effects.{in_bounds}
-use Rattle.heap_tables.proofs.Places.{append_nil, chain_agrees, insert_agrees, place_again, place_same}
+use Rattle.heap_tables.proofs.Places.{chain_agrees, insert_agrees, place_again, place_same}
 use Rattle.heap_tables.proofs.Raised.{with_sum}
 use Rattle.heap_tables.proofs.Sought.{chain_front, drop_more, entry_drop, front_is}
 use Rattle.heap_tables.proofs.Visits.{drop_below}
@@ -94,31 +94,30 @@ module _ (own : Thread) (links : List Link) where
       let less : length (own.stack ++ firsts links n) - (n + 1) ≡ length own.stack = omega (arith, size, long) in
       ap (λ o. without_top o (n + 1)) e ∙ ap (λ (st : List Datum). record own { stack = st }) (ap (λ k. take k (own.stack ++ firsts links n)) less ∙ take-append_seam own.stack (firsts links n))
 
--- fewer of them
-firsts_more : (links : List Link) (m d : ℕ) → (more : List Datum) × (firsts links (m + d) ≡ firsts links m ++ more)
-firsts_more links m zero = let none : m + 0 ≡ m = omega arith in ([], ap (firsts links) none ∙ sym (append_nil (firsts links m)))
-firsts_more links m (suc d) =
-    let next : m + suc d ≡ suc (m + d) = omega arith in
-    let r = firsts_more links m d in
-    let last = first_of (drop (suc (m + d)) links) ∷ [] in
-    (r.0 ++ last, ap (firsts links) next ∙ firsts_push links (m + d) ∙ ap (λ vs. vs ++ last) r.1 ∙ append_assoc (firsts links m) r.0 last)
+drop_zero : (links : List Link) → drop 0 links ≡ links
+drop_zero [] = refl
+drop_zero (l ∷ links) = refl
 
-pub laid_kept : (own : Thread) (links : List Link) (n m : ℕ) (after last : Thread) → m ≤ n → IsLaid own links n after → last ≡ without_top after (n - m) → IsLaid own links m last
-laid_kept own links n m after last fewer laid e =
-    let d = n - m in
-    let whole : n ≡ m + d = omega (arith, fewer) in
-    let r = firsts_more links m d in
-    let st : own.stack ++ firsts links n ≡ (own.stack ++ firsts links m) ++ r.0 = ap (λ k. own.stack ++ firsts links k) whole ∙ ap (λ vs. own.stack ++ vs) r.1 ∙ sym (append_assoc own.stack (firsts links m) r.0) in
-    let all = length-append own.stack (firsts links n) in
-    let part = length-append own.stack (firsts links m) in
+pub drop_start : (first : ℕ) (links : List Link) → first ≡ 0 → links ≡ drop first links
+drop_start first links e = sym (ap (λ k. drop k links) e ∙ drop_zero links)
+
+-- entries that are laid out from the front on
+pub laid_whole : (own : Thread) (links : List Link) (first n : ℕ) (after : Thread) → first ≡ 0 → IsLaid own (drop first links) n after → IsLaid own links n after
+laid_whole own links first n after e = subst (λ ls. IsLaid own ls n after) (ap (λ k. drop k links) e ∙ drop_zero links)
+
+pub whole_laid : (own : Thread) (links : List Link) (first n : ℕ) (after : Thread) → first ≡ 0 → IsLaid own links n after → IsLaid own (drop first links) n after
+whole_laid own links first n after e = subst (λ ls. IsLaid own ls n after) (sym (ap (λ k. drop k links) e ∙ drop_zero links))
+
+-- with the front of the chain below them
+pub window_dropped : (own : Thread) (front : Datum) (links : List Link) (n : ℕ) (after : Thread) → after ≡ laid_out (pushed own front) links n → without_top after (n + 2) ≡ own
+window_dropped own front links n after e =
+    let whole = append_assoc own.stack (front ∷ []) (firsts links n) in
+    let size = length-append own.stack (front ∷ firsts links n) in
     let long = firsts_length links n in
-    let short = firsts_length links m in
-    let less : length (own.stack ++ firsts links n) - d ≡ length (own.stack ++ firsts links m) = omega (arith, all, part, long, short, fewer) in
-    let few = laid.0 in (
-      omega (arith, few, fewer),
-      e ∙ ap (λ o. without_top o d) laid.1
-          ∙ ap (λ (vs : List Datum). record own { stack = vs }) (ap (λ k. take k (own.stack ++ firsts links n)) less ∙ ap (take (length (own.stack ++ firsts links m))) st ∙ take-append_seam (own.stack ++ firsts links m) r.0),
-    )
+    let less : length (own.stack ++ front ∷ firsts links n) - (n + 2) ≡ length own.stack = omega (arith, size, long) in
+    ap (λ o. without_top o (n + 2)) e
+    ∙ ap (λ (st : List Datum). record own { stack = take (length st - (n + 2)) st }) whole
+    ∙ ap (λ (st : List Datum). record own { stack = st }) (ap (λ k. take k (own.stack ++ front ∷ firsts links n)) less ∙ take-append_seam own.stack (front ∷ firsts links n))
 
 -- ---- the chain
 
@@ -198,11 +197,26 @@ length_raised : (passed rest : List Link) (link : Link) (k : ℕ) → length (pa
 length_raised [] rest link k = refl
 length_raised (p ∷ passed) rest link k = ap suc (length_raised passed rest link k)
 
-pub laid_raised : (own after : Thread) (word : List ℕ) (k : ℕ) (links later : List Link) → (LacksWord word links → ⊥) → AddsCount word k links later → (n : ℕ) → IsLaid own links n after → IsLaid own later n after
-laid_raised own after word k links later there adds n laid = elim adds [
+firsts_raised_from : (first : ℕ) (passed rest : List Link) (link : Link) (k n : ℕ) → firsts (drop first (passed ++ with_sum link k ∷ rest)) n ≡ firsts (drop first (passed ++ link ∷ rest)) n
+firsts_raised_from zero [] rest link k n = firsts_raised [] rest link k n
+firsts_raised_from zero (p ∷ passed) rest link k n = firsts_raised (p ∷ passed) rest link k n
+firsts_raised_from (suc first) [] rest link k n = refl
+firsts_raised_from (suc first) (p ∷ passed) rest link k n = firsts_raised_from first passed rest link k n
+
+length_raised_from : (first : ℕ) (passed rest : List Link) (link : Link) (k : ℕ) → length (drop first (passed ++ with_sum link k ∷ rest)) ≡ length (drop first (passed ++ link ∷ rest))
+length_raised_from zero [] rest link k = refl
+length_raised_from zero (p ∷ passed) rest link k = length_raised (p ∷ passed) rest link k
+length_raised_from (suc first) [] rest link k = refl
+length_raised_from (suc first) (p ∷ passed) rest link k = length_raised_from first passed rest link k
+
+-- the same, from a place of the chain on
+pub laid_raised_from : (first : ℕ) (own after : Thread) (word : List ℕ) (k : ℕ) (links later : List Link) → (LacksWord word links → ⊥) → AddsCount word k links later → (n : ℕ) → IsLaid own (drop first links) n after → IsLaid own (drop first later) n after
+laid_raised_from first own after word k links later there adds n laid = elim adds [
   | inl a ↦
-      let long : length later ≡ length links = ap length a.5 ∙ length_raised a.0 a.2 a.1 k ∙ sym (ap length a.3) in
-      let same : firsts links n ≡ firsts later n = ap (λ ls. firsts ls n) a.3 ∙ sym (firsts_raised a.0 a.2 a.1 k n) ∙ sym (ap (λ ls. firsts ls n) a.5) in
+      let old = ap (drop first) a.3 in
+      let new = ap (drop first) a.5 in
+      let long : length (drop first later) ≡ length (drop first links) = ap length new ∙ length_raised_from first a.0 a.2 a.1 k ∙ sym (ap length old) in
+      let same : firsts (drop first links) n ≡ firsts (drop first later) n = ap (λ ls. firsts ls n) old ∙ sym (firsts_raised_from first a.0 a.2 a.1 k n) ∙ sym (ap (λ ls. firsts ls n) new) in
       let few = laid.0 in
       (omega (arith, long, few), laid.1 ∙ ap (λ (vs : List Datum). record own { stack = own.stack ++ vs }) same)
   | inr b ↦ absurd (there b.0)

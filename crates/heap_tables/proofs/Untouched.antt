@@ -290,6 +290,22 @@ merged_none m is knows k others = record {
 pub from_lacks : (m : Merge) (is : IsMerge m) (b : ℕ) → b < BUCKETS → (other : KnownObjects) → Contains m.others other → LacksChain other m.from_name (m.buckets b)
 from_lacks m is b bound other has = let lacks = is.from_aside other has in (lacks.head, lacks.links b bound)
 
+-- a chain of the other table isn't long
+pub few_into : (m : Merge) (is : IsMerge m) (b p : ℕ) (knows : KnownObjects → Type 0) (d : IsMerged m is (done_at m.buckets b p) knows) → b < BUCKETS → p < 2 ^ 32 → length (walk m.buckets b) ≤ b * 2 ^ 32
+    → (c : ℕ) → c < BUCKETS → length ((d.into_table).buckets c) < 2 ^ 63
+few_into m is b p knows d bound below walked c small =
+    let few = d.few c small in
+    let first = is.into_few c small in
+    let long = length-append (walk m.buckets b) (take p (m.buckets b)) in
+    let part = take_length p (m.buckets b) in
+    let count : b * 2 ^ 32 ≤ (BUCKETS - 1) * 2 ^ 32 = omega (arith, bound) in
+    omega (arith, few, first, long, part, walked, count, below)
+  where
+    take_length : (n : ℕ) (xs : List Link) → length (take n xs) ≤ n
+    take_length zero xs = omega arith
+    take_length (suc n) [] = omega arith
+    take_length (suc n) (x ∷ xs) = let h = take_length n xs in omega (arith, h)
+
 -- the word may be added
 pub may_merge : (s : Standing) (into : ℕ) (m : Merge) (is : IsMerge m) (b p : ℕ) (knows : KnownObjects → Type 0) (d : IsMerged m is (done_at m.buckets b p) knows) → b < BUCKETS → p < 2 ^ 32 → length (walk m.buckets b) ≤ b * 2 ^ 32
     → get_or s.own.stack into datum.Null ≡ datum.Object m.into_name → (word : List ℕ) (n : ℕ) (link : Link) (rest : List Link) → IsEntryAt m b p word n link rest
@@ -302,15 +318,7 @@ may_merge s into m is b p knows d bound below walked slot word n link rest at =
     record {
       slot = slot;
       is_table = (d.into_table).table;
-      short =
-          let c = bucket_of word in
-          let small : c < BUCKETS = bucket_small word in
-          let few = d.few c small in
-          let first = is.into_few c small in
-          let long = length-append (walk m.buckets b) (take p (m.buckets b)) in
-          let part = take_length p (m.buckets b) in
-          let count : b * 2 ^ 32 ≤ (BUCKETS - 1) * 2 ^ 32 = omega (arith, bound) in
-          omega (arith, few, first, long, part, walked, count, below);
+      short = few_into m is b p knows d bound below walked (bucket_of word) (bucket_small word);
       number = let e = at.2 in omega (arith, e, sum);
       sum = λ count h.
           let e = count_found d.after m.into_name d.counts d.into_table word n (bucket_small word) count h in
@@ -318,11 +326,6 @@ may_merge s into m is b p knows d bound below walked slot word n link rest at =
           let g = at.2 in
           omega (arith, e, f, g, sum);
     }
-  where
-    take_length : (n : ℕ) (xs : List Link) → length (take n xs) ≤ n
-    take_length zero xs = omega arith
-    take_length (suc n) [] = omega arith
-    take_length (suc n) (x ∷ xs) = let h = take_length n xs in omega (arith, h)
 
 pub length_walk : (buckets : ℕ → List Link) → ((b : ℕ) → b < BUCKETS → length (buckets b) < 2 ^ 32) → (n : ℕ) → n ≤ BUCKETS → length (walk buckets n) ≤ n * 2 ^ 32
 length_walk buckets few zero h = omega arith

@@ -72,6 +72,11 @@ abbrev pub HasLaidTable : Standing → (KnownObjects → Type 0) → ℕ → Lis
 HasLaidTable s knows table word n at laid =
     (known : KnownObjects) × (name : Name) × (heads : List Datum) × (buckets : ℕ → List Link) × (own : Thread) × knows known × MayAdd s known table word n name heads buckets × IsLaid own (buckets (bucket_of word)) laid s.own × (length own.stack ≡ at) × (slice_index_or own.stack table datum.Null ≡ datum.Object name)
 
+-- The same, where the entries that are laid out begin at a place of the chain.
+abbrev pub HasLaidFrom : Standing → (KnownObjects → Type 0) → ℕ → ℕ → List ℕ → ℕ → ℕ → ℕ → Type 0
+HasLaidFrom s knows first table word n at laid =
+    (known : KnownObjects) × (name : Name) × (heads : List Datum) × (buckets : ℕ → List Link) × (own : Thread) × knows known × MayAdd s known table word n name heads buckets × IsLaid own (drop first (buckets (bucket_of word))) laid s.own × (length own.stack ≡ at) × (slice_index_or own.stack table datum.Null ≡ datum.Object name)
+
 -- The count of a word that is there is raised, or nothing changes.
 abbrev pub RaisesPresent : KnownObjects → List ℕ → ℕ → Name → (ℕ → List Link) → Bool → (KnownObjects → Type 0) → Type 0
 RaisesPresent known word n name buckets true knows = IsAddedTo known word n name buckets knows × (LacksWord word (buckets (bucket_of word)) → ⊥)
@@ -83,24 +88,24 @@ RaisesPresent known word n name buckets false knows = knows known
 abbrev pub AreBelow : Thread → ℕ → ℕ → Merge → Type 0
 AreBelow own from into m = (slice_index_or own.stack from datum.Null ≡ datum.Object m.from_name) × (slice_index_or own.stack into datum.Null ≡ datum.Object m.into_name)
 
--- The counts of the entries of a bucket from one place to another were added to entries that were there, and the first n entries
--- of the other table's chain are laid out.
-pub record GoesLaid (m : Merge) (is : IsMerge m) (b start p n : ℕ) (own after : Thread) (knows : KnownObjects → Type 0) : Type 0 where
+-- The counts of the entries of a bucket from one place to another were added to entries that were there, and n entries of the other
+-- table's chain are laid out, from a place on.
+pub record GoesLaid (m : Merge) (is : IsMerge m) (b start p first n : ℕ) (own after : Thread) (knows : KnownObjects → Type 0) : Type 0 where
   pub merged : IsMerged m is (done_at m.buckets b p) knows
-  pub laid : IsLaid own ((merged.into_table).buckets b) n after
+  pub laid : IsLaid own (drop first ((merged.into_table).buckets b)) n after
   pub new_words : news m.counts (done_at m.buckets b start) ≡ news m.counts (done_at m.buckets b p)
   pub longer : length (done_at m.buckets b start) ≤ length (done_at m.buckets b p)
 
-abbrev pub HasGoesLaid : Standing → (KnownObjects → Type 0) → ℕ → ℕ → ℕ → ℕ → ℕ → ℕ → Type 0
-HasGoesLaid s knows from into b p at n =
-    (m : Merge) × (is : IsMerge m) × (start : ℕ) × (own : Thread) × AreBelow own from into m × (length own.stack ≡ at) × GoesLaid m is b start p n own s.own knows
+abbrev pub HasGoesLaid : Standing → (KnownObjects → Type 0) → ℕ → ℕ → ℕ → ℕ → ℕ → ℕ → ℕ → Type 0
+HasGoesLaid s knows from into b p first at n =
+    (m : Merge) × (is : IsMerge m) × (start : ℕ) × (own : Thread) × AreBelow own from into m × (length own.stack ≡ at) × GoesLaid m is b start p first n own s.own knows
 
 -- They are that far, and the next entry of the bucket has this word and count.
-abbrev pub HasNextLaid : Standing → (KnownObjects → Type 0) → ℕ → ℕ → ℕ → ℕ → ℕ → ℕ → List ℕ → ℕ → Type 0
-HasNextLaid s knows from into b p at n word count =
-    (m : Merge) × (is : IsMerge m) × (start : ℕ) × (own : Thread) × (link : Link) × (rest : List Link) × AreBelow own from into m × (length own.stack ≡ at) × GoesLaid m is b start p n own s.own knows × IsEntryAt m b p word count link rest
+abbrev pub HasNextLaid : Standing → (KnownObjects → Type 0) → ℕ → ℕ → ℕ → ℕ → ℕ → ℕ → ℕ → List ℕ → ℕ → Type 0
+HasNextLaid s knows from into b p first at n word count =
+    (m : Merge) × (is : IsMerge m) × (start : ℕ) × (own : Thread) × (link : Link) × (rest : List Link) × AreBelow own from into m × (length own.stack ≡ at) × GoesLaid m is b start p first n own s.own knows × IsEntryAt m b p word count link rest
 
 -- One more entry was merged, or none.
-abbrev pub MergesLaid : (m : Merge) → IsMerge m → ℕ → ℕ → ℕ → ℕ → Bool → Thread → Thread → (KnownObjects → Type 0) → Type 0
-MergesLaid m is b start p n true own after knows = GoesLaid m is b start (p + 1) n own after knows
-MergesLaid m is b start p n false own after knows = GoesLaid m is b start p n own after knows
+abbrev pub MergesLaid : (m : Merge) → IsMerge m → ℕ → ℕ → ℕ → ℕ → ℕ → Bool → Thread → Thread → (KnownObjects → Type 0) → Type 0
+MergesLaid m is b start p first n true own after knows = GoesLaid m is b start (p + 1) first n own after knows
+MergesLaid m is b start p first n false own after knows = GoesLaid m is b start p first n own after knows

@@ -1,5 +1,5 @@
 //! The merge of two tables.
-ghost use Rattle.std.specs.Prelude.{◌≡◌, ℕ, ◌+◌, ◌*◌, ◌^◌, ◌<◌, ◌≤◌, [], List, length, None, OnOk, OnErr, IfOk, IsTrue, true, slice_index_or, ◌↔◌};
+ghost use Rattle.std.specs.Prelude.{◌≡◌, ℕ, ◌+◌, ◌*◌, ◌^◌, ◌<◌, ◌≤◌, [], List, drop, length, None, OnOk, OnErr, IfOk, IsTrue, true, slice_index_or, ◌↔◌};
 ghost use Rattle.std.specs.FinMap as finite;
 ghost use Rattle.object_layout.specs.declared.TheConstants.{MAX_INT, MAX_SERIAL};
 ghost use Rattle.object_layout.specs.declared.names.Name.{Name};
@@ -15,11 +15,12 @@ ghost use Rattle.heap_tables.specs.Adds.{having_made};
 ghost use Rattle.yak_model.specs.Graph.{Thread};
 ghost use Rattle.heap_tables.specs.Layouts.{AreBelow, GoesLaid, HasGoesLaid, HasNextLaid, MergesLaid};
 ghost use Rattle.heap_tables.specs.Merges.{AreSlots, Goes, HasEntryFor, HasMerged, HasMerging, HasNextEntry, HasShare, HasTables, IsEntryAt, IsMerge, IsMerged, IsMergedPart, IsMergedWhole, IsShare, MayMerge, Merge, MergesEntry, Stops, done_at, walk, with_shared};
-ghost use Rattle.heap_tables.specs.Runs.{IsInSlot, KeepsKnown, Ran, RanOut, next_of, stack_in};
-ghost use Rattle.heap_tables.specs.Walks.{IsEntryInSlot};
+ghost use Rattle.heap_tables.specs.Seeks.{first_of};
+ghost use Rattle.heap_tables.specs.Runs.{IsInSlot, KeepsKnown, Ran, RanOut, next_of, pushed, stack_in};
+ghost use Rattle.heap_tables.specs.Walks.{HasWalk, IsApart, IsAtChain, IsEntryInSlot};
 ghost use Rattle.heap_tables.specs.Asides.{LacksChain, LacksTable, LacksValue};
 
-use crate::notes::{mark, note, place_of};
+use crate::notes::{mark, note, place_of, window_of};
 use crate::raising::{raise_at, raise_present};
 use crate::reading::take_entry;
 use crate::seek::seek;
@@ -176,13 +177,15 @@ fn merge_word<C: Caller>(
     n: u64,
     groups: &mut [u64],
     notes: &[u64],
+    window: u32,
     at: u32,
     laid: u32,
     most: u32,
 ) -> (bool, u32)
-    requires tables { HasNextLaid (C.standing caller.old) (C.knows caller.old) from into bucket place at laid word.now n }
+    requires tables { HasNextLaid (C.standing caller.old) (C.knows caller.old) from into bucket place window at laid word.now n }
     requires bucket { bucket < BUCKETS }
     requires word { length word.now ≤ KEY_BYTES }
+    requires window { length notes.now ≡ 0 → window ≡ 0 }
     requires groups { STACK_SLOTS ≤ length groups.old }
     requires top { length (stack_in (C.standing caller.old)) ≡ at + laid + 1 }
     requires few { laid ≤ most }
@@ -190,13 +193,13 @@ fn merge_word<C: Caller>(
     ensures groups { length groups.new ≡ length groups.old }
     ensures few { result.1 ≤ most }
     ensures ran { Ran C.base C.tells C.tells_known C.standing caller.old caller.new 0 }
-    ensures merged { (m : Merge) (is : IsMerge m) (start : ℕ) (own : Thread) (link : Link) (rest : List Link) → AreBelow own from into m → length own.stack ≡ at → GoesLaid m is bucket start place laid own (C.standing caller.old).own (C.knows caller.old) → IsEntryAt m bucket place word.now n link rest → MergesLaid m is bucket start place result.1 result.0 own (C.standing caller.new).own (C.knows caller.new) }
+    ensures merged { (m : Merge) (is : IsMerge m) (start : ℕ) (own : Thread) (link : Link) (rest : List Link) → AreBelow own from into m → length own.stack ≡ at → GoesLaid m is bucket start place window laid own (C.standing caller.old).own (C.knows caller.old) → IsEntryAt m bucket place word.now n link rest → MergesLaid m is bucket start place window result.1 result.0 own (C.standing caller.new).own (C.knows caller.new) }
 {
     if notes.is_empty() {
         return raise_present(caller, into, bucket, word, n, groups, at, laid, most);
     }
     match place_of(notes, bucket, mark(word)) {
-        Some(noted) => raise_at(caller, into, bucket, word, n, noted, at, laid, most),
+        Some(noted) => raise_at(caller, into, bucket, word, n, noted, window, at, laid, most),
         None => (false, laid),
     }
 }
@@ -212,13 +215,15 @@ fn merge_laid<C: Caller>(
     buffer: &mut [u8],
     groups: &mut [u64],
     notes: &[u64],
+    window: u32,
     at: u32,
     laid: u32,
     most: u32,
 ) -> (bool, u32)
-    requires tables { HasGoesLaid (C.standing caller.old) (C.knows caller.old) from into bucket place at laid }
+    requires tables { HasGoesLaid (C.standing caller.old) (C.knows caller.old) from into bucket place window at laid }
     requires bucket { bucket < BUCKETS }
     requires buffer { KEY_BYTES ≤ length buffer.old }
+    requires window { length notes.now ≡ 0 → window ≡ 0 }
     requires groups { STACK_SLOTS ≤ length groups.old }
     requires top { length (stack_in (C.standing caller.old)) ≡ at + laid + 1 }
     requires few { laid ≤ most }
@@ -227,7 +232,7 @@ fn merge_laid<C: Caller>(
     ensures groups { length groups.new ≡ length groups.old }
     ensures few { result.1 ≤ most }
     ensures ran { Ran C.base C.tells C.tells_known C.standing caller.old caller.new 0 }
-    ensures merged { (m : Merge) (is : IsMerge m) (start : ℕ) (own : Thread) → AreBelow own from into m → length own.stack ≡ at → GoesLaid m is bucket start place laid own (C.standing caller.old).own (C.knows caller.old) → MergesLaid m is bucket start place result.1 result.0 own (C.standing caller.new).own (C.knows caller.new) }
+    ensures merged { (m : Merge) (is : IsMerge m) (start : ℕ) (own : Thread) → AreBelow own from into m → length own.stack ≡ at → GoesLaid m is bucket start place window laid own (C.standing caller.old).own (C.knows caller.old) → MergesLaid m is bucket start place window result.1 result.0 own (C.standing caller.new).own (C.knows caller.new) }
 {
     match take_entry(caller, from, bucket, place, buffer, at + laid + 1) {
         Some((size, count)) => merge_word(
@@ -240,6 +245,7 @@ fn merge_laid<C: Caller>(
             count,
             groups,
             notes,
+            window,
             at,
             laid,
             most,
@@ -259,12 +265,14 @@ fn merge_on<C: Caller>(
     buffer: &mut [u8],
     groups: &mut [u64],
     notes: &[u64],
+    window: u32,
     at: u32,
     most: u32,
 ) -> (u32, u32)
-    requires tables { HasGoesLaid (C.standing caller.old) (C.knows caller.old) from into bucket place at 0 }
+    requires tables { HasGoesLaid (C.standing caller.old) (C.knows caller.old) from into bucket place window at 0 }
     requires bucket { bucket < BUCKETS }
     requires buffer { KEY_BYTES ≤ length buffer.old }
+    requires window { length notes.now ≡ 0 → window ≡ 0 }
     requires groups { STACK_SLOTS ≤ length groups.old }
     requires room { at + most + KEPT_SLOTS < STACK_SLOTS }
     ensures buffer { length buffer.new ≡ length buffer.old }
@@ -272,7 +280,7 @@ fn merge_on<C: Caller>(
     ensures few { place + result.0 < 2 ^ 32 }
     ensures laid { result.1 ≤ most }
     ensures ran { Ran C.base C.tells C.tells_known C.standing caller.old caller.new 0 }
-    ensures merged { (m : Merge) (is : IsMerge m) (start : ℕ) (own : Thread) → AreBelow own from into m → length own.stack ≡ at → GoesLaid m is bucket start place 0 own (C.standing caller.old).own (C.knows caller.old) → GoesLaid m is bucket start (place + result.0) result.1 own (C.standing caller.new).own (C.knows caller.new) }
+    ensures merged { (m : Merge) (is : IsMerge m) (start : ℕ) (own : Thread) → AreBelow own from into m → length own.stack ≡ at → GoesLaid m is bucket start place window 0 own (C.standing caller.old).own (C.knows caller.old) → GoesLaid m is bucket start (place + result.0) window result.1 own (C.standing caller.new).own (C.knows caller.new) }
 {
     let mut laid = 0;
     for turn in 0..u32::MAX - place {
@@ -285,6 +293,7 @@ fn merge_on<C: Caller>(
             buffer,
             groups,
             notes,
+            window,
             at,
             laid,
             most,
@@ -299,9 +308,26 @@ fn merge_on<C: Caller>(
 
 /// Whether the stack has room for entries that are laid out from a slot on.
 fn has_room(top: u32) -> bool
-    ensures room { IsTrue result ↔ (top + KEPT_SLOTS < STACK_SLOTS) }
+    ensures room { IsTrue result ↔ (top + KEPT_SLOTS + 1 < STACK_SLOTS) }
 {
-    top < STACK_SLOTS as u32 - KEPT_SLOTS as u32
+    top < STACK_SLOTS as u32 - KEPT_SLOTS as u32 - 1
+}
+
+/// Pushes the front of a chain of the table, and the entry at a place of it, or null past its end.
+fn open_window<C: Caller>(caller: &mut C, table: u32, bucket: u32, place: u32, top: u32)
+    requires chain { HasWalk (C.standing caller.old) (C.knows caller.old) table bucket }
+    requires room { length (stack_in (C.standing caller.old)) + 2 < STACK_SLOTS }
+    requires top { length (stack_in (C.standing caller.old)) ≡ top }
+    ensures ran { Ran C.base C.tells C.tells_known C.standing caller.old caller.new 0 }
+    ensures opened { (known : KnownObjects) (name : Name) (values : List Datum) (links : List Link) → C.knows caller.old known → IsAtChain (C.standing caller.old) known table bucket name values links → IsApart name links → ((C.standing caller.new).own ≡ pushed (pushed (C.standing caller.old).own (slice_index_or values bucket datum.Null)) (first_of (drop place links))) × C.knows caller.new known }
+    ensures aside { (known : KnownObjects) (name : Name) (values : List Datum) (links : List Link) (other : KnownObjects) → C.knows caller.old known → IsAtChain (C.standing caller.old) known table bucket name values links → IsApart name links → C.knows caller.old other → LacksChain other name links → C.knows caller.new other }
+{
+    if place > 0 {
+        seek(caller, table, bucket, place, top);
+        return;
+    }
+    load(caller, table, bucket);
+    load(caller, table, bucket);
 }
 
 /// Adds the counts of the entries from a place of a bucket on to another table as far as their words are there, and gives how many.
@@ -331,12 +357,23 @@ fn merge_present<C: Caller>(
     if !has_room(top) {
         return 0;
     }
-    load(caller, into, bucket);
-    let most = STACK_SLOTS as u32 - KEPT_SLOTS as u32 - 1 - top;
+    let window = window_of(notes, bucket);
+    open_window(caller, into, bucket, window, top);
+    let most = STACK_SLOTS as u32 - KEPT_SLOTS as u32 - 2 - top;
     let (merged, laid) = merge_on(
-        caller, from, into, bucket, place, buffer, groups, notes, top, most,
+        caller,
+        from,
+        into,
+        bucket,
+        place,
+        buffer,
+        groups,
+        notes,
+        window,
+        top + 1,
+        most,
     );
-    pop_all(caller, laid + 1);
+    pop_all(caller, laid + 2);
     merged
 }
 

@@ -4,8 +4,8 @@ ghost use Rattle.std.specs.Prelude.{◌≡◌, ℕ, ◌+◌, ◌/◌, ◌<◌, �
 ghost use Rattle.yak_model.specs.Tables.{group};
 ghost use Rattle.heap_tables.specs.declared.TheConstants.{KEY_BYTES};
 
-use crate::NOTED;
 use crate::keys::group;
+use crate::{NOTED, WINDOW};
 use yak_model::GROUP_BYTES;
 
 /// The number by which a word is noted. Words of one number are few.
@@ -56,4 +56,19 @@ pub(crate) fn note(notes: &mut [u64], bucket: u32, mark: u64)
         notes[start + words as usize + 1] = mark;
     }
     notes[start] = words + 1;
+}
+
+/// The place in a bucket's chain from which on the entries are laid out: those at the end, which came first, are met most often.
+pub(crate) fn window_of(notes: &[u64], bucket: u32) -> u32
+    ensures none { length notes.now ≡ 0 → result ≡ 0 }
+{
+    let start = bucket as usize * NOTED;
+    if notes.len() < start + NOTED {
+        return 0;
+    }
+    let words = notes[start];
+    if words < WINDOW || words > u64::from(u32::MAX) {
+        return 0;
+    }
+    (words - WINDOW) as u32
 }

@@ -1,5 +1,5 @@
 //! Counts of a table that are raised in entries of a chain laid out on the caller's stack.
-ghost use Rattle.std.specs.Prelude.{◌≡◌, ℕ, ◌+◌, ◌<◌, ◌≤◌, List, length, slice_index_or};
+ghost use Rattle.std.specs.Prelude.{◌≡◌, ℕ, ◌+◌, ◌<◌, ◌≤◌, List, drop, length, slice_index_or};
 ghost use Rattle.object_layout.specs.declared.names.Name.{Name};
 ghost use Rattle.yak_model.specs.declared.TheConstants.{STACK_SLOTS};
 ghost use Rattle.yak_model.specs.declared.datum.Datum.{Datum};
@@ -7,21 +7,19 @@ ghost use Rattle.yak_model.specs.declared.datum.Datum.TheVariants as datum;
 ghost use Rattle.yak_model.specs.Graph.{Thread};
 ghost use Rattle.yak_model.specs.Private.{KnownObjects};
 ghost use Rattle.yak_model.specs.Tables.{Link, bucket_of, group};
-ghost use Rattle.heap_tables.specs.declared.TheConstants.{KEPT_SLOTS, KEY_BYTES, NEAR_SLOTS};
-ghost use Rattle.heap_tables.specs.Adds.{MayAdd};
+ghost use Rattle.heap_tables.specs.declared.TheConstants.{KEPT_SLOTS, KEY_BYTES};
+ghost use Rattle.heap_tables.specs.Adds.{HasTable, MayAdd};
 ghost use Rattle.heap_tables.specs.Asides.{LacksTable};
-ghost use Rattle.heap_tables.specs.Layouts.{HasLaidTable, IsLaid, RaisesPresent};
-ghost use Rattle.heap_tables.specs.Runs.{KeepsKnown, KnowsSome, Ran, stack_in};
+ghost use Rattle.heap_tables.specs.Layouts.{HasLaidFrom, HasLaidTable, IsLaid, RaisesPresent};
+ghost use Rattle.heap_tables.specs.Runs.{Ran, stack_in};
 
-use crate::NEAR_SLOTS;
 use crate::keys::group;
 use crate::layouts::{find_beyond, find_on_stack, is_entry_of, lay_on};
-use crate::steps::{pop, pop_all};
+use crate::steps::{load, pop, pop_all};
 use crate::tables::raise;
 use yak_model::Caller;
 
-/// Adds to the count of a word that is in a chain past the entries that are laid out and so many further ones, and tells whether
-/// it is.
+/// Adds to the count of a word that is in a chain past the entries that are laid out, and tells whether it is.
 fn raise_beyond<C: Caller>(
     caller: &mut C,
     table: u32,
@@ -29,7 +27,6 @@ fn raise_beyond<C: Caller>(
     word: &[u8],
     first: u64,
     n: u64,
-    further: u32,
     at: u32,
     laid: u32,
 ) -> bool
@@ -44,7 +41,7 @@ fn raise_beyond<C: Caller>(
     ensures raised { (known : KnownObjects) (name : Name) (heads : List Datum) (buckets : ℕ → List Link) (own : Thread) → C.knows caller.old known → MayAdd (C.standing caller.old) known table word.now n name heads buckets → IsLaid own (buckets (bucket_of word.now)) laid (C.standing caller.old).own → length own.stack ≡ at → RaisesPresent known word.now n name buckets result (C.knows caller.new) }
     ensures aside { (known : KnownObjects) (name : Name) (heads : List Datum) (buckets : ℕ → List Link) (own : Thread) (other : KnownObjects) → C.knows caller.old known → MayAdd (C.standing caller.old) known table word.now n name heads buckets → IsLaid own (buckets (bucket_of word.now)) laid (C.standing caller.old).own → length own.stack ≡ at → C.knows caller.old other → LacksTable other name buckets → C.knows caller.new other }
 {
-    if !find_beyond(caller, table, bucket, word, first, further, at, at + laid) {
+    if !find_beyond(caller, table, bucket, word, first, 0, at, at + laid) {
         return false;
     }
     raise(caller, at + laid + 1, n, at + laid + 2);
@@ -85,11 +82,12 @@ pub(crate) fn raise_present<C: Caller>(
         raise(caller, at + i, n, at + now + 1);
         return (true, now);
     }
-    let beyond = raise_beyond(caller, table, bucket, word, first, n, 0, at, now);
+    let beyond = raise_beyond(caller, table, bucket, word, first, n, at, now);
     (beyond, now)
 }
 
-/// Adds to the count of a word that is in the entry at this place among those that are laid out, and tells whether it is.
+/// Adds to the count of a word that is in the entry at this place among those that are laid out from a window on, and tells whether
+/// it is.
 fn raise_laid<C: Caller>(
     caller: &mut C,
     table: u32,
@@ -97,10 +95,11 @@ fn raise_laid<C: Caller>(
     word: &[u8],
     n: u64,
     place: u32,
+    window: u32,
     at: u32,
     laid: u32,
 ) -> bool
-    requires laid { HasLaidTable (C.standing caller.old) (C.knows caller.old) table word.now n at laid }
+    requires laid { HasLaidFrom (C.standing caller.old) (C.knows caller.old) window table word.now n at laid }
     requires bucket { bucket ≡ bucket_of word.now }
     requires word { length word.now ≤ KEY_BYTES }
     requires top { length (stack_in (C.standing caller.old)) ≡ at + laid + 1 }
@@ -108,8 +107,8 @@ fn raise_laid<C: Caller>(
     requires room { at + laid + 2 < STACK_SLOTS }
     ensures ran { Ran C.base C.tells C.tells_known C.standing caller.old caller.new 0 }
     ensures own { (C.standing caller.new).own ≡ (C.standing caller.old).own }
-    ensures raised { (known : KnownObjects) (name : Name) (heads : List Datum) (buckets : ℕ → List Link) (own : Thread) → C.knows caller.old known → MayAdd (C.standing caller.old) known table word.now n name heads buckets → IsLaid own (buckets (bucket_of word.now)) laid (C.standing caller.old).own → length own.stack ≡ at → RaisesPresent known word.now n name buckets result (C.knows caller.new) }
-    ensures aside { (known : KnownObjects) (name : Name) (heads : List Datum) (buckets : ℕ → List Link) (own : Thread) (other : KnownObjects) → C.knows caller.old known → MayAdd (C.standing caller.old) known table word.now n name heads buckets → IsLaid own (buckets (bucket_of word.now)) laid (C.standing caller.old).own → length own.stack ≡ at → C.knows caller.old other → LacksTable other name buckets → C.knows caller.new other }
+    ensures raised { (known : KnownObjects) (name : Name) (heads : List Datum) (buckets : ℕ → List Link) (own : Thread) → C.knows caller.old known → MayAdd (C.standing caller.old) known table word.now n name heads buckets → IsLaid own (drop window (buckets (bucket_of word.now))) laid (C.standing caller.old).own → length own.stack ≡ at → RaisesPresent known word.now n name buckets result (C.knows caller.new) }
+    ensures aside { (known : KnownObjects) (name : Name) (heads : List Datum) (buckets : ℕ → List Link) (own : Thread) (other : KnownObjects) → C.knows caller.old known → MayAdd (C.standing caller.old) known table word.now n name heads buckets → IsLaid own (drop window (buckets (bucket_of word.now))) laid (C.standing caller.old).own → length own.stack ≡ at → C.knows caller.old other → LacksTable other name buckets → C.knows caller.new other }
 {
     let first = group(word, 0);
     if !is_entry_of(caller, at + place, first, word, first, at + laid + 1) {
@@ -119,100 +118,74 @@ fn raise_laid<C: Caller>(
     true
 }
 
-/// Drops what is laid out past so many entries, and gives how many are laid out then.
-fn keep_most<C: Caller>(caller: &mut C, at: u32, laid: u32, most: u32) -> u32
-    requires some { KnowsSome (C.knows caller.old) }
-    requires top { length (stack_in (C.standing caller.old)) ≡ at + laid + 1 }
-    ensures few { result ≤ most }
-    ensures ran { Ran C.base C.tells C.tells_known C.standing caller.old caller.new 0 }
-    ensures keeps { KeepsKnown (C.knows caller.old) (C.knows caller.new) }
-    ensures laid { (own : Thread) (links : List Link) → IsLaid own links laid (C.standing caller.old).own → IsLaid own links result (C.standing caller.new).own }
-{
-    if laid <= most {
-        return laid;
-    }
-    pop_all(caller, laid - most);
-    most
-}
-
-/// Adds to the count of a word that is in the entry at this place of its chain, no further from the entries that may stay laid out
-/// than the stack has room for. Tells whether it is there, and how many are laid out then.
-fn raise_near<C: Caller>(
+/// Adds to the count of a word that is in the entry at this place among those from a window on, of which further ones are laid out
+/// on the way to it. Tells whether it is there, and how many are laid out then.
+fn raise_on<C: Caller>(
     caller: &mut C,
     table: u32,
     bucket: u32,
     word: &[u8],
     n: u64,
     place: u32,
+    window: u32,
     at: u32,
     laid: u32,
     most: u32,
 ) -> (bool, u32)
-    requires laid { HasLaidTable (C.standing caller.old) (C.knows caller.old) table word.now n at laid }
+    requires laid { HasLaidFrom (C.standing caller.old) (C.knows caller.old) window table word.now n at laid }
     requires bucket { bucket ≡ bucket_of word.now }
     requires word { length word.now ≤ KEY_BYTES }
     requires top { length (stack_in (C.standing caller.old)) ≡ at + laid + 1 }
     requires few { laid ≤ most }
-    requires near { laid ≤ place }
-    requires reach { place < most + NEAR_SLOTS }
+    requires place { (laid ≤ place) × (place < most) }
     requires room { at + most + KEPT_SLOTS < STACK_SLOTS }
     ensures few { result.1 ≤ most }
     ensures ran { Ran C.base C.tells C.tells_known C.standing caller.old caller.new 0 }
-    ensures laid { (known : KnownObjects) (name : Name) (heads : List Datum) (buckets : ℕ → List Link) (own : Thread) → C.knows caller.old known → MayAdd (C.standing caller.old) known table word.now n name heads buckets → IsLaid own (buckets (bucket_of word.now)) laid (C.standing caller.old).own → length own.stack ≡ at → slice_index_or own.stack table datum.Null ≡ datum.Object name → IsLaid own (buckets (bucket_of word.now)) result.1 (C.standing caller.new).own }
-    ensures raised { (known : KnownObjects) (name : Name) (heads : List Datum) (buckets : ℕ → List Link) (own : Thread) → C.knows caller.old known → MayAdd (C.standing caller.old) known table word.now n name heads buckets → IsLaid own (buckets (bucket_of word.now)) laid (C.standing caller.old).own → length own.stack ≡ at → slice_index_or own.stack table datum.Null ≡ datum.Object name → RaisesPresent known word.now n name buckets result.0 (C.knows caller.new) }
-    ensures aside { (known : KnownObjects) (name : Name) (heads : List Datum) (buckets : ℕ → List Link) (own : Thread) (other : KnownObjects) → C.knows caller.old known → MayAdd (C.standing caller.old) known table word.now n name heads buckets → IsLaid own (buckets (bucket_of word.now)) laid (C.standing caller.old).own → length own.stack ≡ at → slice_index_or own.stack table datum.Null ≡ datum.Object name → C.knows caller.old other → LacksTable other name buckets → C.knows caller.new other }
+    ensures laid { (known : KnownObjects) (name : Name) (heads : List Datum) (buckets : ℕ → List Link) (own : Thread) → C.knows caller.old known → MayAdd (C.standing caller.old) known table word.now n name heads buckets → IsLaid own (drop window (buckets (bucket_of word.now))) laid (C.standing caller.old).own → length own.stack ≡ at → slice_index_or own.stack table datum.Null ≡ datum.Object name → IsLaid own (drop window (buckets (bucket_of word.now))) result.1 (C.standing caller.new).own }
+    ensures raised { (known : KnownObjects) (name : Name) (heads : List Datum) (buckets : ℕ → List Link) (own : Thread) → C.knows caller.old known → MayAdd (C.standing caller.old) known table word.now n name heads buckets → IsLaid own (drop window (buckets (bucket_of word.now))) laid (C.standing caller.old).own → length own.stack ≡ at → slice_index_or own.stack table datum.Null ≡ datum.Object name → RaisesPresent known word.now n name buckets result.0 (C.knows caller.new) }
+    ensures aside { (known : KnownObjects) (name : Name) (heads : List Datum) (buckets : ℕ → List Link) (own : Thread) (other : KnownObjects) → C.knows caller.old known → MayAdd (C.standing caller.old) known table word.now n name heads buckets → IsLaid own (drop window (buckets (bucket_of word.now))) laid (C.standing caller.old).own → length own.stack ≡ at → slice_index_or own.stack table datum.Null ≡ datum.Object name → C.knows caller.old other → LacksTable other name buckets → C.knows caller.new other }
 {
     let now = lay_on(caller, at, laid, place + 1);
     if now <= place {
-        return (false, keep_most(caller, at, now, most));
+        return (false, now);
     }
-    let found = raise_laid(caller, table, bucket, word, n, place, at, now);
-    (found, keep_most(caller, at, now, most))
+    let found = raise_laid(caller, table, bucket, word, n, place, window, at, now);
+    (found, now)
 }
 
-/// Adds to the count of a word that is in the entry at this place of its chain or past it, behind the entries that may stay laid
-/// out. Tells whether it is there, and how many are laid out then.
-fn raise_far<C: Caller>(
+/// Adds to the count of a word that is in the entry at this place of its chain or past it, and tells whether it is. The place of the
+/// walk is put into the table for a while.
+fn raise_from<C: Caller>(
     caller: &mut C,
     table: u32,
     bucket: u32,
     word: &[u8],
     n: u64,
     place: u32,
-    at: u32,
-    laid: u32,
-    most: u32,
-) -> (bool, u32)
-    requires laid { HasLaidTable (C.standing caller.old) (C.knows caller.old) table word.now n at laid }
+    top: u32,
+) -> bool
+    requires table { HasTable (C.standing caller.old) (C.knows caller.old) table word.now n }
     requires bucket { bucket ≡ bucket_of word.now }
     requires word { length word.now ≤ KEY_BYTES }
-    requires top { length (stack_in (C.standing caller.old)) ≡ at + laid + 1 }
-    requires few { laid ≤ most }
-    requires far { most ≤ place }
-    requires room { at + most + KEPT_SLOTS < STACK_SLOTS }
-    ensures few { result.1 ≤ most }
+    requires room { length (stack_in (C.standing caller.old)) + 4 < STACK_SLOTS }
+    requires top { length (stack_in (C.standing caller.old)) ≡ top }
     ensures ran { Ran C.base C.tells C.tells_known C.standing caller.old caller.new 0 }
-    ensures laid { (known : KnownObjects) (name : Name) (heads : List Datum) (buckets : ℕ → List Link) (own : Thread) → C.knows caller.old known → MayAdd (C.standing caller.old) known table word.now n name heads buckets → IsLaid own (buckets (bucket_of word.now)) laid (C.standing caller.old).own → length own.stack ≡ at → slice_index_or own.stack table datum.Null ≡ datum.Object name → IsLaid own (buckets (bucket_of word.now)) result.1 (C.standing caller.new).own }
-    ensures raised { (known : KnownObjects) (name : Name) (heads : List Datum) (buckets : ℕ → List Link) (own : Thread) → C.knows caller.old known → MayAdd (C.standing caller.old) known table word.now n name heads buckets → IsLaid own (buckets (bucket_of word.now)) laid (C.standing caller.old).own → length own.stack ≡ at → slice_index_or own.stack table datum.Null ≡ datum.Object name → RaisesPresent known word.now n name buckets result.0 (C.knows caller.new) }
-    ensures aside { (known : KnownObjects) (name : Name) (heads : List Datum) (buckets : ℕ → List Link) (own : Thread) (other : KnownObjects) → C.knows caller.old known → MayAdd (C.standing caller.old) known table word.now n name heads buckets → IsLaid own (buckets (bucket_of word.now)) laid (C.standing caller.old).own → length own.stack ≡ at → slice_index_or own.stack table datum.Null ≡ datum.Object name → C.knows caller.old other → LacksTable other name buckets → C.knows caller.new other }
+    ensures own { (C.standing caller.new).own ≡ (C.standing caller.old).own }
+    ensures raised { (known : KnownObjects) (name : Name) (heads : List Datum) (buckets : ℕ → List Link) → C.knows caller.old known → MayAdd (C.standing caller.old) known table word.now n name heads buckets → RaisesPresent known word.now n name buckets result (C.knows caller.new) }
+    ensures aside { (known : KnownObjects) (name : Name) (heads : List Datum) (buckets : ℕ → List Link) (other : KnownObjects) → C.knows caller.old known → MayAdd (C.standing caller.old) known table word.now n name heads buckets → C.knows caller.old other → LacksTable other name buckets → C.knows caller.new other }
 {
-    let now = lay_on(caller, at, laid, most);
-    let found = raise_beyond(
-        caller,
-        table,
-        bucket,
-        word,
-        group(word, 0),
-        n,
-        place - now,
-        at,
-        now,
-    );
-    (found, now)
+    load(caller, table, bucket);
+    if !find_beyond(caller, table, bucket, word, group(word, 0), place, top, top) {
+        pop(caller);
+        return false;
+    }
+    raise(caller, top + 1, n, top + 2);
+    pop_all(caller, 2);
+    true
 }
 
-/// Adds to the count of a word whose entry stands at this place of its chain, of which further entries are laid out on the way to
-/// it, so many in all at most. Tells whether it is there, and how many are laid out then.
+/// Adds to the count of a word whose entry stands at this place of its chain, of which entries are laid out from a window on, and
+/// further ones on the way to it, so many in all at most. Tells whether it is there, and how many are laid out then.
 pub(crate) fn raise_at<C: Caller>(
     caller: &mut C,
     table: u32,
@@ -220,11 +193,12 @@ pub(crate) fn raise_at<C: Caller>(
     word: &[u8],
     n: u64,
     place: u32,
+    window: u32,
     at: u32,
     laid: u32,
     most: u32,
 ) -> (bool, u32)
-    requires laid { HasLaidTable (C.standing caller.old) (C.knows caller.old) table word.now n at laid }
+    requires laid { HasLaidFrom (C.standing caller.old) (C.knows caller.old) window table word.now n at laid }
     requires bucket { bucket ≡ bucket_of word.now }
     requires word { length word.now ≤ KEY_BYTES }
     requires top { length (stack_in (C.standing caller.old)) ≡ at + laid + 1 }
@@ -232,17 +206,41 @@ pub(crate) fn raise_at<C: Caller>(
     requires room { at + most + KEPT_SLOTS < STACK_SLOTS }
     ensures few { result.1 ≤ most }
     ensures ran { Ran C.base C.tells C.tells_known C.standing caller.old caller.new 0 }
-    ensures laid { (known : KnownObjects) (name : Name) (heads : List Datum) (buckets : ℕ → List Link) (own : Thread) → C.knows caller.old known → MayAdd (C.standing caller.old) known table word.now n name heads buckets → IsLaid own (buckets (bucket_of word.now)) laid (C.standing caller.old).own → length own.stack ≡ at → slice_index_or own.stack table datum.Null ≡ datum.Object name → IsLaid own (buckets (bucket_of word.now)) result.1 (C.standing caller.new).own }
-    ensures raised { (known : KnownObjects) (name : Name) (heads : List Datum) (buckets : ℕ → List Link) (own : Thread) → C.knows caller.old known → MayAdd (C.standing caller.old) known table word.now n name heads buckets → IsLaid own (buckets (bucket_of word.now)) laid (C.standing caller.old).own → length own.stack ≡ at → slice_index_or own.stack table datum.Null ≡ datum.Object name → RaisesPresent known word.now n name buckets result.0 (C.knows caller.new) }
-    ensures aside { (known : KnownObjects) (name : Name) (heads : List Datum) (buckets : ℕ → List Link) (own : Thread) (other : KnownObjects) → C.knows caller.old known → MayAdd (C.standing caller.old) known table word.now n name heads buckets → IsLaid own (buckets (bucket_of word.now)) laid (C.standing caller.old).own → length own.stack ≡ at → slice_index_or own.stack table datum.Null ≡ datum.Object name → C.knows caller.old other → LacksTable other name buckets → C.knows caller.new other }
+    ensures laid { (known : KnownObjects) (name : Name) (heads : List Datum) (buckets : ℕ → List Link) (own : Thread) → C.knows caller.old known → MayAdd (C.standing caller.old) known table word.now n name heads buckets → IsLaid own (drop window (buckets (bucket_of word.now))) laid (C.standing caller.old).own → length own.stack ≡ at → slice_index_or own.stack table datum.Null ≡ datum.Object name → IsLaid own (drop window (buckets (bucket_of word.now))) result.1 (C.standing caller.new).own }
+    ensures raised { (known : KnownObjects) (name : Name) (heads : List Datum) (buckets : ℕ → List Link) (own : Thread) → C.knows caller.old known → MayAdd (C.standing caller.old) known table word.now n name heads buckets → IsLaid own (drop window (buckets (bucket_of word.now))) laid (C.standing caller.old).own → length own.stack ≡ at → slice_index_or own.stack table datum.Null ≡ datum.Object name → RaisesPresent known word.now n name buckets result.0 (C.knows caller.new) }
+    ensures aside { (known : KnownObjects) (name : Name) (heads : List Datum) (buckets : ℕ → List Link) (own : Thread) (other : KnownObjects) → C.knows caller.old known → MayAdd (C.standing caller.old) known table word.now n name heads buckets → IsLaid own (drop window (buckets (bucket_of word.now))) laid (C.standing caller.old).own → length own.stack ≡ at → slice_index_or own.stack table datum.Null ≡ datum.Object name → C.knows caller.old other → LacksTable other name buckets → C.knows caller.new other }
 {
-    if place < laid {
-        let found = raise_laid(caller, table, bucket, word, n, place, at, laid);
+    if place < window {
+        let found = raise_from(caller, table, bucket, word, n, place, at + laid + 1);
         return (found, laid);
     }
-    if place < most + NEAR_SLOTS as u32 {
-        raise_near(caller, table, bucket, word, n, place, at, laid, most)
-    } else {
-        raise_far(caller, table, bucket, word, n, place, at, laid, most)
+    if place - window < laid {
+        let found = raise_laid(
+            caller,
+            table,
+            bucket,
+            word,
+            n,
+            place - window,
+            window,
+            at,
+            laid,
+        );
+        return (found, laid);
     }
+    if place - window < most {
+        return raise_on(
+            caller,
+            table,
+            bucket,
+            word,
+            n,
+            place - window,
+            window,
+            at,
+            laid,
+            most,
+        );
+    }
+    (false, laid)
 }

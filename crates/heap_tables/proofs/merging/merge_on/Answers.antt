@@ -1,4 +1,4 @@
-use Rattle.std.proofs.Common.{◌≡◌, ◌+◌, ◌-◌, ◌^◌, ◌∙◌, subst, refl, arith}
+use Rattle.std.proofs.Common.{◌≡◌, ◌+◌, ◌-◌, ◌^◌, ◌∙◌, drop, subst, refl, arith}
 use Rattle.heap_tables.specs.Layouts.{GoesLaid}
 use Rattle.heap_tables.proofs.Laid.{laid_size}
 use Rattle.heap_tables.proofs.LaidMerges.{merges_found, merges_lost}
@@ -11,7 +11,7 @@ loop-turn-init g c = let C = g.C.Caller in record {
   groups = refl;
   few = omega arith;
   ran = ran_none C.base C.tells C.tells_known C.standing c.args.caller.now;
-  merged = λ m is start own below size y. let e : c.args.place ≡ c.args.place + 0 = omega arith in subst (λ p. GoesLaid m is c.args.bucket start p 0 own (C.standing c.args.caller.now).own (C.knows c.args.caller.now)) e y;
+  merged = λ m is start own below size y. let e : c.args.place ≡ c.args.place + 0 = omega arith in subst (λ p. GoesLaid m is c.args.bucket start p c.args.window 0 own (C.standing c.args.caller.now).own (C.knows c.args.caller.now)) e y;
 }
 
 pub merge_laid-found-requires-clause-tables : goal.merge_laid-found-requires-clause-tables
@@ -31,7 +31,7 @@ merge_laid-found-requires-clause-top g c =
     let h = c.requires.tables in
     let y = c.loop-turn.invariant.merged h.0 h.1 h.2 h.3 h.4 h.5 h.6 in
     let laid = y.laid in
-    let size = laid_size h.3 (((y.merged).into_table).buckets c.args.bucket) c.loop-turn.laid (C.standing c.loop-turn.caller).own laid.1 in
+    let size = laid_size h.3 (drop c.args.window (((y.merged).into_table).buckets c.args.bucket)) c.loop-turn.laid (C.standing c.loop-turn.caller).own laid.1 in
     omega (arith, size, h.5)
 
 pub merge_laid-found-requires-clause-few : goal.merge_laid-found-requires-clause-few
@@ -50,7 +50,7 @@ pub returns-then-not-found-clause-merged : goal.returns-then-not-found-clause-me
 returns-then-not-found-clause-merged g c m is start own below size y =
     let C = g.C.Caller in
     let at = c.loop-turn.invariant.merged m is start own below size y in
-    merges_lost m is c.args.bucket start (c.args.place + c.loop-turn.turn) _ own (C.standing c.merge_laid-found.new.caller).own (C.knows c.merge_laid-found.new.caller) _ c.if-not-found.true (c.merge_laid-found.ensures.merged m is start own below size at)
+    merges_lost m is c.args.bucket start (c.args.place + c.loop-turn.turn) c.args.window _ own (C.standing c.merge_laid-found.new.caller).own (C.knows c.merge_laid-found.new.caller) _ c.if-not-found.true (c.merge_laid-found.ensures.merged m is start own below size at)
 
 pub loop-turn-preserved : goal.loop-turn-preserved
 loop-turn-preserved g c = let C = g.C.Caller in record {
@@ -61,12 +61,15 @@ loop-turn-preserved g c = let C = g.C.Caller in record {
   merged = λ m is start own below size y.
       let at = c.loop-turn.invariant.merged m is start own below size y in
       let e : c.args.place + c.loop-turn.turn + 1 ≡ c.args.place + (c.loop-turn.turn + 1) = omega arith in
-      subst (λ p. GoesLaid m is c.args.bucket start p c.merge_laid-found.result.1 own (C.standing c.merge_laid-found.new.caller).own (C.knows c.merge_laid-found.new.caller)) e
-      (merges_found m is c.args.bucket start (c.args.place + c.loop-turn.turn) _ own (C.standing c.merge_laid-found.new.caller).own (C.knows c.merge_laid-found.new.caller) _ c.if-not-found.false (c.merge_laid-found.ensures.merged m is start own below size at));
+      subst (λ p. GoesLaid m is c.args.bucket start p c.args.window c.merge_laid-found.result.1 own (C.standing c.merge_laid-found.new.caller).own (C.knows c.merge_laid-found.new.caller)) e
+      (merges_found m is c.args.bucket start (c.args.place + c.loop-turn.turn) c.args.window _ own (C.standing c.merge_laid-found.new.caller).own (C.knows c.merge_laid-found.new.caller) _ c.if-not-found.false (c.merge_laid-found.ensures.merged m is start own below size at));
 }
 
 pub returns-clause-merged : goal.returns-clause-merged
 returns-clause-merged g c m is start own below size y =
     let C = g.C.Caller in
     let end : c.loop-turn.turn ≡ (2 ^ 32 - 1) - c.args.place = omega (arith, c.loop-turn-test.false, c.loop-turn.auto.turn-end) in
-    subst (λ n. GoesLaid m is c.args.bucket start (c.args.place + n) c.loop-turn.laid own (C.standing c.loop-turn.caller).own (C.knows c.loop-turn.caller)) end (c.loop-turn.invariant.merged m is start own below size y)
+    subst (λ n. GoesLaid m is c.args.bucket start (c.args.place + n) c.args.window c.loop-turn.laid own (C.standing c.loop-turn.caller).own (C.knows c.loop-turn.caller)) end (c.loop-turn.invariant.merged m is start own below size y)
+
+pub merge_laid-found-requires-clause-window : goal.merge_laid-found-requires-clause-window
+merge_laid-found-requires-clause-window g c = c.requires.window
