@@ -147,7 +147,7 @@ pub fn next_entry<C: Caller>(
     ensures aside { (known : KnownObjects) (name : Name) (counts : WordCounts) (may : MayWalk (C.standing caller.old) known table name counts) (other : KnownObjects) → C.knows caller.old known → C.knows caller.old other → LacksTable other name (may.is_table).buckets → C.knows caller.new other }
     ensures next { IfOk result (λ found. (known : KnownObjects) (name : Name) (counts : WordCounts) (may : MayWalk (C.standing caller.old) known table name counts) → C.knows caller.old known → IsNextEntry counts (may.is_table).buckets at found) }
 {
-    let top = stack_size(caller);
+    let top = stack_size(caller, table);
     let mut buffer = [0; KEY_BYTES];
     match find_next(caller, table, at, &mut buffer, top) {
         Some((size, count, next)) => {

@@ -56,29 +56,6 @@ pub(crate) fn bucket_of(word: &[u8]) -> u32
     hash as u32
 }
 
-/// Whether a slot refers to the key of the word, by its length and all its bytes.
-fn has_bytes<C: Caller>(caller: &mut C, key: u32, word: &[u8], top: u32) -> bool
-    requires key { HasKey (C.standing caller.old) (C.knows caller.old) key }
-    requires word { length word.now ≤ KEY_BYTES }
-    requires room { length (stack_in (C.standing caller.old)) < STACK_SLOTS }
-    requires top { length (stack_in (C.standing caller.old)) ≡ top }
-    ensures ran { Ran C.base C.tells C.tells_known C.standing caller.old caller.new 0 }
-    ensures keeps { KeepsKnown (C.knows caller.old) (C.knows caller.new) }
-    ensures own { (C.standing caller.new).own ≡ (C.standing caller.old).own }
-    ensures answer { (known : KnownObjects) (name : Name) (other : List ℕ) → C.knows caller.old known → IsKeyInSlot (C.standing caller.old) known key name other → IsTrue result ↔ (other ≡ word.now) }
-{
-    if !field_is(caller, key, 0, top, word.len() as u64) {
-        return false;
-    }
-    let count = groups(word);
-    for i in 0..count {
-        if !field_is(caller, key, i + 1, top, group(word, i)) {
-            return false;
-        }
-    }
-    true
-}
-
 /// Whether the first bytes of a key may be those of the word, of whose first group this is the number.
 #[inline(always)]
 fn begins_as<C: Caller>(caller: &mut C, key: u32, word: &[u8], first: u64, top: u32) -> bool
@@ -90,6 +67,7 @@ fn begins_as<C: Caller>(caller: &mut C, key: u32, word: &[u8], first: u64, top: 
     ensures keeps { KeepsKnown (C.knows caller.old) (C.knows caller.new) }
     ensures own { (C.standing caller.new).own ≡ (C.standing caller.old).own }
     ensures answer { (known : KnownObjects) (name : Name) (other : List ℕ) → C.knows caller.old known → IsKeyInSlot (C.standing caller.old) known key name other → other ≡ word.now → result ≡ true }
+    ensures begins { (known : KnownObjects) (name : Name) (other : List ℕ) → C.knows caller.old known → IsKeyInSlot (C.standing caller.old) known key name other → result ≡ true → 0 < length word.now → 0 < length other → group other 0 ≡ group word.now 0 }
 {
     if word.is_empty() {
         return true;
@@ -102,7 +80,8 @@ fn begins_as<C: Caller>(caller: &mut C, key: u32, word: &[u8], first: u64, top: 
     same
 }
 
-/// Whether a slot refers to the key of the word, of whose first group this is the number.
+/// Whether a slot refers to the key of the word, of whose first group this is the number: by its first group, its length, and the
+/// groups after the first.
 #[inline(always)]
 pub(crate) fn is_key<C: Caller>(caller: &mut C, key: u32, word: &[u8], first: u64, top: u32) -> bool
     requires key { HasKey (C.standing caller.old) (C.knows caller.old) key }
@@ -118,7 +97,16 @@ pub(crate) fn is_key<C: Caller>(caller: &mut C, key: u32, word: &[u8], first: u6
     if !begins_as(caller, key, word, first, top) {
         return false;
     }
-    has_bytes(caller, key, word, top)
+    if !field_is(caller, key, 0, top, word.len() as u64) {
+        return false;
+    }
+    let count = groups(word);
+    for i in 1..count {
+        if !field_is(caller, key, i + 1, top, group(word, i)) {
+            return false;
+        }
+    }
+    true
 }
 
 /// The number of the first group of the bytes of a key's word, or 0 where it has no bytes.

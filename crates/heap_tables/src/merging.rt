@@ -452,7 +452,7 @@ fn merge_with<C: Caller>(
     ensures stopped { OnErr result ((known : KnownObjects) (from_name into_name : Name) (from_counts into_counts : WordCounts) (may : MayMerge (C.standing caller.old) known from into from_name into_name from_counts into_counts) → C.knows caller.old known → IsMergedPart C.base C.tells C.tells_known C.standing known from_name into_name from_counts into_counts (may.from_table).buckets (may.into_table).buckets caller.old caller.new (C.knows caller.new)) }
     ensures aside { (known : KnownObjects) (from_name into_name : Name) (from_counts into_counts : WordCounts) (may : MayMerge (C.standing caller.old) known from into from_name into_name from_counts into_counts) (other : KnownObjects) → C.knows caller.old known → C.knows caller.old other → LacksTable other from_name (may.from_table).buckets → LacksTable other into_name (may.into_table).buckets → C.knows caller.new other }
 {
-    let top = stack_size(caller);
+    let top = stack_size(caller, into);
     let mut buffer = [0; KEY_BYTES];
     let mut groups = [0; STACK_SLOTS];
     merge_buckets(caller, from, into, &mut buffer, &mut groups, notes, top)

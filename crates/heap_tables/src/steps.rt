@@ -259,16 +259,17 @@ fn is_bad_slot(shown: Reply) -> bool
     shown == Reply::Refused(Refusal::BadSlot)
 }
 
-/// The number of slots of the caller's stack.
-pub fn stack_size<C: Caller>(caller: &mut C) -> u32
+/// The number of slots of the caller's stack, which has this one.
+pub fn stack_size<C: Caller>(caller: &mut C, slot: u32) -> u32
     requires some { KnowsSome (C.knows caller.old) }
+    requires slot { slot < length (stack_in (C.standing caller.old)) }
     requires room { length (stack_in (C.standing caller.old)) ≤ STACK_SLOTS }
     ensures ran { Ran C.base C.tells C.tells_known C.standing caller.old caller.new 0 }
     ensures keeps { KeepsKnown (C.knows caller.old) (C.knows caller.new) }
     ensures own { (C.standing caller.new).own ≡ (C.standing caller.old).own }
     ensures size { result ≡ length (stack_in (C.standing caller.old)) }
 {
-    for top in 0..STACK_SLOTS as u32 {
+    for top in slot + 1..STACK_SLOTS as u32 {
         if is_bad_slot(get(caller, top)) {
             return top;
         }

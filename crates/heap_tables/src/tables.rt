@@ -283,7 +283,7 @@ pub fn add<C: Caller>(caller: &mut C, table: u32, word: &[u8], n: u64) -> Result
     ensures aside { OnOk result ((known : KnownObjects) (name : Name) (counts : WordCounts) (may : MayCount (C.standing caller.old) known table word.now n name counts) (other : KnownObjects) → C.knows caller.old known → C.knows caller.old other → LacksTable other name (may.is_table).buckets → C.knows caller.new other) }
     ensures left { OnErr result ((known : KnownObjects) (name : Name) (counts : WordCounts) (may : MayCount (C.standing caller.old) known table word.now n name counts) (other : KnownObjects) → C.knows caller.old known → C.knows caller.old other → LacksTable other name (may.is_table).buckets → KnowsWithNext (C.standing caller.old) other (C.knows caller.new)) }
 {
-    let top = stack_size(caller);
+    let top = stack_size(caller, table);
     add_links(caller, table, word, n, top)
 }
 
@@ -321,6 +321,6 @@ pub fn count_of<C: Caller>(caller: &mut C, table: u32, word: &[u8]) -> Option<u6
     ensures aside { (known : KnownObjects) (name : Name) (counts : WordCounts) (may : MayLook (C.standing caller.old) known table word.now name counts) (other : KnownObjects) → C.knows caller.old known → C.knows caller.old other → LacksTable other name (may.is_table).buckets → C.knows caller.new other }
     ensures count { (known : KnownObjects) (name : Name) (counts : WordCounts) → C.knows caller.old known → MayLook (C.standing caller.old) known table word.now name counts → result ≡ finite.get counts word.now }
 {
-    let top = stack_size(caller);
+    let top = stack_size(caller, table);
     look_up(caller, table, word, top)
 }

@@ -14,6 +14,7 @@ mod tables;
 
 use group_jobs::print_counts;
 use lines::{LineError, read_lines};
+use object_layout::NoMemory;
 use std::alloc::{AllocError, Global};
 use std::io;
 use std::process::ExitCode;
@@ -39,22 +40,31 @@ enum TextError {
     Sum(SumError),
 }
 
+impl From<(u64, LineError)> for TextError {
+    fn from((number, error): (u64, LineError)) -> TextError {
+        TextError::Line(number, error)
+    }
+}
+
+impl From<SumError> for TextError {
+    fn from(error: SumError) -> TextError {
+        TextError::Sum(error)
+    }
+}
+
+impl From<NoMemory> for TextError {
+    fn from(_: NoMemory) -> TextError {
+        TextError::Sum(SumError::Memory)
+    }
+}
+
 /// The text of the sums of a text's lines.
 fn sum_text(alloc: Global, bytes: &[u8]) -> Result<Vec<u8>, TextError>
     ensures { IfOk result (λ text. PrintsSums bytes.now text.items) }
 {
-    let lines = match read_lines(alloc, bytes) {
-        Ok(lines) => lines,
-        Err((number, error)) => return Err(TextError::Line(number, error)),
-    };
-    let list = match sum_lines(alloc, PAGES, &lines) {
-        Ok(list) => list,
-        Err(error) => return Err(TextError::Sum(error)),
-    };
-    match print_counts(alloc, &list) {
-        Ok(text) => Ok(text),
-        Err(_) => Err(TextError::Sum(SumError::Memory)),
-    }
+    let lines = read_lines(alloc, bytes)?;
+    let list = sum_lines(alloc, PAGES, &lines)?;
+    Ok(print_counts(alloc, &list)?)
 }
 
 /// The line that tells an error.

@@ -6,6 +6,7 @@ use Rattle.heap_tables.specs.declared.TheConstants.{KEY_BYTES}
 use Rattle.heap_tables.proofs.Bytes.{length_front}
 use Rattle.heap_tables.proofs.RunOn.{ran_more}
 use Rattle.heap_tables.proofs.Visits.{next_count, walk_now}
+use Rattle.heap_tables.proofs.Effects.{in_bounds}
 use Rattle.heap_tables.proofs.cursors.next_entry.Goals as goal
 
 pub find_next-requires-clause-table : goal.find_next-requires-clause-table
@@ -87,3 +88,6 @@ pub returns-in-None-clause-aside : goal.returns-in-None-clause-aside
 returns-in-None-clause-aside g c known name counts may other k ko lacks =
     let C = g.C.Caller in
     c.find_next.ensures.aside known name counts (walk_now (C.standing c.args.caller.now) (C.standing c.stack_size-top.new.caller) known c.args.table name counts may c.stack_size-top.ensures.own) other (c.stack_size-top.ensures.keeps known k) (c.stack_size-top.ensures.keeps other ko) lacks
+
+pub stack_size-top-requires-clause-slot : goal.stack_size-top-requires-clause-slot
+stack_size-top-requires-clause-slot g c = let h = c.requires.table in in_bounds _ _ h.1 (h.4).slot

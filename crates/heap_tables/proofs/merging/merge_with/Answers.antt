@@ -11,6 +11,7 @@ use Rattle.std.specs.List.{Contains}
 use Rattle.std.proofs.lemmas.List.Elements.{Contains-get_or}
 use Rattle.heap_tables.specs.Asides.{LacksTable}
 use Rattle.yak_model.specs.Private.{KnownObjects}
+use Rattle.heap_tables.proofs.Effects.{in_bounds}
 use Rattle.heap_tables.proofs.merging.merge_with.Goals as goal
 
 pub merge_buckets-requires-clause-tables : goal.merge_buckets-requires-clause-tables
@@ -76,3 +77,6 @@ returns-clause-aside g c known from_name into_name from_counts into_counts may o
     let only : Contains (other ∷ []) other = Contains-get_or (other ∷ []) 0 other (omega arith) in
     either c.merge_buckets.result _ (ok_map c.merge_buckets.result _ _ (λ merged. ((merged m is slots none).merged).others_known other only) c.merge_buckets.ensures.merged)
     (err_map c.merge_buckets.result _ _ (λ stopped. ((stopped m is slots none).merged).others_known other only) c.merge_buckets.ensures.stopped)
+
+pub stack_size-top-requires-clause-slot : goal.stack_size-top-requires-clause-slot
+stack_size-top-requires-clause-slot g c = let h = c.requires.tables in in_bounds _ _ h.2 (h.6).into_slot

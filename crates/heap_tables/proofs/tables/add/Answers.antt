@@ -13,6 +13,7 @@ use Rattle.heap_tables.proofs.Linked.{after_moved}
 use Rattle.heap_tables.proofs.OnResult.{ok_both, ok_map, err_map}
 use Rattle.heap_tables.proofs.RunOn.{ran_more, then_ran, then_out, next_same}
 use Rattle.std.specs.FinMap.{insert}
+use Rattle.heap_tables.proofs.Effects.{in_bounds}
 use Rattle.heap_tables.proofs.tables.add.Goals as goal
 
 may_add : (s now : Standing) → now.own ≡ s.own → (known : KnownObjects) (table : ℕ) (word : List ℕ) (n : ℕ) (name : Name) (counts : WordCounts) (may : MayCount s known table word n name counts) → MayAdd now known table word n name (may.is_table).heads (may.is_table).buckets
@@ -95,3 +96,6 @@ returns-clause-left g c = err_map c.add_links.result _ _
       | inr h ↦ inr (h.0, subst (λ n. g.C.Caller.knows c.add_links.new.caller (insert other n h.0)) next h.1)
     ])
     c.add_links.ensures.left
+
+pub stack_size-top-requires-clause-slot : goal.stack_size-top-requires-clause-slot
+stack_size-top-requires-clause-slot g c = let h = c.requires.table in in_bounds _ _ h.1 (h.4).slot

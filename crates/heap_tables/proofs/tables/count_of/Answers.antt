@@ -1,5 +1,6 @@
 use Rattle.heap_tables.proofs.Lookups.{look_now}
 use Rattle.heap_tables.proofs.RunOn.{ran_more}
+use Rattle.heap_tables.proofs.Effects.{in_bounds}
 use Rattle.heap_tables.proofs.tables.count_of.Goals as goal
 
 pub look_up-requires-clause-table : goal.look_up-requires-clause-table
@@ -22,3 +23,6 @@ returns-clause-aside g c known name counts may other k ko lacks =
 pub returns-clause-count : goal.returns-clause-count
 returns-clause-count g c known name counts k may =
     let C = g.C.Caller in c.look_up.ensures.count known name counts (c.stack_size-top.ensures.keeps known k) (look_now (C.standing c.args.caller.now) (C.standing c.stack_size-top.new.caller) known c.args.table c.args.word.now name counts may c.stack_size-top.ensures.own)
+
+pub stack_size-top-requires-clause-slot : goal.stack_size-top-requires-clause-slot
+stack_size-top-requires-clause-slot g c = let h = c.requires.table in in_bounds _ _ h.1 (h.4).slot

@@ -4,7 +4,7 @@ use Rattle.yak_model.specs.Private.{KnownObjects}
 use Rattle.heap_tables.specs.Runs.{KeepsKnown, Ran}
 use Rattle.yak_model.specs.Tables.{group}
 use Rattle.heap_tables.specs.Keys.{IsKeyInSlot}
-use Rattle.heap_tables.proofs.keys.has_bytes.Given as goal
+use Rattle.heap_tables.proofs.keys.is_key.Given as goal
 
 abbrev pub invariant-loop-i : goal.invariant-loop-i
 invariant-loop-i g l = let C = g.C.Caller in record {
