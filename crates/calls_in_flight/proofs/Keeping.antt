@@ -18,7 +18,7 @@ use Rattle.yak_model.specs.Lawful.{EndsAsked, IsEntryLawful}
 use Rattle.yak_model.specs.Packed.{IsPacked}
 use Rattle.yak_model.specs.Spaces.{SpaceState, TurnsAll}
 use Rattle.yak_model.specs.State.{object_of}
-use Rattle.yak_model.specs.Stands.{pages_of, words_of}
+use Rattle.yak_model.specs.Stands.{pages_of, words_taken}
 use Rattle.region_pages.specs.Counts.{used_of}
 use Rattle.region_pages.proofs.Counting.{used_is}
 use Rattle.calls_in_flight.specs.Flight.{Flight, flight_at}
@@ -142,7 +142,7 @@ packed-kept m ws now fs gs i put s h st x packed =
     let rows : length c.table ≡ m.pages = (shape_whole m ws fs s h.fit h.stands).table in
     let one = used_is m c.table c.heap (object_of s) h.stands.places (λ _. 0) x rows h.stands.stands.heap in
     let two = used_is m d.table d.heap (object_of st.after) st.later.stands.places (λ _. 0) x (ap (λ (t : List (List ℕ)). length t) same ∙ rows) st.later.stands.stands.heap in
-    let two' = subst (λ (t : List (List ℕ)). used_of t x ≡ words_of st.later.stands.places.pages (object_of st.after) x) same two in
+    let two' = subst (λ (t : List (List ℕ)). used_of t x ≡ words_taken st.later.stands.places.pages (object_of st.after) x) same two in
     let pages : pages_of d.table x ≡ pages_of c.table x = ap (λ (t : List (List ℕ)). pages_of t x) same in
     omega (arith, packed, one, two', pages)
 

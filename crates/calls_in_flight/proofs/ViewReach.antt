@@ -12,7 +12,7 @@ use Rattle.object_layout.specs.Layout.{IsHeader, header_word}
 use Rattle.heap_words.specs.declared.map.Areas.{Areas}
 use Rattle.heap_words.specs.Contents.{stack_of}
 use Rattle.yak_model.specs.Graph.{fields_at, is_bad_field, is_bad_slot, is_reference, is_stack_full, refusal_of, slot_of}
-use Rattle.yak_model.specs.declared.TheConstants.{STACK_SLOTS}
+use Rattle.heap_words.specs.declared.TheConstants.{STACK_SLOTS}
 use Rattle.yak_model.specs.Graph as model
 use Rattle.yak_model.specs.Spaces.{SpaceState}
 use Rattle.yak_model.proofs.Stacks.{stack_length}

@@ -8,7 +8,7 @@ use Rattle.epoch_lattice.specs.Lattice.{space_index}
 use Rattle.yak_model.specs.Spaces.{SpaceState, home_of, innermost}
 use Rattle.yak_model.specs.State.{Thing, object_of, view}
 use Rattle.yak_model.specs.Plans.{Move, forwarded, without}
-use Rattle.yak_model.specs.Stands.{Stands, words_of}
+use Rattle.yak_model.specs.Stands.{Stands, words_taken}
 use Rattle.relocation.specs.Moves.{move_at, size_at, words_moved}
 use Rattle.relocation.proofs.Lawful.{by_move-at}
 use Rattle.relocation.proofs.Moving.{fields_at-header}
@@ -37,7 +37,7 @@ module _ (m : Areas) (before c : Contents) (s : SpaceState) (st : Stands m befor
   one = one_each m before.table before.heap s st.places (λ _. 0) st.stands.heap
 
   -- the words of the moved objects are among those of the region
-  pub few_words : (words_moved c.heap count (move_at c.scratch) ≤ words_of st.places.pages (object_of s) (innermost s.graph t)) × (3 * count ≤ words_of st.places.pages (object_of s) (innermost s.graph t))
+  pub few_words : (words_moved c.heap count (move_at c.scratch) ≤ words_taken st.places.pages (object_of s) (innermost s.graph t)) × (3 * count ≤ words_taken st.places.pages (object_of s) (innermost s.graph t))
   few_words =
       let a = moved_few m before c s st t count areas has.0 r.ready in
       let b = three_each c.heap count moves in

@@ -16,7 +16,7 @@ use Rattle.heap_words.specs.declared.map.Areas.{Areas}
 use Rattle.heap_words.specs.Cells.{row}
 use Rattle.heap_words.specs.Contents.{Contents}
 use Rattle.yak_model.specs.State.{Thing}
-use Rattle.yak_model.specs.Stands.{words_in, words_of}
+use Rattle.yak_model.specs.Stands.{words_in, words_taken}
 use Rattle.remember_sets.specs.Filed.{chain}
 use Rattle.heap_walks.specs.Laid.{work_of}
 use Rattle.escape_closure.specs.Words.{scans_left}
@@ -51,7 +51,7 @@ start_term e c zero_words n =
       | Some o ↦ λ some. let nine : scans_left (work_of e.laid c n) ≡ MAX_DEPTH + 1 = ap scans_left (zero_words n o some) in rw nine (omega arith)
     ] refl
 
-start_potential : (e : Ended) (c : Contents) → ((n : Name) (o : Thing) → e.laid.state.objects n ≡ Some o → work_of e.laid c n ≡ 0) → potential e c ≡ 27 * words_of e.laid.places.pages e.laid.state.objects e.region
+start_potential : (e : Ended) (c : Contents) → ((n : Name) (o : Thing) → e.laid.state.objects n ≡ Some o → work_of e.laid c n ≡ 0) → potential e c ≡ 27 * words_taken e.laid.places.pages e.laid.state.objects e.region
 start_potential e c zero_words = times_sum _ _ 27 e.laid.places.pages (λ ns. times_sum _ _ 27 ns (start_term e c zero_words))
 
 pub targets_stand : (m : Areas) (e : Ended) (c s1 s2 s3 d : Contents) (i j k : Tally) (thread depth readers r0 r1 r2 r3 r4 found : ℕ) (x : Space) → 1 ≤ thread → EndsAt m e c thread depth

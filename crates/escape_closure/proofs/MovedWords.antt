@@ -12,7 +12,7 @@ use Rattle.yak_model.specs.Spaces.{SpaceState, innermost}
 use Rattle.yak_model.specs.State.{object_of}
 use Rattle.yak_model.specs.Placed.{IsAt, names_of}
 use Rattle.yak_model.specs.Plans.{Move}
-use Rattle.yak_model.specs.Stands.{Stands, words_in, words_of}
+use Rattle.yak_model.specs.Stands.{Stands, words_in, words_taken}
 use Rattle.relocation.specs.Moves.{move_at, size_at, words_moved}
 use Rattle.escape_closure.specs.Ends.{PlanReady}
 use Rattle.escape_closure.proofs.Leads.{moved_at, size_now}
@@ -69,7 +69,7 @@ module _ (m : Areas) (before c : Contents) (s : SpaceState) (stands : Stands m b
       let more = one_more w.name at.0 at.1 old limit at.2 w.place (low k (omega arith)) in
       omega (arith, rest, more, own)
 
-  pub moved_few : words_moved c.heap count (move_at c.scratch) ≤ words_of stands.places.pages (object_of s) (innermost s.graph t)
+  pub moved_few : words_moved c.heap count (move_at c.scratch) ≤ words_taken stands.places.pages (object_of s) (innermost s.graph t)
   moved_few =
       let all = moved_below count (heap_length m) (omega arith) (λ k lt. let w = ready.numbered.within k lt in omega (arith, w)) in
       let most = sum_by-le-sum_by (λ (ns : List Name). sum_by (below (heap_length m)) ns) (λ (ns : List Name). sum_by (λ (n : Name). words_in (innermost s.graph t) (object_of s n)) ns) stands.places.pages (λ ns. sum_by-le-sum_by (below (heap_length m)) (λ (n : Name). words_in (innermost s.graph t) (object_of s n)) ns (λ n. cond_most (stands.places.at n) (heap_length m) (words_in (innermost s.graph t) (object_of s n)))) in

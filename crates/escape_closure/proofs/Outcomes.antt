@@ -17,7 +17,7 @@ use Rattle.relocation.specs.Slide.{Runs, Sliding}
 use Rattle.yak_model.specs.Spaces.{SpaceState, innermost}
 use Rattle.yak_model.specs.State.{State, Thing, object_of, view}
 use Rattle.yak_model.specs.Placed.{Places, size_by, space_word}
-use Rattle.yak_model.specs.Stands.{Stands, StandsAs, free_pages, pages_of, words_of}
+use Rattle.yak_model.specs.Stands.{Stands, StandsAs, free_pages, pages_of, words_taken}
 use Rattle.yak_model.specs.Chains.{IsRegionOf}
 use Rattle.yak_model.specs.Recorded.{RecordedAs}
 use Rattle.remember_sets.specs.Filed.{all_filed, chain, logged, page_word}
@@ -62,18 +62,18 @@ recorded_scratch : (m : Areas) (c : Contents) (s : SpaceState) (l : Places) (x :
 recorded_scratch m c s l x r = record { crossing = r.crossing; fields = r.fields; read = r.read; closed = r.closed }
 
 -- a region that has pages is half full
-dense_at : (m : Areas) (c : Contents) (s : SpaceState) (st : Stands m c s) (x : Space) → IsRegionOf m x → 0 < pages_of c.table x → page_words m * (pages_of c.table x - 1) ≤ 2 * words_of st.places.pages (object_of s) x
+dense_at : (m : Areas) (c : Contents) (s : SpaceState) (st : Stands m c s) (x : Space) → IsRegionOf m x → 0 < pages_of c.table x → page_words m * (pages_of c.table x - 1) ≤ 2 * words_taken st.places.pages (object_of s) x
 dense_at m c s st Control own some = absurd own
 dense_at m c s st (Region u d) own some = let dense = (st.stands.dense u d own.0 own.1 own.2 own.3 some).1 in omega (arith, dense)
 
 -- what the numbers of the parts are
 pub record RegionCosts (m : Areas) (c mid planned : Contents) (s : SpaceState) (l l' : Places) (t count : ℕ) : Type 0 where
-  pub used : used_of mid.table (innermost s.graph t) ≡ words_of l.pages (object_of s) (innermost s.graph t)
-  pub moved : 3 * count ≤ words_of l.pages (object_of s) (innermost s.graph t)
-  pub few : pages_of mid.table (innermost s.graph t) ≤ 2 * words_of l.pages (object_of s) (innermost s.graph t) + 1
-  pub later : words_of l'.pages (object_of s) (innermost s.graph t) ≡ words_of l.pages (object_of s) (innermost s.graph t)
+  pub used : used_of mid.table (innermost s.graph t) ≡ words_taken l.pages (object_of s) (innermost s.graph t)
+  pub moved : 3 * count ≤ words_taken l.pages (object_of s) (innermost s.graph t)
+  pub few : pages_of mid.table (innermost s.graph t) ≤ 2 * words_taken l.pages (object_of s) (innermost s.graph t) + 1
+  pub later : words_taken l'.pages (object_of s) (innermost s.graph t) ≡ words_taken l.pages (object_of s) (innermost s.graph t)
   pub slots : length (chain m planned (innermost s.graph t)) ≤ records_of m c (innermost s.graph t)
-  pub pages : page_words m * pages_of planned.table (innermost s.graph t) ≤ 2 * words_of l.pages (object_of s) (innermost s.graph t) + page_words m
+  pub pages : page_words m * pages_of planned.table (innermost s.graph t) ≤ 2 * words_taken l.pages (object_of s) (innermost s.graph t) + page_words m
   pub stack : length (stack_of planned t) ≡ length (stack_of c t)
 
 module _ (m : Areas) (c : Contents) (s : SpaceState) (st : Stands m c s) (t escaping : ℕ) (mid : Contents) (b : Begun m c mid s st t escaping) where
@@ -217,7 +217,7 @@ module _ (m : Areas) (c : Contents) (s : SpaceState) (st : Stands m c s) (t esca
       }
 
   -- the pages of the region are half full
-  pages_few : (own : IsRegionOf m (innermost s.graph t)) (table : List (List ℕ)) → pages_of table (innermost s.graph t) ≡ pages_of c.table (innermost s.graph t) → page_words m * pages_of table (innermost s.graph t) ≤ 2 * words_of st.places.pages (object_of s) (innermost s.graph t) + page_words m
+  pages_few : (own : IsRegionOf m (innermost s.graph t)) (table : List (List ℕ)) → pages_of table (innermost s.graph t) ≡ pages_of c.table (innermost s.graph t) → page_words m * pages_of table (innermost s.graph t) ≤ 2 * words_taken st.places.pages (object_of s) (innermost s.graph t) + page_words m
   pages_few own table same = ⊎_elim
       (λ (none : pages_of c.table (innermost s.graph t) ≡ 0). omega (arith, none, same))
       (λ (some : pages_of c.table (innermost s.graph t) ≢ 0). let dense = dense_at m c s st (innermost s.graph t) own (omega (arith, some)) in omega (arith, dense, same, some))
@@ -226,7 +226,7 @@ module _ (m : Areas) (c : Contents) (s : SpaceState) (st : Stands m c s) (t esca
   pub region_costs : IsAreas m → HasThread m t → 1 ≤ depth_of c t → (planned : Contents) (count : ℕ) → count ≡ escaping → RegionReady m b.filing mid planned s b.later t count → length mid.table ≡ m.pages → length planned.table ≡ m.pages → RegionCosts m c mid planned s st.places b.later.places t count
   region_costs areas has low planned count same r long planned_long =
       let region : Space = innermost s.graph t in
-      let words : words_of b.later.places.pages (object_of s) region ≡ words_of st.places.pages (object_of s) region = ap (λ (l : Places). words_of l.pages (object_of s) region) b.places in
+      let words : words_taken b.later.places.pages (object_of s) region ≡ words_taken st.places.pages (object_of s) region = ap (λ (l : Places). words_taken l.pages (object_of s) region) b.places in
       let filing : depth_of b.filing t ≡ depth_of c t = ap (λ (x : Contents). depth_of x t) b.frame in
       let deep : 1 ≤ depth_of b.filing t = omega (arith, filing, low) in
       let few = (few_words m b.filing planned s b.later t count false areas has deep (region_ready m b.filing mid planned s b.later t count areas has r)).1 in
@@ -235,7 +235,7 @@ module _ (m : Areas) (c : Contents) (s : SpaceState) (st : Stands m c s) (t esca
       let fewer = b.few in
       let was : pages_of mid.table region ≡ pages_of c.table region = ap (λ (x : Contents). pages_of x.table region) b.written.frame ∙ ap (λ (x : Contents). pages_of x.table region) b.frame in
       let half = pages_few (innermost_region m c s st t has low) mid.table was in
-      let fewest : pages_of mid.table region ≤ 2 * words_of st.places.pages (object_of s) region + 1 = omega (arith, half) in
+      let fewest : pages_of mid.table region ≤ 2 * words_taken st.places.pages (object_of s) region + 1 = omega (arith, half) in
       record {
         used = used_is m mid.table mid.heap (object_of s) b.later.places (λ n. get_or mid.heap (b.later.places.at n + 2) 0) region long b.written.heap ∙ words;
         moved = omega (arith, few, words);

@@ -18,7 +18,7 @@ use Rattle.yak_model.specs.Spaces.{SpaceState, innermost}
 use Rattle.yak_model.specs.State.{IsClosed, Thing, object_of, view}
 use Rattle.yak_model.specs.Placed.{HeapStands, Places, names_of, size_by, space_word, words_by}
 use Rattle.yak_model.specs.Plans.{Move}
-use Rattle.yak_model.specs.Stands.{IsWhole, pages_of, words_in, words_of}
+use Rattle.yak_model.specs.Stands.{IsWhole, pages_of, words_in, words_taken}
 use Rattle.relocation.specs.Slidden.{names_after, table_of}
 use Rattle.relocation.proofs.SlidLaid.{get-table_of, length-table_of}
 use Rattle.escape_closure.specs.Targets.{IsEscaping}
@@ -137,10 +137,10 @@ module _ (m : Areas) (s : SpaceState) (whole : IsWhole s) (closed : IsClosed (vi
       let o = mover_of m s whole closed l t count some valid moves tight e was work h named name_is escaping c lt in
       ap (words_in x) o.2 ∙ ap (λ (y : Option Thing). cond (space_index (moves c).space == space_index x) (words_by y) 0) (sym o.1)
 
-  words_to : (c : ℕ) → c ≤ count → sum_by now_in (table_of (names_after m slid was.table (names_of l) c moves named) m.pages) ≡ words_of l.pages (object_of s) x + words_into (λ k. (moves k).space) (λ k. size_by (object_of s) (named k)) x c
+  words_to : (c : ℕ) → c ≤ count → sum_by now_in (table_of (names_after m slid was.table (names_of l) c moves named) m.pages) ≡ words_taken l.pages (object_of s) x + words_into (λ k. (moves k).space) (λ k. size_by (object_of s) (named k)) x c
   words_to zero le =
       let first = sum_same was_in now_in (names_of l) (names_after m slid was.table (names_of l) 0 moves named) m.pages first_page in
-      let table : sum_by was_in (table_of (names_of l) m.pages) ≡ words_of l.pages (object_of s) x = ap (sum_by was_in) (sym (pages_as_table l m.pages h.count)) in
+      let table : sum_by was_in (table_of (names_of l) m.pages) ≡ words_taken l.pages (object_of s) x = ap (sum_by was_in) (sym (pages_as_table l m.pages h.count)) in
       omega (arith, first, table)
   words_to (suc c) le =
       let before = words_to c (omega arith) in
@@ -149,7 +149,7 @@ module _ (m : Areas) (s : SpaceState) (whole : IsWhole s) (closed : IsClosed (vi
       omega (arith, before, more, moved)
 
   -- the words of another space are more by those that come to it
-  pub words_left : words_of (table_of (names_after m slid was.table (names_of l) count moves named) m.pages) left x ≡ words_of l.pages (object_of s) x + words_into (λ k. (moves k).space) (λ k. size_by (object_of s) (named k)) x count
+  pub words_left : words_taken (table_of (names_after m slid was.table (names_of l) count moves named) m.pages) left x ≡ words_taken l.pages (object_of s) x + words_into (λ k. (moves k).space) (λ k. size_by (object_of s) (named k)) x count
   words_left = words_to count (omega arith)
 
 -- ---- the pages of a space in two tables

@@ -14,7 +14,7 @@ use Rattle.yak_model.specs.Graph.{Thread, idle, thread_of}
 use Rattle.yak_model.specs.Spaces.{Counts, IsReachedFor, IsTarget, SpaceState, innermost}
 use Rattle.yak_model.specs.State.{Thing, object_of, view}
 use Rattle.yak_model.specs.Placed.{HeapStands}
-use Rattle.yak_model.specs.Stands.{Stands, words_of}
+use Rattle.yak_model.specs.Stands.{Stands, words_taken}
 use Rattle.yak_model.specs.Recorded.{Recorded}
 use Rattle.yak_model.specs.Chains.{IsRegionOf}
 use Rattle.yak_model.proofs.Stacks.{all-at}
@@ -160,7 +160,7 @@ module _ (m : Areas) (c : Contents) (s : SpaceState) (st : Stands m c s) (t dept
       heap = still_stands;
     }
 
-    pub few_reads : after ≤ before + (27 * words_of st.places.pages (object_of s) (innermost s.graph t) + 5 * length (chain m c (innermost s.graph t)) + 3 * length (stack_of c t) + (3 + (1 + 3 * STACK_SLOTS) * m.threads))
+    pub few_reads : after ≤ before + (27 * words_taken st.places.pages (object_of s) (innermost s.graph t) + 5 * length (chain m c (innermost s.graph t)) + 3 * length (stack_of c t) + (3 + (1 + 3 * STACK_SLOTS) * m.threads))
     few_reads =
         let size : length (stack_of d t) ≡ length (get_or (view s).stacks (t - 1) []) = stack_size m e.laid d t stand.among in
         let same : length (stack_of d t) ≡ length (stack_of c t) = ap (λ (x : Contents). length (stack_of x t)) stand.among.frame in

@@ -15,7 +15,7 @@ use Rattle.yak_model.specs.State.{IsOpen, object_of, view}
 use Rattle.yak_model.specs.Placed.{Holds, Places, datum_word, size_by, space_word, used_mark}
 use Rattle.yak_model.specs.Plans.{IsLawfulPlan, Move, forwarded, without}
 use Rattle.yak_model.specs.Packed.{IsSpaceOf}
-use Rattle.yak_model.specs.Stands.{CurrentsStand, PoolStands, Stands, claim_counter, current, free_pages, pages_of, words_of}
+use Rattle.yak_model.specs.Stands.{CurrentsStand, PoolStands, Stands, claim_counter, current, free_pages, pages_of, words_taken}
 use Rattle.yak_model.specs.Recorded.{Recorded}
 use Rattle.region_pages.specs.Pages.{TableFits}
 use Rattle.region_pages.specs.declared.TheConstants.{CLAIM_COUNTER}
@@ -73,7 +73,7 @@ pub record EndPlanned (m : Areas) (c d : Contents) (s : SpaceState) (l : Places)
   pub currents : CurrentsStand m d.currents d.table
   pub fits : TableFits m d.table
   pub own : (u e : ℕ) → Region u e ≡ innermost s.graph t → current d.currents u e ≡ current c.currents u e
-  pub dense : (u e : ℕ) → 1 ≤ u → u ≤ m.threads → 1 ≤ e → e ≤ max_depth m → Region u e ≢ innermost s.graph t → 0 < pages_of d.table (Region u e) → (current d.currents u e ≢ 0) × (page_words m * (pages_of d.table (Region u e) - 1) + used_mark d.table (current d.currents u e - 1) ≤ 2 * (words_of l.pages (object_of s) (Region u e) + words_into order.target (λ k. size_by (object_of s) (order.name k)) (Region u e) count))
+  pub dense : (u e : ℕ) → 1 ≤ u → u ≤ m.threads → 1 ≤ e → e ≤ max_depth m → Region u e ≢ innermost s.graph t → 0 < pages_of d.table (Region u e) → (current d.currents u e ≢ 0) × (page_words m * (pages_of d.table (Region u e) - 1) + used_mark d.table (current d.currents u e - 1) ≤ 2 * (words_taken l.pages (object_of s) (Region u e) + words_into order.target (λ k. size_by (object_of s) (order.name k)) (Region u e) count))
   pub in_turn : EscapingInTurn m s l t count order (λ k. (move_at d.scratch k).new) c (record d { scratch = c.scratch; heap = c.heap })
 
 -- The pages that the escaping objects need are more than the free ones, and these are both numbers. Placed by ascending

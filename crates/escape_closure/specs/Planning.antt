@@ -7,7 +7,7 @@ use Rattle.heap_words.specs.declared.map.Areas.{Areas}
 use Rattle.heap_words.specs.Contents.{Contents}
 use Rattle.yak_model.specs.Packed.{IsSpaceOf}
 use Rattle.yak_model.specs.Placed.{space_word, used_mark}
-use Rattle.yak_model.specs.Stands.{claim_counter, current, free_pages, pages_of, words_of}
+use Rattle.yak_model.specs.Stands.{claim_counter, current, free_pages, pages_of, words_taken}
 use Rattle.region_pages.specs.Placement.{IsPlaced, IsLastInPage, depth_in, words_left_at}
 use Rattle.region_pages.specs.declared.TheConstants.{CLAIM_COUNTER}
 use Rattle.relocation.specs.Moves.{move_at}
@@ -67,7 +67,7 @@ DenseIn m table currents words = (t d : ℕ) → 1 ≤ t → t ≤ m.threads →
 
 -- The words of the objects of a space in the pages, and of those of the first objects of a roll that go there.
 abbrev pub words_with : (m : Areas) (q : Aimed) (c : Contents) (count : ℕ) → Rolled q c (heap_length m) count → ℕ → Space → ℕ
-words_with m q c count r k x = words_of q.laid.places.pages q.laid.state.objects x + words_into (target_on q c (heap_length m) count r) (size_on q c (heap_length m) count r) x k
+words_with m q c count r k x = words_taken q.laid.places.pages q.laid.state.objects x + words_into (target_on q c (heap_length m) count r) (size_on q c (heap_length m) count r) x k
 
 -- Where the first objects of a roll are placed: each at the end of what its page held and of what came there before. A page
 -- that was claimed held nothing. The region's current page is as before.

@@ -12,7 +12,7 @@ use Rattle.yak_model.specs.declared.datum.Datum.TheVariants.{Null, Object}
 use Rattle.yak_model.specs.Spaces.{Counts}
 use Rattle.yak_model.specs.State.{Thing, IsDatum}
 use Rattle.yak_model.specs.Placed.{datum_word}
-use Rattle.yak_model.specs.Stands.{words_in, words_of}
+use Rattle.yak_model.specs.Stands.{words_in, words_taken}
 use Rattle.yak_model.specs.Recorded.{RecordedAs}
 use Rattle.remember_sets.specs.Filed.{chain}
 use Rattle.heap_words.specs.declared.map.Areas.{Areas}
@@ -176,4 +176,4 @@ pub record TargetsStand (m : Areas) (e : Ended) (before : ℕ) (d : Contents) (a
   pub settled : (n : Name) → IsHere e n → IsSettled e d n
   pub outside : (n : Name) (o : Thing) → e.laid.state.objects n ≡ Some o → o.home ≢ e.region → work_of e.laid d n ≡ 0
   pub counted : Counts (HasSome e d) escaping
-  pub reads : after ≤ before + (27 * words_of e.laid.places.pages e.laid.state.objects e.region + 5 * length (chain m e.laid.before e.region) + 3 * length (slice_index_or e.laid.state.stacks (e.thread - 1) []) + (3 + (1 + 3 * STACK_SLOTS) * m.threads))
+  pub reads : after ≤ before + (27 * words_taken e.laid.places.pages e.laid.state.objects e.region + 5 * length (chain m e.laid.before e.region) + 3 * length (slice_index_or e.laid.state.stacks (e.thread - 1) []) + (3 + (1 + 3 * STACK_SLOTS) * m.threads))

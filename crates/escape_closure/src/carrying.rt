@@ -8,7 +8,7 @@ ghost use Rattle.heap_words.specs.Contents.{Contents, contents, depth_of, stack_
 ghost use Rattle.heap_words.specs.declared.TheConstants.{STACK_SLOTS};
 ghost use Rattle.yak_model.specs.Spaces.{SpaceState, innermost};
 ghost use Rattle.yak_model.specs.State.{object_of};
-ghost use Rattle.yak_model.specs.Stands.{Stands, pages_of, words_of};
+ghost use Rattle.yak_model.specs.Stands.{Stands, pages_of, words_taken};
 ghost use Rattle.remember_sets.specs.Filed.{NoneFrom, chain};
 ghost use Rattle.relocation.specs.Moves.{move_at};
 ghost use Rattle.escape_closure.specs.Leaving.{Carried, ReadyToMove};
@@ -30,7 +30,7 @@ pub(crate) fn carry_out<W: Words>(words: &mut W, map: Areas, plan: Plan, thread:
     requires none_from { let c = contents map (W.words words.old) in NoneFrom map c.table (space_index (Region thread (depth_of c thread)) + 1) end }
     requires ready { ∥ ((before : Contents) × (s : SpaceState) × (stands : Stands map before s) × (tight : Bool) × ReadyToMove map before (contents map (W.words words.old)) s stands thread plan.count tight) ∥₁ }
     ensures carried { (before : Contents) (s : SpaceState) (stands : Stands map before s) (tight : Bool) → ReadyToMove map before (contents map (W.words words.old)) s stands thread plan.count tight → Carried map (contents map (W.words words.old)) (contents map (W.words words.new)) s stands.places thread plan.count }
-    ensures reads { let c = contents map (W.words words.old) in (before : Contents) (s : SpaceState) (stands : Stands map before s) (tight : Bool) → ReadyToMove map before c s stands thread plan.count tight → W.reads words.new ≤ W.reads words.old + (8 * words_of stands.places.pages (object_of s) (innermost s.graph thread) + 6 * length (chain map c (innermost s.graph thread)) + 4 * length (stack_of c thread) + (end + 2 * (page_words map * pages_of c.table (innermost s.graph thread))) + (5 + (1 + 4 * STACK_SLOTS) * map.threads)) }
+    ensures reads { let c = contents map (W.words words.old) in (before : Contents) (s : SpaceState) (stands : Stands map before s) (tight : Bool) → ReadyToMove map before c s stands thread plan.count tight → W.reads words.new ≤ W.reads words.old + (8 * words_taken stands.places.pages (object_of s) (innermost s.graph thread) + 6 * length (chain map c (innermost s.graph thread)) + 4 * length (stack_of c thread) + (end + 2 * (page_words map * pages_of c.table (innermost s.graph thread))) + (5 + (1 + 4 * STACK_SLOTS) * map.threads)) }
     ensures sound { Sound map (W.words words.new) }
     ensures base { W.base words.new ≡ W.base words.old }
 {

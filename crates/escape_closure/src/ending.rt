@@ -6,7 +6,7 @@ ghost use Rattle.heap_words.specs.declared.TheConstants.{STACK_SLOTS};
 ghost use Rattle.heap_words.specs.Contents.{contents, depth_of, stack_of, Sound};
 ghost use Rattle.yak_model.specs.Spaces.{SpaceState, innermost};
 ghost use Rattle.yak_model.specs.State.{object_of};
-ghost use Rattle.yak_model.specs.Stands.{Stands, words_of};
+ghost use Rattle.yak_model.specs.Stands.{Stands, words_taken};
 ghost use Rattle.remember_sets.specs.Filed.{chain};
 ghost use Rattle.yak_model.specs.Recorded.{Recorded};
 ghost use Rattle.escape_closure.specs.Raising.{Ended, EndsAt, TargetsStand};
@@ -54,7 +54,7 @@ pub fn targets<W: Words>(words: &mut W, map: Areas, thread: u8) -> u32
     requires filed { AreFiled (contents map (W.words words.old)).buffers }
     requires stands { ∥ ((s : SpaceState) × (stands : Stands map (contents map (W.words words.old)) s) × Recorded map (contents map (W.words words.old)) s stands) ∥₁ }
     ensures targets { (s : SpaceState) (stands : Stands map (contents map (W.words words.old)) s) → Recorded map (contents map (W.words words.old)) s stands → TargetsWritten map s stands.places thread (contents map (W.words words.old)) (contents map (W.words words.new)) result }
-    ensures reads { let c = contents map (W.words words.old) in (s : SpaceState) (stands : Stands map c s) → Recorded map c s stands → W.reads words.new ≤ W.reads words.old + (27 * words_of stands.places.pages (object_of s) (innermost s.graph thread) + 5 * length (chain map c (innermost s.graph thread)) + 3 * length (stack_of c thread) + (4 + (1 + 3 * STACK_SLOTS) * map.threads)) }
+    ensures reads { let c = contents map (W.words words.old) in (s : SpaceState) (stands : Stands map c s) → Recorded map c s stands → W.reads words.new ≤ W.reads words.old + (27 * words_taken stands.places.pages (object_of s) (innermost s.graph thread) + 5 * length (chain map c (innermost s.graph thread)) + 3 * length (stack_of c thread) + (4 + (1 + 3 * STACK_SLOTS) * map.threads)) }
     ensures sound { Sound map (W.words words.new) }
     ensures base { W.base words.new ≡ W.base words.old }
 {

@@ -10,7 +10,7 @@ ghost use Rattle.epoch_lattice.specs.declared.Space.TheVariants.{Region};
 ghost use Rattle.yak_model.specs.Chains.{IsRegionOf};
 ghost use Rattle.remember_sets.specs.Filed.{chain};
 ghost use Rattle.yak_model.specs.Plans.{forward};
-ghost use Rattle.yak_model.specs.Stands.{Stands, words_of};
+ghost use Rattle.yak_model.specs.Stands.{Stands, words_taken};
 ghost use Rattle.relocation.specs.Moves.{Numbered, corrected_word, move_at};
 ghost use Rattle.escape_closure.specs.Ends.{PlanReady, References};
 ghost use Rattle.escape_closure.specs.Referring.{IsOutside, OutsideCorrected, ReadersCorrected, SlotsCorrected, SlotsReady, StackLeads, corrected_stack};
@@ -135,7 +135,7 @@ pub(crate) fn correct_references<W: Words>(words: &mut W, map: Areas, plan: &Pla
     requires depth { 1 ≤ depth_of (contents map (W.words words.old)) thread }
     requires ready { ∥ ((before : Contents) × (s : SpaceState) × (stands : Stands map before s) × PlanReady map before (contents map (W.words words.old)) s stands thread plan.now.count) ∥₁ }
     ensures references { (before : Contents) (s : SpaceState) (stands : Stands map before s) → PlanReady map before (contents map (W.words words.old)) s stands thread plan.now.count → References map (contents map (W.words words.old)) (contents map (W.words words.new)) s stands.places thread plan.now.count }
-    ensures reads { let c = contents map (W.words words.old) in (before : Contents) (s : SpaceState) (stands : Stands map before s) → PlanReady map before c s stands thread plan.now.count → W.reads words.new ≤ W.reads words.old + (4 * length (stack_of c thread) + 6 * length (chain map c (innermost s.graph thread)) + 5 * words_of stands.places.pages (object_of s) (innermost s.graph thread) + (4 + (1 + 4 * STACK_SLOTS) * map.threads)) }
+    ensures reads { let c = contents map (W.words words.old) in (before : Contents) (s : SpaceState) (stands : Stands map before s) → PlanReady map before c s stands thread plan.now.count → W.reads words.new ≤ W.reads words.old + (4 * length (stack_of c thread) + 6 * length (chain map c (innermost s.graph thread)) + 5 * words_taken stands.places.pages (object_of s) (innermost s.graph thread) + (4 + (1 + 4 * STACK_SLOTS) * map.threads)) }
     ensures sound { Sound map (W.words words.new) }
     ensures base { W.base words.new ≡ W.base words.old }
 {

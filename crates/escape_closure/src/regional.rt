@@ -8,7 +8,7 @@ ghost use Rattle.heap_words.specs.Contents.{Contents, contents, depth_of, stack_
 ghost use Rattle.heap_words.specs.declared.TheConstants.{STACK_SLOTS};
 ghost use Rattle.yak_model.specs.Spaces.{SpaceState, innermost};
 ghost use Rattle.yak_model.specs.State.{object_of};
-ghost use Rattle.yak_model.specs.Stands.{Stands, pages_of, words_of};
+ghost use Rattle.yak_model.specs.Stands.{Stands, pages_of, words_taken};
 ghost use Rattle.remember_sets.specs.Filed.{NoneFrom, chain};
 ghost use Rattle.yak_model.specs.Recorded.{Recorded};
 ghost use Rattle.region_pages.specs.Ends.{used_end};
@@ -40,7 +40,7 @@ fn finish_region<W: Words>(words: &mut W, map: Areas, plan: Plan, thread: u8, en
     requires none_from { let c = contents map (W.words words.old) in NoneFrom map c.table (space_index (Region thread (depth_of c thread)) + 1) end }
     requires ready { ∥ ((before : Contents) × (mid : Contents) × (s : SpaceState) × (stands : Stands map before s) × RegionReady map before mid (contents map (W.words words.old)) s stands thread plan.count) ∥₁ }
     ensures ended { (before mid : Contents) (s : SpaceState) (stands : Stands map before s) → RegionReady map before mid (contents map (W.words words.old)) s stands thread plan.count → RegionEnded map before (contents map (W.words words.new)) s stands thread plan.count }
-    ensures reads { let c = contents map (W.words words.old) in let d = contents map (W.words words.new) in (before mid : Contents) (s : SpaceState) (stands : Stands map before s) → RegionReady map before mid c s stands thread plan.count → W.reads words.new ≤ W.reads words.old + (14 * words_of stands.places.pages (object_of s) (innermost s.graph thread) + 13 * length (chain map c (innermost s.graph thread)) + 4 * length (stack_of c thread) + end + max (used_end mid.table map.pages) (used_end d.table map.pages) + 2 * (page_words map * pages_of c.table (innermost s.graph thread)) + (10 + (1 + 4 * STACK_SLOTS) * map.threads)) }
+    ensures reads { let c = contents map (W.words words.old) in let d = contents map (W.words words.new) in (before mid : Contents) (s : SpaceState) (stands : Stands map before s) → RegionReady map before mid c s stands thread plan.count → W.reads words.new ≤ W.reads words.old + (14 * words_taken stands.places.pages (object_of s) (innermost s.graph thread) + 13 * length (chain map c (innermost s.graph thread)) + 4 * length (stack_of c thread) + end + max (used_end mid.table map.pages) (used_end d.table map.pages) + 2 * (page_words map * pages_of c.table (innermost s.graph thread)) + (10 + (1 + 4 * STACK_SLOTS) * map.threads)) }
     ensures sound { Sound map (W.words words.new) }
     ensures base { W.base words.new ≡ W.base words.old }
 {
@@ -69,7 +69,7 @@ pub fn end_region<W: Words>(words: &mut W, map: Areas, thread: u8) -> Result<u64
     requires depth { 1 ≤ depth_of (contents map (W.words words.old)) thread }
     requires recorded { ∥ ((s : SpaceState) × (h : Stands map (contents map (W.words words.old)) s) × Recorded map (contents map (W.words words.old)) s h) ∥₁ }
     ensures ended { let c = contents map (W.words words.old) in let d = contents map (W.words words.new) in (s : SpaceState) (h : Stands map c s) → Recorded map c s h → MatchResult result (λ moved. RegionEnded map c d s h thread moved) (λ shortage. RegionShort map c d s h thread shortage) }
-    ensures reads { let c = contents map (W.words words.old) in let d = contents map (W.words words.new) in (s : SpaceState) (h : Stands map c s) → Recorded map c s h → IfOk result (λ _. W.reads words.new ≤ W.reads words.old + (100 * (words_of h.places.pages (object_of s) (innermost s.graph thread) + records_of map c (innermost s.graph thread) + length (stack_of c thread) + 71) + 4 * max (used_end c.table map.pages) (used_end d.table map.pages))) }
+    ensures reads { let c = contents map (W.words words.old) in let d = contents map (W.words words.new) in (s : SpaceState) (h : Stands map c s) → Recorded map c s h → IfOk result (λ _. W.reads words.new ≤ W.reads words.old + (100 * (words_taken h.places.pages (object_of s) (innermost s.graph thread) + records_of map c (innermost s.graph thread) + length (stack_of c thread) + 71) + 4 * max (used_end c.table map.pages) (used_end d.table map.pages))) }
     ensures sound { Sound map (W.words words.new) }
     ensures base { W.base words.new ≡ W.base words.old }
 {

@@ -26,14 +26,14 @@ use epoch_lattice::{Space, index_of};
 use forwarding::{record_moved, settle_pages};
 use heap_words::{Areas, Words, set_current};
 use region_pages::rebuild_pool;
-use relocation::{Cursor, Plan, empty_plan, plan_pages};
+use relocation::{Plan, SlideCursor, empty_plan, plan_pages};
 use thread_stacks::depth;
 
 /// A plan of the objects of a region into its own first pages, and where the last one ends.
 #[derive(Clone, Copy, Debug, PartialEq, Eq, Drop)]
 struct Packing {
     pub plan: Plan,
-    pub cursor: Cursor,
+    pub cursor: SlideCursor,
 }
 
 /// Plans the moves of the objects that escape from the innermost region of a thread, after `targets`, to the front of the
@@ -53,7 +53,7 @@ fn plan_tight<W: Words>(words: &mut W, map: Areas, thread: u8) -> Packing
         depth: innermost,
     });
     let mut plan = empty_plan(words, map);
-    let mut cursor = Cursor { next: 0, room: 0 };
+    let mut cursor = SlideCursor { next: 0, room: 0 };
     plan_pages(words, map, u64::from(region) + 1, &mut plan, &mut cursor);
     Packing { plan, cursor }
 }

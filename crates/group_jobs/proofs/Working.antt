@@ -23,7 +23,7 @@ use Rattle.yak_model.specs.Room.{table_words}
 use Rattle.safepoint_gate.specs.declared.rule.Own.{Own}
 use Rattle.safepoint_gate.specs.Steps.{first_calls, first_thread}
 use Rattle.mutator.specs.Callers.{first_past, first_told, standing_shared}
-use Rattle.yak_model.specs.declared.TheConstants.{STACK_SLOTS}
+use Rattle.heap_words.specs.declared.TheConstants.{STACK_SLOTS}
 use Rattle.yak_model.specs.Texts.{word_counts}
 use Rattle.heap_tables.specs.declared.TheConstants.{FREE_SLOTS}
 use Rattle.heap_tables.specs.Cursors.{MayWalk}

@@ -14,23 +14,24 @@ ghost use Rattle.yak_model.specs.Texts.{counts_of, words_of};
 ghost use Rattle.group_jobs.specs.Alone.{HasListed, HasRoot, HoldsCounts, IsListed, TellsWhy, opening_known, opening_standing};
 ghost use Rattle.group_jobs.specs.LongWords.{has_long_word};
 ghost use Rattle.yak_model.specs.Room.{least_room};
-ghost use Rattle.group_jobs.specs.declared.TheConstants.{INPUT_LIMIT};
+ghost use Rattle.yak_io.specs.declared.TheConstants.{INPUT_LIMIT};
 
 use crate::counted::sort_counts;
 use crate::tallies::count_tasks;
 use crate::tasks::{Task, cut_tasks};
-use crate::{INPUT_LIMIT, TOTAL_SLOT, WORKER};
+use crate::{TOTAL_SLOT, WORKER};
 use heap_core::{Core, CoreCaller};
-use heap_tables::{Counted, Notes, read_entries};
+use heap_tables::{Notes, WordCount, read_entries};
 use heap_words::{Image, MakeError, Words};
 use object_layout::{Census, NoMemory};
 use std::alloc::Global;
+use yak_io::INPUT_LIMIT;
 use yak_model::Caller;
 
 /// The counts of a text by one worker, and the heap as the last task left it.
 #[derive(Drop)]
 pub struct CountedAlone {
-    pub list: Vec<Counted>,
+    pub list: Vec<WordCount>,
     pub core: Core<Image>,
 }
 
@@ -84,7 +85,7 @@ fn list_counts(
     alloc: Global,
     caller: &mut CoreCaller<Image>,
     has_total: bool,
-) -> Result<Vec<Counted>, NoMemory>
+) -> Result<Vec<WordCount>, NoMemory>
     requires progress { HasListed has_total (⟦<CoreCaller<Image> as Caller>⟧.standing caller.old) (⟦<CoreCaller<Image> as Caller>⟧.knows caller.old) }
     ensures own { (⟦<CoreCaller<Image> as Caller>⟧.standing caller.new).own ≡ (⟦<CoreCaller<Image> as Caller>⟧.standing caller.old).own }
     ensures thread { (⟦<CoreCaller<Image> as Caller>⟧.standing caller.new).thread ≡ (⟦<CoreCaller<Image> as Caller>⟧.standing caller.old).thread }

@@ -6,18 +6,18 @@ ghost use Rattle.yak_model.specs.Texts.{WordCounts, counts_of, word_cmp, word_co
 ghost use Rattle.group_jobs.specs.Counts.{Ascends};
 ghost use Rattle.heap_tables.specs.Entries.{AreEntries};
 
-use heap_tables::Counted;
+use heap_tables::WordCount;
 use std::cmp::Ordering;
 
 /// The order of the words, by their bytes.
-pub(crate) fn order(one: &Counted, other: &Counted) -> Ordering
+pub(crate) fn order(one: &WordCount, other: &WordCount) -> Ordering
     ensures { result ≡ word_cmp one.now.0 other.now.0 }
 {
     one.word.as_slice().cmp(other.word.as_slice())
 }
 
 /// Puts counts into ascending order of the words' bytes.
-pub fn sort_counts(list: &mut Vec<Counted>)
+pub fn sort_counts(list: &mut Vec<WordCount>)
     ensures moved { IsPermutation list.old.items list.new.items }
     ensures up { Ascends list.new.items }
     ensures sorted { (counts : WordCounts) → AreEntries counts list.old.items → list.new.items ≡ finite.entries counts }

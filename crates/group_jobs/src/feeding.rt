@@ -3,18 +3,18 @@ ghost use Rattle.std.specs.Prelude.{◌≡◌, ◌≤◌, ◌*◌, ℕ, List, []
 ghost use Rattle.heap_words.specs.Map.{IsAreas, page_words};
 ghost use Rattle.yak_model.specs.Room.{least_room};
 ghost use Rattle.yak_model.specs.Texts.{counts_of, words_of};
-ghost use Rattle.task_feed.specs.Contents.{lists_in};
+ghost use Rattle.task_feed.specs.FeedContents.{lists_in};
 ghost use Rattle.task_feed.specs.Dealt.{IsDealt};
 ghost use Rattle.group_jobs.specs.LongWords.{has_long_word};
 ghost use Rattle.group_jobs.specs.Shared.{IsCountedFed, TellsWhyShared};
 ghost use Rattle.group_jobs.specs.Tasks.{AreTasks};
 ghost use Rattle.group_jobs.specs.declared.tasks.Task.{Task};
-ghost use Rattle.group_jobs.specs.declared.TheConstants.{INPUT_LIMIT};
+ghost use Rattle.yak_io.specs.declared.TheConstants.{INPUT_LIMIT};
 
 use crate::count::CountError;
 use crate::many::{Counts, Opened, close_team, open_team, sum_up};
 use crate::pairs::feed_team;
-use heap_tables::Counted;
+use heap_tables::WordCount;
 use safepoint_gate::Finished;
 use std::alloc::Global;
 use std::sync::Wait;
@@ -25,7 +25,7 @@ use yak_io::Brake;
 /// The counts of a text by several workers, the numbers of the tasks that each of them took, and the heap as they left it.
 #[derive(Drop)]
 pub struct Fed {
-    pub list: Vec<Counted>,
+    pub list: Vec<WordCount>,
     pub taken: Vec<Vec<u32>>,
     pub finished: Finished,
 }

@@ -22,7 +22,7 @@ mod words;
 pub use count::{CountError, CountedAlone, count_one};
 pub use counted::sort_counts;
 pub use feeding::{Fed, count_fed};
-pub use heap_tables::Counted;
+pub use heap_tables::WordCount;
 pub use laws::{
     law_dealt_counts, law_dealt_room, law_dealt_tasks, law_dealt_words, law_one_cut, law_row_more,
     law_row_words,
@@ -31,10 +31,8 @@ pub use long_words::long_word;
 pub use many::{Counts, count_many};
 pub use printing::print_counts;
 pub use tasks::{Task, cut_tasks};
-pub use words::Words;
+pub use words::TextWords;
 
-/// The greatest number of bytes of a text that is counted.
-pub const INPUT_LIMIT: usize = 16777216;
 /// The most words of a text: no more than the places before, between and after its bytes.
 pub const MOST_WORDS: usize = 16777217;
 /// The slot of a caller's stack with the table of all that it counted. Below it is the root.

@@ -5,15 +5,15 @@ ghost use Rattle.yak_model.specs.Texts.{words_of};
 ghost use Rattle.group_jobs.specs.Tasks.{is_feed};
 ghost use Rattle.group_jobs.specs.LongWords.{is_long, long_word_line};
 
-use crate::INPUT_LIMIT;
-use crate::words::Words;
+use crate::words::TextWords;
 use object_layout::WORD_LIMIT;
+use yak_io::INPUT_LIMIT;
 
 /// Whether a text has a word of more than `WORD_LIMIT` bytes.
 fn has_long_word(bytes: &[u8]) -> bool
     ensures { result ≡ Rattle.group_jobs.specs.LongWords.has_long_word bytes.now }
 {
-    let mut words = Words::of(bytes);
+    let mut words = TextWords::of(bytes);
     'words: while let Some(word) = words.next() {
         if word.len() > WORD_LIMIT as usize {
             return true;

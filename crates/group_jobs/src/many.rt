@@ -11,14 +11,14 @@ ghost use Rattle.group_jobs.specs.declared.tasks.Task.{Task};
 ghost use Rattle.group_jobs.specs.Shared.{IsCountedShared, TellsWhyShared, share};
 ghost use Rattle.group_jobs.specs.Tasks.{AreTasks};
 ghost use Rattle.group_jobs.specs.Workers.{AllCounted, AllReady, AreSeats, HasCounted, HaveCounted, HaveCountedSome, HaveLeastRoom, KeepCounted, LeaveCounted, ListsCounted, MayDeal, MayShare, NoneRefused, SomeRefused, TellWhy, WhyRefused};
-ghost use Rattle.group_jobs.specs.declared.TheConstants.{INPUT_LIMIT};
+ghost use Rattle.yak_io.specs.declared.TheConstants.{INPUT_LIMIT};
 
 use crate::count::CountError;
 use crate::counted::sort_counts;
 use crate::shares::Worker;
 use crate::sums::{add_up, append_counts};
 use crate::tasks::{Task, cut_tasks};
-use heap_tables::{Counted, Notes};
+use heap_tables::{Notes, WordCount};
 use heap_words::MakeError;
 use mutator::{Heap, Resting, finish};
 use object_layout::{Census, NoMemory};
@@ -32,7 +32,7 @@ use yak_io::Brake;
 /// The counts of a text by several workers, and the heap as they left it.
 #[derive(Drop)]
 pub struct Counts {
-    pub list: Vec<Counted>,
+    pub list: Vec<WordCount>,
     pub finished: Finished,
 }
 
@@ -105,7 +105,7 @@ fn list_totals<R: Wait + Sync>(
     alloc: Global,
     heap: &Heap,
     team: &mut [Worker],
-) -> Result<Vec<Counted>, NoMemory>
+) -> Result<Vec<WordCount>, NoMemory>
     requires some { HaveCountedSome heap.now.gate team.old }
     requires unrefused { NoneRefused team.old }
     ensures list { IfOk result (λ list. ListsCounted heap.now.gate team.old list.items) }
@@ -133,7 +133,7 @@ pub(crate) fn sum_up<R: Wait + Sync>(
     alloc: Global,
     heap: &Heap,
     team: &mut [Worker],
-) -> Result<Vec<Counted>, CountError<()>>
+) -> Result<Vec<WordCount>, CountError<()>>
     requires some { HaveCountedSome heap.now.gate team.old }
     ensures list { IfOk result (λ list. ListsCounted heap.now.gate team.old list.items) }
     ensures keeps { KeepCounted heap.now.gate team.old team.new }
@@ -238,7 +238,7 @@ pub(crate) fn close_team(
     heap: Heap,
     team: Vec<Worker>,
     mut back: Vec<Resting>,
-    counted: Result<Vec<Counted>, CountError<()>>,
+    counted: Result<Vec<WordCount>, CountError<()>>,
 ) -> Result<Counts, CountError<Finished>>
     requires areas { IsAreas heap.gate.map }
     requires empty { back.items ≡ [] }
@@ -275,7 +275,7 @@ fn count_team<R: Threads + Wait + Sync, B: Brake + Sync>(
     tasks: &[Task],
     team: &mut [Worker],
     brake: &B,
-) -> Result<Vec<Counted>, CountError<()>>
+) -> Result<Vec<WordCount>, CountError<()>>
     requires ready { AllReady heap.now.gate bytes.now team.old }
     requires may { MayShare (length team.old) bytes.now tasks.now }
     ensures counted { HaveCounted heap.now.gate bytes.now tasks.now (share_of (length tasks.now) (length team.old)) [] team.new }

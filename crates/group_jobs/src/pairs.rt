@@ -1,6 +1,6 @@
 //! Workers, each with the taker that deals it its tasks.
 ghost use Rattle.std.specs.Prelude.{◌≡◌, ◌≤◌, ◌<◌, ◌++◌, ℕ, List, [], ◌∷◌, All, IfOk, OnOk, length, map};
-ghost use Rattle.task_feed.specs.Contents.{lists_in};
+ghost use Rattle.task_feed.specs.FeedContents.{lists_in};
 ghost use Rattle.task_feed.specs.Dealt.{IsDealt};
 ghost use Rattle.task_feed.specs.Takers.{IsFresh, IsTakerOf, row_of, takers_of, tasks_of};
 ghost use Rattle.task_feed.specs.declared.feed.Feed.{Feed};

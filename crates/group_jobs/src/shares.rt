@@ -20,7 +20,7 @@ use crate::dealers::{Dealing, FixedShare};
 use crate::followed::{Followed, Past};
 use crate::tallies::count_task;
 use crate::tasks::Task;
-use heap_tables::{Counted, Notes, read_entries};
+use heap_tables::{Notes, WordCount, read_entries};
 use mutator::{Heap, Resting};
 use object_layout::{Census, NoMemory};
 use std::alloc::Global;
@@ -107,7 +107,7 @@ fn read_followed<R: Wait, P: Past>(
     alloc: Global,
     heap: &Heap,
     resting: Resting,
-) -> (Resting, Result<Vec<Counted>, NoMemory>)
+) -> (Resting, Result<Vec<WordCount>, NoMemory>)
     requires begun { P.begun ≡ resting.away.seat.me.0.own }
     requires heap { IsOf heap.now.gate resting.away.seat.table_id resting.away.seat.me.0 }
     requires settled { ∥ IsSettled heap.now.gate.map resting.away.seat.me.0.own ∥₁ }
@@ -132,7 +132,7 @@ fn read_rested<R: Wait>(
     alloc: Global,
     heap: &Heap,
     resting: Resting,
-) -> (Resting, Result<Vec<Counted>, NoMemory>)
+) -> (Resting, Result<Vec<WordCount>, NoMemory>)
     requires heap { IsOf heap.now.gate resting.away.seat.table_id resting.away.seat.me.0 }
     requires settled { ∥ IsSettled heap.now.gate.map resting.away.seat.me.0.own ∥₁ }
     requires rest { HasRest resting.away.seat.me.0.own true 0 }
@@ -235,7 +235,7 @@ impl Worker {
         rt: &R,
         alloc: Global,
         heap: &Heap,
-    ) -> Result<Vec<Counted>, NoMemory>
+    ) -> Result<Vec<WordCount>, NoMemory>
         requires some { (bytes : List ℕ) × (tasks : List Task) × HasCounted heap.now.gate self.old.thread bytes tasks self.old × AreSmall (words_in bytes tasks) }
         requires unrefused { self.old.refused ≡ None }
         ensures list { IfOk result (λ list. (bytes : List ℕ) (tasks : List Task) → HasCounted heap.now.gate self.old.thread bytes tasks self.old → AreSmall (words_in bytes tasks) → AreEntries (word_counts (words_in bytes tasks)) list.items) }

@@ -6,19 +6,19 @@ ghost use Rattle.group_jobs.specs.Counts.{AddsLast, AreParts, Ascends, sum_for};
 ghost use Rattle.heap_tables.specs.Entries.{AreEntries};
 
 use crate::counted::order;
-use heap_tables::Counted;
+use heap_tables::WordCount;
 use object_layout::NoMemory;
 use std::alloc::Global;
 
 /// Puts a count behind a list.
-fn push_count(list: &mut Vec<Counted>, counted: Counted) -> Result<(), NoMemory>
+fn push_count(list: &mut Vec<WordCount>, counted: WordCount) -> Result<(), NoMemory>
     ensures { OnOk result (list.new.items ≡ list.old.items ++ counted ∷ []) }
 {
     list.push(counted).map_err(|_| NoMemory)
 }
 
 /// Puts the counts of a list behind those of another.
-pub(crate) fn append_counts(all: &mut Vec<Counted>, list: Vec<Counted>) -> Result<(), NoMemory>
+pub(crate) fn append_counts(all: &mut Vec<WordCount>, list: Vec<WordCount>) -> Result<(), NoMemory>
     ensures { OnOk result (all.new.items ≡ all.old.items ++ list.items) }
 {
     for counted in list {
@@ -28,7 +28,7 @@ pub(crate) fn append_counts(all: &mut Vec<Counted>, list: Vec<Counted>) -> Resul
 }
 
 /// Adds a count to the last of a list, where that is of the same word, or puts it behind the list.
-fn add_count(sums: &mut Vec<Counted>, counted: Counted) -> Result<(), NoMemory>
+fn add_count(sums: &mut Vec<WordCount>, counted: WordCount) -> Result<(), NoMemory>
     requires fits { (front : List (List ℕ × ℕ)) (n : ℕ) → sums.old.items ≡ front ++ (counted.0, n) ∷ [] → n + counted.1 ≤ MAX_INT }
     ensures { OnOk result (AddsLast counted sums.old.items sums.new.items) }
 {
@@ -41,7 +41,7 @@ fn add_count(sums: &mut Vec<Counted>, counted: Counted) -> Result<(), NoMemory>
 }
 
 /// Adds up the counts of each word in a list that is in ascending order of words.
-pub(crate) fn add_up(alloc: Global, sorted: Vec<Counted>) -> Result<Vec<Counted>, NoMemory>
+pub(crate) fn add_up(alloc: Global, sorted: Vec<WordCount>) -> Result<Vec<WordCount>, NoMemory>
     requires up { Ascends sorted.items }
     requires few { (word : List ℕ) → sum_for sorted.items word ≤ MAX_INT }
     ensures sums { IfOk result (λ sums. (counts : WordCounts) → AreParts counts sorted.items → AreEntries counts sums.items) }

@@ -17,7 +17,7 @@ ghost use Rattle.group_jobs.specs.Tasks.{task_bytes};
 ghost use Rattle.group_jobs.specs.declared.TheConstants.{MOST_WORDS, OBJECTS_FOR_WORD, PART_SLOT, TOTAL_SLOT};
 
 use crate::tasks::Task;
-use crate::words::Words;
+use crate::words::TextWords;
 use crate::{PART_SLOT, TOTAL_SLOT};
 use heap_tables::{Notes, add, begin, end, make, merge_noting, pop};
 use object_layout::OutOfHeap;
@@ -50,7 +50,7 @@ fn count_words<C: Caller>(caller: &mut C, bytes: &[u8]) -> Result<(), OutOfHeap>
     ensures counted { OnOk result ((known : KnownObjects) (name : Name) (done doing : List (List ℕ)) → C.knows caller.old known → Tallies (C.standing caller.old) known name done doing → length done + (length doing + length (words_of bytes.now)) ≤ MOST_WORDS → KnowsTallies (C.standing caller.old) known (C.standing caller.new) (C.knows caller.new) name done (doing ++ words_of bytes.now)) }
     ensures out { OnErr result (WentOut C.base C.tells C.tells_known C.standing caller.old caller.new (C.standing caller.old).own.depth (part_room (words_of bytes.now))) }
 {
-    let mut words = Words::of(bytes);
+    let mut words = TextWords::of(bytes);
     'words: while let Some(word) = words.next() {
         count_word(caller, word)?;
     }
@@ -165,7 +165,7 @@ fn open_total<C: Caller>(caller: &mut C, has_total: bool) -> Result<(), OutOfHea
 fn has_words(bytes: &[u8]) -> bool
     ensures { result ≡ is_busy (words_of bytes.now) }
 {
-    let mut words = Words::of(bytes);
+    let mut words = TextWords::of(bytes);
     words.next().is_some()
 }
 

@@ -4,9 +4,9 @@ ghost use Rattle.std.specs.List.{flat_map};
 ghost use Rattle.yak_model.specs.Texts.{words_of};
 ghost use Rattle.group_jobs.specs.Tasks.{AreTasks, AreWholeLines, AreFewerLines, task_bytes};
 
-use crate::INPUT_LIMIT;
 use object_layout::NoMemory;
 use std::alloc::Global;
+use yak_io::INPUT_LIMIT;
 
 /// The bytes of a text from a place up to another.
 #[derive(Clone, Copy, Debug, PartialEq, Eq, Drop)]

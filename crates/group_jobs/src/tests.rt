@@ -4,12 +4,13 @@ ghost use Rattle.group_jobs.specs.LongWords.{has_long_word};
 ghost use Rattle.object_layout.specs.declared.TheConstants.{WORD_LIMIT};
 ghost use Rattle.heap_tables.specs.Cursors.{HasTableWalk};
 ghost use Rattle.heap_tables.specs.Runs.{KnowsSome, stack_in};
-ghost use Rattle.group_jobs.specs.declared.TheConstants.{INPUT_LIMIT, PART_SLOT, TOTAL_SLOT};
+ghost use Rattle.group_jobs.specs.declared.TheConstants.{PART_SLOT, TOTAL_SLOT};
+ghost use Rattle.yak_io.specs.declared.TheConstants.{INPUT_LIMIT};
 
 use crate::count::open_heap;
 use crate::{
-    CountError, Counted, INPUT_LIMIT, TOTAL_SLOT, Words, count_fed, count_many, count_one,
-    cut_tasks, long_word, print_counts, sort_counts,
+    CountError, TOTAL_SLOT, TextWords, WordCount, count_fed, count_many, count_one, cut_tasks,
+    long_word, print_counts, sort_counts,
 };
 use heap_tables::{AddError, Cursor, Entry, add, add_checked, count_of, make, next_entry};
 use heap_words::{MAX_PAGES, MAX_THREADS};
@@ -20,7 +21,7 @@ use std::sync::atomic::{AtomicU64, Ordering};
 use std::test::Fail;
 use std::thread;
 use std::thread::Threads;
-use yak_io::{Brake, NoBrake};
+use yak_io::{Brake, INPUT_LIMIT, NoBrake};
 use yak_model::Caller;
 
 #[test]
@@ -65,13 +66,13 @@ fn tells_the_line_of_a_long_word(rt: HostRuntime) -> Result<(), Fail> {
 #[test]
 fn prints_the_words_of_a_text_in_order(rt: HostRuntime) -> Result<(), Fail> {
     let alloc = rt.alloc();
-    let mut words = Words::of(b" the\tcat\r\nat \n\nhe");
+    let mut words = TextWords::of(b" the\tcat\r\nat \n\nhe");
     let mut list = Vec::new(alloc);
     for count in [3, 1, 40, 2] {
         let Some(word) = words.next() else {
             panic!(rt; "a word is missing");
         };
-        list.push(Counted {
+        list.push(WordCount {
             word: word.to_vec(alloc)?,
             count,
         })?;
@@ -242,7 +243,7 @@ fn count_shared<R: Threads + Wait + Sync, B: Brake + Sync>(
     workers: u8,
     fed: bool,
     brake: &B,
-) -> Option<Vec<Counted>> {
+) -> Option<Vec<WordCount>> {
     if !may_count(pages, workers, bytes) {
         return None;
     }

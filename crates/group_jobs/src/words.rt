@@ -27,22 +27,22 @@ fn cut(bytes: &[u8]) -> Option<(&[u8], &[u8])>
 
 /// The words of a text that are still to come: the longest runs of bytes that part no words.
 #[derive(Drop)]
-pub struct Words<'a> {
+pub struct TextWords<'a> {
     rest: &'a [u8],
 }
 
-impl<'a> Model for Words<'a> {
+impl<'a> Model for TextWords<'a> {
     ghost Value = { List (List ℕ) };
 
     ghost view = { λ s. words_of s.rest.now };
 }
 
-impl<'a> Words<'a> {
+impl<'a> TextWords<'a> {
     /// All the words of a text.
-    pub fn of(bytes: &'a [u8]) -> Words<'a>
+    pub fn of(bytes: &'a [u8]) -> TextWords<'a>
         ensures { result ≡ words_of bytes.now }
     {
-        Words { rest: bytes }
+        TextWords { rest: bytes }
     }
 
     /// The next word.

@@ -16,7 +16,7 @@ use Rattle.yak_model.specs.declared.history.Entry.{Entry}
 use Rattle.yak_model.specs.Lawful.{HasWords, IsCensus, open_regions, present_words}
 use Rattle.yak_model.specs.Spaces.{Escapes, SpaceState, innermost}
 use Rattle.yak_model.specs.State.{object_of, view}
-use Rattle.yak_model.specs.Stands.{Stands, free_pages, pages_of, words_of}
+use Rattle.yak_model.specs.Stands.{Stands, free_pages, pages_of, words_taken}
 use Rattle.yak_model.specs.Packed.{IsFull, IsPacked, IsSpaceOf}
 use Rattle.region_pages.specs.Counts.{regions_in}
 use Rattle.region_pages.proofs.Counting.{free_is, parts}
@@ -50,7 +50,7 @@ page_limit m s e = ap (λ (l : Limits). l.page) e
 
 module _ (m : Areas) (c : Contents) (s : SpaceState) (h : Stands m c s) where
   -- the pages of the open regions
-  regions-together : page_words m * sum_by (pages_of c.table) (regions_of 0 (view s).depths) ≤ 2 * sum_by (words_of h.places.pages (object_of s)) (regions_of 0 (view s).depths) + page_words m * open_regions s
+  regions-together : page_words m * sum_by (pages_of c.table) (regions_of 0 (view s).depths) ≤ 2 * sum_by (words_taken h.places.pages (object_of s)) (regions_of 0 (view s).depths) + page_words m * open_regions s
   regions-together =
       let all = packed-together m c s h (regions_of 0 (view s).depths) (λ x b. let own = region-own m c s h x b in regions-packed m c s h x own.0 own.1) in
       omega (arith, all, regions-counted m c s h)
@@ -59,9 +59,9 @@ module _ (m : Areas) (c : Contents) (s : SpaceState) (h : Stands m c s) where
   pub spaces-together : IsPacked m c s h Control → page_words m * sum_by (pages_of c.table) (open_spaces (view s).depths) ≤ 2 * present_words s + page_words m * (open_regions s + 1)
   spaces-together packed =
       let xs : List Space = regions_of 0 (view s).depths in
-      let control : page_words m * pages_of c.table Control ≤ 2 * words_of h.places.pages (object_of s) Control + page_words m = packed in
+      let control : page_words m * pages_of c.table Control ≤ 2 * words_taken h.places.pages (object_of s) Control + page_words m = packed in
       let once = words-once (object_of s) h.places.pages (open_spaces (view s).depths) (spaces-once m c s h) in
-      omega (arith, control, once, regions-together, sum_by-cons (pages_of c.table) Control xs, sum_by-cons (words_of h.places.pages (object_of s)) Control xs, present-paged m c s h)
+      omega (arith, control, once, regions-together, sum_by-cons (pages_of c.table) Control xs, sum_by-cons (words_taken h.places.pages (object_of s)) Control xs, present-paged m c s h)
 
 -- a heap that is full holds at least so many words
 pub full-bound : (m : Areas) (c : Contents) (s : SpaceState) (h : Stands m c s) (t k : ℕ) → IsAreas m → IsFull m c s h t k → s.graph.limits.page * m.pages ≤ 2 * present_words s + s.graph.limits.page * (open_regions s + 1)
@@ -83,7 +83,7 @@ census-bound m c s h before areas long packed =
       region_fits = rw page (region-fits m c s h long);
       region_packed = rw page (omega (arith, all, pages-counted m c s h, sum_by-cons (pages_of c.table) Control regions, regions-together m c s h, regions-within m c s h));
       control_packed = λ asked.
-          let control : page_words m * pages_of c.table Control ≤ 2 * words_of h.places.pages (object_of s) Control + page_words m = packed asked in
+          let control : page_words m * pages_of c.table Control ≤ 2 * words_taken h.places.pages (object_of s) Control + page_words m = packed asked in
           rw page (omega (arith, control, control-words m c s h));
     }
 
@@ -99,5 +99,5 @@ tight-bound m c s h t shortage areas has some packed short =
     (escaped, has-words m c s h t short.count areas has some short.order, rw (page_limit m s h.whole.limits) (omega (arith, needed, counted, together, many, short.needed, short.free, short.more)))
 
 -- an end reads no more than if it looked at all pages
-pub reads-by_pages : (m : Areas) (c d : Contents) (s : SpaceState) (h : Stands m c s) (t : ℕ) → end_reads m c d s h t ≤ 100 * (words_of h.places.pages (object_of s) (innermost s.graph t) + records_of m c (innermost s.graph t) + length (stack_of c t) + 72) + 4 * m.pages
+pub reads-by_pages : (m : Areas) (c d : Contents) (s : SpaceState) (h : Stands m c s) (t : ℕ) → end_reads m c d s h t ≤ 100 * (words_taken h.places.pages (object_of s) (innermost s.graph t) + records_of m c (innermost s.graph t) + length (stack_of c t) + 72) + 4 * m.pages
 reads-by_pages m c d s h t = omega (arith, max-le (end_le c.table m.pages) (end_le d.table m.pages))

@@ -20,7 +20,7 @@ use Rattle.yak_model.specs.Graph.{Thread}
 use Rattle.yak_model.specs.Spaces.{SpaceState}
 use Rattle.yak_model.specs.State.{IsOpen, Thing, object_of, view}
 use Rattle.yak_model.specs.Placed.{IsAt, names_of, size_by, space_word, words_by}
-use Rattle.yak_model.specs.Stands.{Stands, free_pages, pages_of, words_in, words_of}
+use Rattle.yak_model.specs.Stands.{Stands, free_pages, pages_of, words_in, words_taken}
 use Rattle.yak_model.specs.Packed.{IsPacked, IsSpaceOf}
 use Rattle.yak_model.specs.Lawful.{control_words, is_control, open_regions, region_words}
 use Rattle.region_pages.specs.Counts.{regions_in}
@@ -62,9 +62,9 @@ object_most : (o : Option Thing) (xs : List Space) → ((i : ℕ) → hits xs i 
 object_most None xs once = omega (arith, sum-none xs)
 object_most (Some o) xs once = words_most (space_index o.home) (words_by (Some o)) xs (once (space_index o.home))
 
-pub words-once : (objects : Name → Option Thing) (pages : List (List Name)) (xs : List Space) → ((i : ℕ) → hits xs i ≤ 1) → sum_by (words_of pages objects) xs ≤ sum_by (λ (ns : List Name). sum_by (size_by objects) ns) pages
+pub words-once : (objects : Name → Option Thing) (pages : List (List Name)) (xs : List Space) → ((i : ℕ) → hits xs i ≤ 1) → sum_by (words_taken pages objects) xs ≤ sum_by (λ (ns : List Name). sum_by (size_by objects) ns) pages
 words-once objects pages xs once =
-    let by_page : sum_by (words_of pages objects) xs ≡ sum_by (λ (ns : List Name). sum_by (λ (x : Space). sum_by (λ (n : Name). words_in x (objects n)) ns) xs) pages =
+    let by_page : sum_by (words_taken pages objects) xs ≡ sum_by (λ (ns : List Name). sum_by (λ (x : Space). sum_by (λ (n : Name). words_in x (objects n)) ns) xs) pages =
     sum-swapped (λ (x : Space) (ns : List Name). sum_by (λ (n : Name). words_in x (objects n)) ns) xs pages in
     let less : sum_by (λ (ns : List Name). sum_by (λ (x : Space). sum_by (λ (n : Name). words_in x (objects n)) ns) xs) pages ≤ sum_by (λ (ns : List Name). sum_by (size_by objects) ns) pages =
     sum-less _ _ pages (λ ns b.
@@ -128,12 +128,12 @@ module _ (m : Areas) (c : Contents) (s : SpaceState) (h : Stands m c s) where
       omega (arith, ones, least, added, swapped, rows, frees)
 
   -- packed spaces together
-  pub packed-together : (xs : List Space) → ((x : Space) → Contains xs x → IsPacked m c s h x) → page_words m * sum_by (pages_of c.table) xs ≤ 2 * sum_by (words_of h.places.pages (object_of s)) xs + page_words m * length xs
+  pub packed-together : (xs : List Space) → ((x : Space) → Contains xs x → IsPacked m c s h x) → page_words m * sum_by (pages_of c.table) xs ≤ 2 * sum_by (words_taken h.places.pages (object_of s)) xs + page_words m * length xs
   packed-together [] each = omega arith
   packed-together (x ∷ xs) each =
-      let here : page_words m * pages_of c.table x ≤ 2 * words_of h.places.pages (object_of s) x + page_words m = each x (contains_first x xs) in
+      let here : page_words m * pages_of c.table x ≤ 2 * words_taken h.places.pages (object_of s) x + page_words m = each x (contains_first x xs) in
       let rest = packed-together xs (λ y b. each y (contains_cons x xs y b)) in
-      omega (arith, sum_by-cons (pages_of c.table) x xs, sum_by-cons (words_of h.places.pages (object_of s)) x xs, here, rest)
+      omega (arith, sum_by-cons (pages_of c.table) x xs, sum_by-cons (words_taken h.places.pages (object_of s)) x xs, here, rest)
 
   -- how many regions are open
   pub regions-counted : length (regions_of 0 depths) ≡ open_regions s
@@ -143,13 +143,13 @@ module _ (m : Areas) (c : Contents) (s : SpaceState) (h : Stands m c s) where
   region-own x b = regions-own m 0 depths x (omega (arith, h.stands.threads)) depths-fit b
 
   -- the words of Control and those of all open regions
-  pub control-words : control_words s ≡ words_of h.places.pages (object_of s) Control
+  pub control-words : control_words s ≡ words_taken h.places.pages (object_of s) Control
   control-words = control-paged m c s h ∙ (λ i. sum_by (λ (ns : List Name). sum_by (λ (n : Name). control-in s n i) ns) h.places.pages)
 
-  pub regions-within : sum_by (words_of h.places.pages (object_of s)) (regions_of 0 depths) ≤ region_words s
+  pub regions-within : sum_by (words_taken h.places.pages (object_of s)) (regions_of 0 depths) ≤ region_words s
   regions-within =
       let once = words-once (object_of s) h.places.pages (open_spaces depths) spaces-once in
-      let front = sum_by-cons (words_of h.places.pages (object_of s)) Control (regions_of 0 depths) in
+      let front = sum_by-cons (words_taken h.places.pages (object_of s)) Control (regions_of 0 depths) in
       omega (arith, once, front, present-paged m c s h, words-parted s, control-words)
 
 -- ---- the words of a page

@@ -11,7 +11,7 @@ use Rattle.heap_words.specs.Contents.{Contents, depth_of, stack_of}
 use Rattle.yak_model.specs.Spaces.{SpaceState, innermost}
 use Rattle.yak_model.specs.State.{object_of}
 use Rattle.yak_model.specs.Placed.{Places}
-use Rattle.yak_model.specs.Stands.{Stands, words_of}
+use Rattle.yak_model.specs.Stands.{Stands, words_taken}
 use Rattle.yak_model.specs.Recorded.{Recorded}
 use Rattle.region_pages.specs.Ends.{used_end}
 use Rattle.mark_compact.specs.Collected.{RoomCollected, StateCollected}
@@ -82,7 +82,7 @@ IsEnd m was now t said =
 -- up to the last one that is in use before or after.
 abbrev pub end_reads : (m : Areas) (c d : Contents) (s : SpaceState) → Stands m c s → ℕ → ℕ
 end_reads m c d s stands t =
-    100 * (words_of stands.places.pages (object_of s) (innermost s.graph t) + records_of m c (innermost s.graph t) + length (stack_of c t) + 72) + 4 * max (used_end c.table m.pages) (used_end d.table m.pages)
+    100 * (words_taken stands.places.pages (object_of s) (innermost s.graph t) + records_of m c (innermost s.graph t) + length (stack_of c t) + 72) + 4 * max (used_end c.table m.pages) (used_end d.table m.pages)
 
 -- A call that ends an open epoch without a collection reads no more.
 abbrev pub ReadsFew : (m : Areas) (c d : Contents) (s : SpaceState) → Stands m c s → ℕ → Call → Stepped → ℕ → ℕ → Type 0

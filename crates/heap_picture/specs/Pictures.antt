@@ -6,7 +6,7 @@ use Rattle.heap_words.specs.Map.{heap_length}
 use Rattle.heap_words.specs.Contents.{contents}
 use Rattle.epoch_lattice.specs.declared.Space.TheVariants.{Control}
 use Rattle.object_layout.specs.declared.replies.Reply.{Reply}
-use Rattle.script_text.specs.Contents.{Contents}
+use Rattle.script_text.specs.ScriptContents.{ScriptContents}
 use Rattle.script_text.specs.Scripts.{IsScript}
 use Rattle.script_runner.specs.Runs.{Held, IsRun}
 use Rattle.yak_model.specs.Placed.{space_word, used_mark}
@@ -48,7 +48,7 @@ heap_picture held = picture_of held.map (contents held.map held.words).table
 
 -- The bytes are a script, which ran and left a heap, and the text is the picture of that heap.
 pub record Draws (bytes text : List ℕ) : Type 0 where
-  pub script : Contents
+  pub script : ScriptContents
   pub replies : List Reply
   pub held : Held
   pub read : IsScript bytes script

@@ -1,6 +1,6 @@
 //! A run of the program, and how it ends.
 ghost use Rattle.std.specs.Prelude.{◌≡◌, ◌≤◌, ◌⊎◌, ℕ, List, length, Err, IfOk, IfErr};
-ghost use Rattle.script_text.specs.Contents.{Contents};
+ghost use Rattle.script_text.specs.ScriptContents.{ScriptContents};
 ghost use Rattle.script_text.specs.Scripts.{IsBadLine, IsScript, Refuses};
 ghost use Rattle.script_text.specs.declared.faults.Bad.{Bad};
 ghost use Rattle.script_text.specs.declared.faults.ReadError.TheVariants.{Memory, Refused};
@@ -9,9 +9,9 @@ ghost use Rattle.heap_picture.specs.Pictures.{Draws};
 
 use crate::picture::picture;
 use script_runner::replay;
-use script_text::{Bad, INPUT_LIMIT, ReadError, read_script};
+use script_text::{Bad, ReadError, read_script};
 use std::alloc::{AllocError, Global};
-use yak_io::{ReadAllError, Sink, Source, read_all, write_all};
+use yak_io::{INPUT_LIMIT, ReadAllError, Sink, Source, read_all, write_all};
 
 /// How a run ends: the number of a variant is the exit status.
 #[derive(Clone, Copy, Debug, PartialEq, Eq, Drop)]
@@ -37,7 +37,7 @@ pub fn draw(alloc: Global, bytes: &[u8]) -> Result<Vec<u8>, ReadError>
     requires short { length bytes.now ≤ INPUT_LIMIT }
     ensures drawn { IfOk result (λ text. Draws bytes.now text.items) }
     ensures refused { IfErr result (λ error. Refuses bytes.now error) }
-    ensures every_script { (script : Contents) → IsScript bytes.now script → IfErr result (λ error. error ≡ Memory) }
+    ensures every_script { (script : ScriptContents) → IsScript bytes.now script → IfErr result (λ error. error ≡ Memory) }
     ensures every_fault { (bad : Bad) → IsBadLine bytes.now bad → (result ≡ Err (Refused bad)) ⊎ (result ≡ Err Memory) }
 {
     let script = read_script(alloc, bytes)?;

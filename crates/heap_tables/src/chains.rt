@@ -1,6 +1,6 @@
 //! Walks along the chains of a table.
 ghost use Rattle.std.specs.Prelude.{◌≡◌, ◌≢◌, ℕ, ◌+◌, ◌-◌, ◌*◌, ◌^◌, ◌<◌, ◌≤◌, ◌↔◌, ◌++◌, ◌∷◌, [], List, length, IsTrue, OnOk, OnErr, slice_index, slice_index_or};
-ghost use Rattle.yak_model.specs.declared.TheConstants.{STACK_SLOTS};
+ghost use Rattle.heap_words.specs.declared.TheConstants.{STACK_SLOTS};
 ghost use Rattle.yak_model.specs.Private.{KnownObjects};
 ghost use Rattle.yak_model.specs.declared.datum.Datum.{Datum};
 ghost use Rattle.yak_model.specs.declared.datum.Datum.TheVariants as datum;
@@ -14,7 +14,8 @@ ghost use Rattle.heap_tables.specs.Asides.{LacksChain};
 
 use crate::keys::{group, is_key};
 use crate::steps::{load, pop, pop_all, store, try_load};
-use yak_model::{Caller, STACK_SLOTS};
+use heap_words::STACK_SLOTS;
+use yak_model::Caller;
 
 /// What a look at a chain finds.
 #[derive(Clone, Copy, Debug, PartialEq, Eq, Drop)]

@@ -1,7 +1,8 @@
 //! The walk through a table, entry by entry.
 ghost use Rattle.std.specs.Prelude.{◌≡◌, ℕ, ◌+◌, ◌^◌, ◌<◌, ◌≤◌, List, length, IfOk};
 ghost use Rattle.object_layout.specs.declared.names.Name.{Name};
-ghost use Rattle.yak_model.specs.declared.TheConstants.{BUCKETS, STACK_SLOTS};
+ghost use Rattle.yak_model.specs.declared.TheConstants.{BUCKETS};
+ghost use Rattle.heap_words.specs.declared.TheConstants.{STACK_SLOTS};
 ghost use Rattle.yak_model.specs.declared.datum.Datum.{Datum};
 ghost use Rattle.yak_model.specs.Private.{KnownObjects};
 ghost use Rattle.yak_model.specs.Tables.{Link};

@@ -2,7 +2,8 @@
 ghost use Rattle.std.specs.Prelude.{◌≡◌, ◌≢◌, ℕ, ◌+◌, ◌-◌, ◌*◌, ◌/◌, ◌%◌, ◌^◌, ◌<◌, ◌≤◌, ◌↔◌, ◌++◌, ◌∷◌, [], List, length, IsTrue, true, OnOk, OnErr, slice_index, slice_index_or, None};
 ghost use Rattle.std.specs.FinMap as finite;
 ghost use Rattle.object_layout.specs.declared.TheConstants.{MAX_FIELDS, MAX_INT, MAX_SERIAL, WORD_LIMIT};
-ghost use Rattle.yak_model.specs.declared.TheConstants.{BUCKETS, STACK_SLOTS};
+ghost use Rattle.yak_model.specs.declared.TheConstants.{BUCKETS};
+ghost use Rattle.heap_words.specs.declared.TheConstants.{STACK_SLOTS};
 ghost use Rattle.yak_model.specs.Room.{key_words};
 ghost use Rattle.yak_model.specs.Private.{KnownObjects};
 ghost use Rattle.object_layout.specs.declared.names.Name.{Name};

@@ -1,7 +1,7 @@
 //! The first entries of a chain, laid out on the caller's stack.
 ghost use Rattle.std.specs.Prelude.{◌≡◌, ℕ, ◌+◌, ◌<◌, ◌≤◌, List, drop, length, IsTrue, true};
 ghost use Rattle.object_layout.specs.declared.names.Name.{Name};
-ghost use Rattle.yak_model.specs.declared.TheConstants.{STACK_SLOTS};
+ghost use Rattle.heap_words.specs.declared.TheConstants.{STACK_SLOTS};
 ghost use Rattle.yak_model.specs.declared.datum.Datum.{Datum};
 ghost use Rattle.yak_model.specs.Graph.{Thread};
 ghost use Rattle.yak_model.specs.Private.{KnownObjects};
@@ -18,7 +18,8 @@ use crate::chains::walk;
 use crate::keys::{first_group, is_key};
 use crate::seek::skip;
 use crate::steps::{load, pop, store, try_load};
-use yak_model::{Caller, STACK_SLOTS};
+use heap_words::STACK_SLOTS;
+use yak_model::Caller;
 
 /// Lays out the entry in the top slot, if there is one: pushes what follows it, and notes the first group of its word.
 #[inline(always)]

@@ -1,7 +1,7 @@
 //! The list of the entries of a table.
 ghost use Rattle.std.specs.Prelude.{◌≡◌, ℕ, ◌+◌, ◌≤◌, ◌++◌, ◌∷◌, [], List, length, IfOk, OnOk};
 ghost use Rattle.object_layout.specs.declared.names.Name.{Name};
-ghost use Rattle.yak_model.specs.declared.TheConstants.{STACK_SLOTS};
+ghost use Rattle.heap_words.specs.declared.TheConstants.{STACK_SLOTS};
 ghost use Rattle.yak_model.specs.Private.{KnownObjects};
 ghost use Rattle.yak_model.specs.Texts.{WordCounts};
 ghost use Rattle.heap_tables.specs.declared.TheConstants.{FREE_SLOTS};
@@ -18,12 +18,12 @@ use yak_model::Caller;
 
 /// A word and its count.
 #[derive(Drop)]
-pub struct Counted {
+pub struct WordCount {
     pub word: Vec<u8>,
     pub count: u64,
 }
 
-impl Model for Counted {
+impl Model for WordCount {
     ghost use Rattle.std.specs.Prelude.{ℕ, List};
 
     ghost Value = { List ℕ × ℕ };
@@ -32,10 +32,10 @@ impl Model for Counted {
 }
 
 /// Appends the word and the count of an entry to the list.
-fn push_entry(list: &mut Vec<Counted>, entry: Entry) -> Result<(), NoMemory>
+fn push_entry(list: &mut Vec<WordCount>, entry: Entry) -> Result<(), NoMemory>
     ensures { OnOk result (list.new.items ≡ list.old.items ++ (entry.word, entry.count) ∷ []) }
 {
-    let counted = Counted {
+    let counted = WordCount {
         word: entry.word,
         count: entry.count,
     };
@@ -54,7 +54,7 @@ pub fn read_entries<C: Caller>(
     alloc: Global,
     caller: &mut C,
     table: u32,
-) -> Result<Vec<Counted>, NoMemory>
+) -> Result<Vec<WordCount>, NoMemory>
     requires table { HasTableWalk (C.standing caller.old) (C.knows caller.old) table }
     requires room { length (stack_in (C.standing caller.old)) + FREE_SLOTS ≤ STACK_SLOTS }
     ensures ran { Ran C.base C.tells C.tells_known C.standing caller.old caller.new 0 }

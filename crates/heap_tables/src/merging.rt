@@ -3,7 +3,8 @@ ghost use Rattle.std.specs.Prelude.{◌≡◌, ℕ, ◌+◌, ◌*◌, ◌^◌, �
 ghost use Rattle.std.specs.FinMap as finite;
 ghost use Rattle.object_layout.specs.declared.TheConstants.{MAX_INT, MAX_SERIAL};
 ghost use Rattle.object_layout.specs.declared.names.Name.{Name};
-ghost use Rattle.yak_model.specs.declared.TheConstants.{BUCKETS, ENTRY_FIELDS, STACK_SLOTS};
+ghost use Rattle.yak_model.specs.declared.TheConstants.{BUCKETS, ENTRY_FIELDS};
+ghost use Rattle.heap_words.specs.declared.TheConstants.{STACK_SLOTS};
 ghost use Rattle.yak_model.specs.declared.datum.Datum.{Datum};
 ghost use Rattle.yak_model.specs.declared.datum.Datum.TheVariants as datum;
 ghost use Rattle.yak_model.specs.Private.{KnownObjects, IsKnown};
@@ -27,9 +28,10 @@ use crate::seek::seek;
 use crate::steps::{load, pop, pop_all, stack_size};
 use crate::tables::{add_present, link_new};
 use crate::{KEPT_SLOTS, KEY_BYTES, NOTED};
+use heap_words::STACK_SLOTS;
 use object_layout::OutOfHeap;
 use std::alloc::Global;
-use yak_model::{BUCKETS, Caller, STACK_SLOTS};
+use yak_model::{BUCKETS, Caller};
 
 /// Makes an entry for the key of another entry, and puts it at the front of a bucket.
 fn share_key<C: Caller>(

@@ -1,7 +1,7 @@
 //! Counts of a table that are raised in entries of a chain laid out on the caller's stack.
 ghost use Rattle.std.specs.Prelude.{◌≡◌, ℕ, ◌+◌, ◌<◌, ◌≤◌, List, drop, length, slice_index_or};
 ghost use Rattle.object_layout.specs.declared.names.Name.{Name};
-ghost use Rattle.yak_model.specs.declared.TheConstants.{STACK_SLOTS};
+ghost use Rattle.heap_words.specs.declared.TheConstants.{STACK_SLOTS};
 ghost use Rattle.yak_model.specs.declared.datum.Datum.{Datum};
 ghost use Rattle.yak_model.specs.declared.datum.Datum.TheVariants as datum;
 ghost use Rattle.yak_model.specs.Graph.{Thread};

@@ -1,7 +1,8 @@
 //! Words and counts, read from the entries of a table.
 ghost use Rattle.std.specs.Prelude.{◌≡◌, ◌≢◌, ℕ, ◌+◌, ◌/◌, ◌%◌, ◌^◌, ◌<◌, ◌≤◌, List, length, drop, take, slice_index, slice_index_or, IsTrue};
 ghost use Rattle.object_layout.specs.declared.names.Name.{Name};
-ghost use Rattle.yak_model.specs.declared.TheConstants.{GROUP_BYTES, STACK_SLOTS};
+ghost use Rattle.yak_model.specs.declared.TheConstants.{GROUP_BYTES};
+ghost use Rattle.heap_words.specs.declared.TheConstants.{STACK_SLOTS};
 ghost use Rattle.yak_model.specs.declared.datum.Datum.{Datum};
 ghost use Rattle.yak_model.specs.Private.{KnownObjects};
 ghost use Rattle.yak_model.specs.Tables.{AreBytes, IsChain, Link, digits, group};
@@ -15,7 +16,8 @@ ghost use Rattle.heap_tables.specs.Asides.{LacksChain};
 use crate::layouts::lay_on;
 use crate::seek::seek;
 use crate::steps::{field_int, load, pop, pop_all, slot_is_null};
-use yak_model::{BYTE_VALUES, Caller, GROUP_BYTES, STACK_SLOTS};
+use heap_words::STACK_SLOTS;
+use yak_model::{BYTE_VALUES, Caller, GROUP_BYTES};
 
 /// The byte at a place of a group of bytes.
 fn byte_of(group: u64, j: usize) -> u8

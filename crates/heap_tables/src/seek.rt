@@ -1,7 +1,7 @@
 //! Ways to a place in the chain of a bucket.
 ghost use Rattle.std.specs.Prelude.{◌≡◌, ℕ, ◌+◌, ◌^◌, ◌<◌, ◌≤◌, ◌⊎◌, [], List, length, drop, slice_index_or, IsTrue, IsFalse};
 ghost use Rattle.object_layout.specs.declared.names.Name.{Name};
-ghost use Rattle.yak_model.specs.declared.TheConstants.{STACK_SLOTS};
+ghost use Rattle.heap_words.specs.declared.TheConstants.{STACK_SLOTS};
 ghost use Rattle.yak_model.specs.declared.datum.Datum.{Datum};
 ghost use Rattle.yak_model.specs.declared.datum.Datum.TheVariants as datum;
 ghost use Rattle.yak_model.specs.Private.{KnownObjects};
@@ -13,7 +13,8 @@ ghost use Rattle.heap_tables.specs.Asides.{LacksChain};
 
 use crate::layouts::lay_on;
 use crate::steps::{load, pop_all, store};
-use yak_model::{Caller, STACK_SLOTS};
+use heap_words::STACK_SLOTS;
+use yak_model::Caller;
 
 /// The smaller of two numbers.
 fn smaller(a: u32, b: u32) -> u32

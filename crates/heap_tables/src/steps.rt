@@ -6,14 +6,15 @@ ghost use Rattle.heap_tables.specs.Asides.{LacksValue};
 ghost use Rattle.heap_tables.specs.Runs.{KeepsKnown, IsInSlot, HasField, KnowsSome, Ran, stack_in, slot_in, pushed, popped, without_top, next_of, with_made, with_new, with_field, IsShown, RanOut};
 ghost use Rattle.object_layout.specs.declared.names.Name.{Name};
 ghost use Rattle.object_layout.specs.declared.TheConstants.{MAX_FIELDS, MAX_INT, MAX_SERIAL, OBJECT_WORDS};
-ghost use Rattle.yak_model.specs.declared.TheConstants.{STACK_SLOTS};
+ghost use Rattle.heap_words.specs.declared.TheConstants.{STACK_SLOTS};
 ghost use Rattle.object_layout.specs.declared.replies.Reply.TheVariants as said;
 ghost use Rattle.object_layout.specs.declared.replies.Refusal.TheVariants as refusal;
 ghost use Rattle.yak_model.specs.declared.datum.Datum.{Datum};
 ghost use Rattle.yak_model.specs.declared.datum.Datum.TheVariants as datum;
 
+use heap_words::STACK_SLOTS;
 use object_layout::{Call, OutOfHeap, Refusal, Reply};
-use yak_model::{Caller, STACK_SLOTS};
+use yak_model::Caller;
 
 /// Pushes a field of a known object.
 #[inline(always)]

@@ -2,7 +2,8 @@
 ghost use Rattle.std.specs.Prelude.{◌≡◌, ◌≢◌, ℕ, ◌+◌, ◌-◌, ◌*◌, ◌^◌, ◌<◌, ◌≤◌, ◌↔◌, ◌++◌, ◌∷◌, [], List, length, IsTrue, OnOk, OnErr, slice_index, slice_index_or, None, replicate};
 ghost use Rattle.std.specs.FinMap as finite;
 ghost use Rattle.object_layout.specs.declared.TheConstants.{MAX_INT, MAX_SERIAL, WORD_LIMIT};
-ghost use Rattle.yak_model.specs.declared.TheConstants.{BUCKETS, ENTRY_FIELDS, STACK_SLOTS};
+ghost use Rattle.yak_model.specs.declared.TheConstants.{BUCKETS, ENTRY_FIELDS};
+ghost use Rattle.heap_words.specs.declared.TheConstants.{STACK_SLOTS};
 ghost use Rattle.yak_model.specs.Room.{entry_words, key_words, table_words};
 ghost use Rattle.heap_tables.specs.declared.TheConstants.{FREE_SLOTS, KEY_BYTES, MOST_MADE};
 ghost use Rattle.yak_model.specs.declared.datum.Datum.TheVariants as datum;
@@ -22,8 +23,9 @@ ghost use Rattle.heap_tables.specs.Adds.{AddRan, AddRanOut, AddsNear, AddsPresen
 use crate::chains::{Look, climb, find};
 use crate::keys::{bucket_of, group, make_key};
 use crate::steps::{field_int, load, pop, pop_all, push_new, put_int, stack_size, store};
+use heap_words::STACK_SLOTS;
 use object_layout::OutOfHeap;
-use yak_model::{BUCKETS, Caller, ENTRY_FIELDS, STACK_SLOTS};
+use yak_model::{BUCKETS, Caller, ENTRY_FIELDS};
 
 /// Raises the count of an entry.
 pub(crate) fn raise<C: Caller>(caller: &mut C, entry: u32, n: u64, top: u32)

@@ -15,7 +15,7 @@ use Rattle.epoch_lattice.specs.declared.Space.TheVariants.{Control, Region}
 use Rattle.epoch_lattice.specs.Lattice.{inner_of, space_index}
 use Rattle.yak_model.specs.State.{Thing}
 use Rattle.yak_model.specs.Placed.{HeapStands, Places, space_word, used_mark}
-use Rattle.yak_model.specs.Stands.{CurrentsStand, RegionsDense, SpacesOpen, current, pages_of, words_of}
+use Rattle.yak_model.specs.Stands.{CurrentsStand, RegionsDense, SpacesOpen, current, pages_of, words_taken}
 use Rattle.region_pages.specs.Counts.{used_of}
 use Rattle.region_pages.proofs.Counting.{used_is}
 use Rattle.relocation.specs.Slide.{IsPageOf}
@@ -143,7 +143,7 @@ module _ (m : Areas) (was now : List (List ℕ)) (same : SameRegions m was now) 
         let v : current e.currents t d ≡ current c.currents t d = set.regions t d hd in
         let r = region-row c stand t d ht hm hd x.0 in
         let used : used_mark now (current c.currents t d - 1) ≡ used_mark was (current c.currents t d - 1) = ap (λ (y : List ℕ). get_or y 1 0) r.2 in
-        let words : words_of l'.pages objects' (Region t d) ≡ words_of l.pages objects (Region t d) =
+        let words : words_taken l'.pages objects' (Region t d) ≡ words_taken l.pages objects (Region t d) =
         sym (used_is m now heap' objects' l' work' (Region t d) same.long_now new) ∙ used-same t d ∙ used_is m was heap objects l work (Region t d) same.long old
         in
         rw (v, pages, used, words) x

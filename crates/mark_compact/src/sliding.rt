@@ -14,7 +14,7 @@ ghost use Rattle.mark_compact.specs.Given.{GivenBack, IsSlid};
 ghost use Rattle.epoch_lattice.specs.declared.Space.TheVariants.{Control};
 
 use heap_words::{Areas, Words, get_page, set_page};
-use relocation::{Cursor, Plan, empty_plan, plan_pages};
+use relocation::{Plan, SlideCursor, empty_plan, plan_pages};
 
 /// The word of the control space in the page table.
 pub const CONTROL_WORD: u64 = 1;
@@ -50,7 +50,7 @@ pub fn plan_slide<W: Words>(words: &mut W, map: Areas) -> Plan
     ensures base { W.base words.new ≡ W.base words.old }
 {
     let mut plan = empty_plan(words, map);
-    let mut cursor = Cursor { next: 0, room: 0 };
+    let mut cursor = SlideCursor { next: 0, room: 0 };
     plan_pages(words, map, CONTROL_WORD, &mut plan, &mut cursor);
     give_back(words, map, cursor.next);
     plan

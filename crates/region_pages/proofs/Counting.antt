@@ -18,7 +18,7 @@ use Rattle.epoch_lattice.specs.declared.Space.TheVariants.{Control}
 use Rattle.epoch_lattice.specs.Lattice.{space_index}
 use Rattle.yak_model.specs.State.{Thing}
 use Rattle.yak_model.specs.Placed.{Places, HeapStands, names_of, words_by, size_by, space_word}
-use Rattle.yak_model.specs.Stands.{claim_counter, pool_length, free_pages, PoolStands, pages_of, words_in, words_of}
+use Rattle.yak_model.specs.Stands.{claim_counter, pool_length, free_pages, PoolStands, pages_of, words_in, words_taken}
 use Rattle.region_pages.specs.Counts.{free_in, regions_in, used_by, used_of}
 use Rattle.region_pages.specs.Freeing.{free_below}
 use Rattle.region_pages.proofs.Claims.{Contains-front, Contains-behind, Contains-cases}
@@ -148,6 +148,6 @@ page_used m table heap objects l work x p h lt =
     ∙ sym (sum_cond (size_by objects) b ns)
     ∙ sums_agree (λ (n : Name). cond b (size_by objects n) 0) (λ (n : Name). words_in x (objects n)) d d ns ns refl each
 
-pub used_is : (m : Areas) (table : List (List ℕ)) (heap : List ℕ) (objects : Name → Option Thing) (l : Places) (work : Name → ℕ) (x : Space) → length table ≡ m.pages → HeapStands m table heap objects l work → used_of table x ≡ words_of l.pages objects x
+pub used_is : (m : Areas) (table : List (List ℕ)) (heap : List ℕ) (objects : Name → Option Thing) (l : Places) (work : Name → ℕ) (x : Space) → length table ≡ m.pages → HeapStands m table heap objects l work → used_of table x ≡ words_taken l.pages objects x
 used_is m table heap objects l work x rows h =
     sums_agree (used_by x) (λ (ns : List Name). sum_by (λ (n : Name). words_in x (objects n)) ns) [] [] table l.pages (rows ∙ sym h.count) (λ p lt. page_used m table heap objects l work x p h (omega arith))

@@ -16,7 +16,7 @@ use Rattle.epoch_lattice.specs.Lattice.{IsValid, space_index, inner_of}
 use Rattle.epoch_lattice.proofs.Numbers.{number-own}
 use Rattle.yak_model.specs.State.{Thing}
 use Rattle.yak_model.specs.Placed.{space_word, used_mark}
-use Rattle.yak_model.specs.Stands.{current, free_pages, PoolStands, CurrentsStand, pages_of, words_of, RegionsDense}
+use Rattle.yak_model.specs.Stands.{current, free_pages, PoolStands, CurrentsStand, pages_of, words_taken, RegionsDense}
 use Rattle.yak_model.specs.Packed.{IsSpaceOf}
 use Rattle.region_pages.specs.Placement.{IsOwn, IsPlaced, IsPlacedInCurrent, IsPlacedOnClaimed, depth_in, words_left_at}
 use Rattle.region_pages.proofs.Shapes.{Shape}
@@ -66,7 +66,7 @@ same_region v e t d =
     (cases_eq v t)
 
 -- an object was placed in the current page
-pub dense-in_current : (m : Areas) (c : Contents) (pages pages' : List (List Name)) (objects objects' : Name → Option Thing) (t d page size : ℕ) → Shape m c → HasThread m t → page < m.pages → current c.currents t d ≡ page + 1 → CurrentsStand m c.currents c.table → ((y : Space) → words_of pages objects y ≤ words_of pages' objects' y) → (1 ≤ d → words_of pages objects (Region t d) + size ≤ words_of pages' objects' (Region t d)) → RegionsDense m c.table c.currents pages objects → RegionsDense m (row_set c.table page 1 (used_mark c.table page + size)) c.currents pages' objects'
+pub dense-in_current : (m : Areas) (c : Contents) (pages pages' : List (List Name)) (objects objects' : Name → Option Thing) (t d page size : ℕ) → Shape m c → HasThread m t → page < m.pages → current c.currents t d ≡ page + 1 → CurrentsStand m c.currents c.table → ((y : Space) → words_taken pages objects y ≤ words_taken pages' objects' y) → (1 ≤ d → words_taken pages objects (Region t d) + size ≤ words_taken pages' objects' (Region t d)) → RegionsDense m c.table c.currents pages objects → RegionsDense m (row_set c.table page 1 (used_mark c.table page + size)) c.currents pages' objects'
 dense-in_current m c pages pages' objects objects' t d page size s ht lt at stands more own dense v e hv lv he le some =
     let u : ℕ = used_mark c.table page + size in
     let y : Space = Region v e in
@@ -78,8 +78,8 @@ dense-in_current m c pages pages' objects objects' t d page size s ht lt at stan
     let back : current c.currents v e - 1 ≡ page = omega (arith, here) in
     let mark = ap (λ (q : ℕ). used_mark (row_set c.table page 1 u) q) back ∙ used-with_used c.table page u within (s.entries page lt) in
     let mark_old = ap (λ (q : ℕ). used_mark c.table q) back in
-    let region = ap (λ (k : ℕ). words_of pages objects (Region k e)) w.0 ∙ ap (λ (k : ℕ). words_of pages objects (Region t k)) w.1 in
-    let region' = ap (λ (k : ℕ). words_of pages' objects' (Region k e)) w.0 ∙ ap (λ (k : ℕ). words_of pages' objects' (Region t k)) w.1 in
+    let region = ap (λ (k : ℕ). words_taken pages objects (Region k e)) w.0 ∙ ap (λ (k : ℕ). words_taken pages objects (Region t k)) w.1 in
+    let region' = ap (λ (k : ℕ). words_taken pages' objects' (Region k e)) w.0 ∙ ap (λ (k : ℕ). words_taken pages' objects' (Region t k)) w.1 in
     (old.0, omega (arith, old.1, count, mark, mark_old, region, region', own (omega (arith, w.1)))))
     (λ (w : (v ≡ t) × (e ≡ d) → ⊥).
     let apart : current c.currents v e - 1 ≢ page = λ q. w (stands.once v e t d hv lv ht.0 ht.1 old.0 (omega (arith, old.0, q, at))) in
@@ -103,7 +103,7 @@ pub left_some : (m : Areas) (c : Contents) (t d : ℕ) → current c.currents t 
 left_some m c t d some = grind (arith, nat_tests)
 
 -- an object was placed on a claimed page
-pub dense-on_claimed : (m : Areas) (c : Contents) (pages pages' : List (List Name)) (objects objects' : Name → Option Thing) (t d page size : ℕ) → Shape m c → IsAreas m → HasThread m t → d ≤ max_depth m → page < m.pages → space_word c.table page ≡ 0 → words_left_at m c t d < size → CurrentsStand m c.currents c.table → ((y : Space) → words_of pages objects y ≤ words_of pages' objects' y) → (1 ≤ d → words_of pages objects (Region t d) + size ≤ words_of pages' objects' (Region t d)) → RegionsDense m c.table c.currents pages objects → RegionsDense m (row_set (set c.table page (entry (inner_of t d))) page 1 size) (row_set c.currents (t - 1) d (page + 1)) pages' objects'
+pub dense-on_claimed : (m : Areas) (c : Contents) (pages pages' : List (List Name)) (objects objects' : Name → Option Thing) (t d page size : ℕ) → Shape m c → IsAreas m → HasThread m t → d ≤ max_depth m → page < m.pages → space_word c.table page ≡ 0 → words_left_at m c t d < size → CurrentsStand m c.currents c.table → ((y : Space) → words_taken pages objects y ≤ words_taken pages' objects' y) → (1 ≤ d → words_taken pages objects (Region t d) + size ≤ words_taken pages' objects' (Region t d)) → RegionsDense m c.table c.currents pages objects → RegionsDense m (row_set (set c.table page (entry (inner_of t d))) page 1 size) (row_set c.currents (t - 1) d (page + 1)) pages' objects'
 dense-on_claimed m c pages pages' objects objects' t d page size s areas ht hd lt free few stands more own dense v e hv lv he le some =
     let x : Space = inner_of t d in
     let y : Space = Region v e in
@@ -119,8 +119,8 @@ dense-on_claimed m c pages pages' objects objects' t d page size s areas ht hd l
     let own_count : pages_of entered y ≡ pages_of c.table y + 1 = ap (pages_of entered) (sym same) ∙ pages-entered_own c.table page x within free ∙ ap (λ (z : Space). pages_of c.table z + 1) same in
     let back : current (row_set c.currents (t - 1) d (page + 1)) v e - 1 ≡ page = omega (arith, w.2) in
     let mark = ap (λ (q : ℕ). used_mark (row_set entered page 1 size) q) back ∙ used-with_used entered page size within' long in
-    let region = ap (λ (k : ℕ). words_of pages objects (Region k e)) w.0 ∙ ap (λ (k : ℕ). words_of pages objects (Region t k)) w.1 in
-    let region' = ap (λ (k : ℕ). words_of pages' objects' (Region k e)) w.0 ∙ ap (λ (k : ℕ). words_of pages' objects' (Region t k)) w.1 in (
+    let region = ap (λ (k : ℕ). words_taken pages objects (Region k e)) w.0 ∙ ap (λ (k : ℕ). words_taken pages objects (Region t k)) w.1 in
+    let region' = ap (λ (k : ℕ). words_taken pages' objects' (Region k e)) w.0 ∙ ap (λ (k : ℕ). words_taken pages' objects' (Region t k)) w.1 in (
       omega (arith, w.2),
       ⊎_elim (λ (none : 0 ≡ pages_of c.table y). omega (arith, count, own_count, mark, region, region', own (omega (arith, w.1)), none))
           (λ (ne : 0 ≢ pages_of c.table y).
@@ -146,14 +146,14 @@ pub some_left : (m : Areas) (c : Contents) (t d size : ℕ) → 1 ≤ size → s
 some_left m c t d size least fits = grind (arith, nat_tests)
 
 -- an object was placed, and its words count for its region
-pub dense-placed : (m : Areas) (c after : Contents) (pages pages' : List (List Name)) (objects objects' : Name → Option Thing) (t : ℕ) (x : Space) (size a : ℕ) → Shape m c → IsAreas m → HasThread m t → IsSpaceOf m x → IsOwn t x → 1 ≤ size → PoolStands m c.heads c.pool c.table → CurrentsStand m c.currents c.table → ((y : Space) → words_of pages objects y ≤ words_of pages' objects' y) → (1 ≤ depth_in x → words_of pages objects x + size ≤ words_of pages' objects' x) → IsPlaced m c t x size a after → RegionsDense m c.table c.currents pages objects → RegionsDense m after.table after.currents pages' objects'
+pub dense-placed : (m : Areas) (c after : Contents) (pages pages' : List (List Name)) (objects objects' : Name → Option Thing) (t : ℕ) (x : Space) (size a : ℕ) → Shape m c → IsAreas m → HasThread m t → IsSpaceOf m x → IsOwn t x → 1 ≤ size → PoolStands m c.heads c.pool c.table → CurrentsStand m c.currents c.table → ((y : Space) → words_taken pages objects y ≤ words_taken pages' objects' y) → (1 ≤ depth_in x → words_taken pages objects x + size ≤ words_taken pages' objects' x) → IsPlaced m c t x size a after → RegionsDense m c.table c.currents pages objects → RegionsDense m after.table after.currents pages' objects'
 dense-placed m c after pages pages' objects objects' t x size a s areas ht valid owned least pool stands more own placed dense =
     let d : ℕ = depth_in x in
     let deep : d ≤ max_depth m = depth_fits m x valid in
     let P : List (List ℕ) → List (List ℕ) → Type 0 = λ table currents. RegionsDense m table currents pages' objects' in
-    let own' : 1 ≤ d → words_of pages objects (Region t d) + size ≤ words_of pages' objects' (Region t d) = λ le.
+    let own' : 1 ≤ d → words_taken pages objects (Region t d) + size ≤ words_taken pages' objects' (Region t d) = λ le.
     let is : x ≡ Region t d = sym (inner_is m t x valid owned) ∙ own_region t d t d le refl refl in
-    omega (arith, own le, ap (λ (y : Space). words_of pages objects y) is, ap (λ (y : Space). words_of pages' objects' y) is) in
+    omega (arith, own le, ap (λ (y : Space). words_taken pages objects y) is, ap (λ (y : Space). words_taken pages' objects' y) is) in
     ⊎_elim (λ (w : IsPlacedInCurrent m c t d size a after).
     let page : ℕ = current c.currents t d - 1 in
     let some = some_left m c t d size least w.fits in

@@ -15,7 +15,7 @@ use Rattle.object_layout.specs.declared.TheConstants.{MAX_SPACE}
 use Rattle.heap_words.specs.Map.{page_words}
 use Rattle.epoch_lattice.specs.Lattice.{space_index}
 use Rattle.epoch_lattice.specs.declared.Space.TheVariants.{Control}
-use Rattle.yak_model.specs.Stands.{words_in, words_of, pages_of}
+use Rattle.yak_model.specs.Stands.{words_in, words_taken, pages_of}
 use Rattle.yak_model.specs.Packed.{PackedAs}
 use Rattle.yak_model.specs.Placed.{Places, names_of, words_by, size_by, IsAt, Tiles, HeapStands}
 use Rattle.yak_model.proofs.Placed.{in_page}
@@ -122,7 +122,7 @@ slide-laid m slid was s l work dropped now count moves named next room a h close
     laid-more m slid was.table was.heap size' (forwarded count moves l.at) (names_of l) moves named c page.0 (slide-laid m slid was s l work dropped now count moves named next room a h closed small known slide c (omega arith)) q page.1 page.2 place (rw q at (slide.tight c lt)) (own ∙ sym x.3) page.4
 
 -- the words of Control after a slide are those of its moves
-pub slide-words : (m : Areas) (slid : ℕ) (was : Contents) (s : State) (l : Places) (work : Name → ℕ) (dropped : Name → Bool) (now : Contents) (count : ℕ) (moves : ℕ → Move) (named : ℕ → Name) (next room a : ℕ) (h : HeapStands m was.table was.heap s.objects l work) (closed : IsClosed s) (small : slid ≤ MAX_SPACE + 1) → slid ≡ 1 → Slid m slid was s l dropped count moves named → Sliding m slid was (runs_of m slid was s l work h closed small) now count moves next room a → (c : ℕ) → c ≤ count → words_of (table_of (names_after m slid was.table (names_of l) c moves named) m.pages) (after_moves count moves l.at (without s dropped)).objects Control ≡ words_moved was.heap c moves
+pub slide-words : (m : Areas) (slid : ℕ) (was : Contents) (s : State) (l : Places) (work : Name → ℕ) (dropped : Name → Bool) (now : Contents) (count : ℕ) (moves : ℕ → Move) (named : ℕ → Name) (next room a : ℕ) (h : HeapStands m was.table was.heap s.objects l work) (closed : IsClosed s) (small : slid ≤ MAX_SPACE + 1) → slid ≡ 1 → Slid m slid was s l dropped count moves named → Sliding m slid was (runs_of m slid was s l work h closed small) now count moves next room a → (c : ℕ) → c ≤ count → words_taken (table_of (names_after m slid was.table (names_of l) c moves named) m.pages) (after_moves count moves l.at (without s dropped)).objects Control ≡ words_moved was.heap c moves
 slide-words m slid was s l work dropped now count moves named next room a h closed small control known slide zero le =
     words-none m slid was.table was.heap (λ n. words_in Control ((after_moves count moves l.at (without s dropped)).objects n)) (names_of l) moves named (λ p hp other. sum-none (λ n. words_in Control ((after_moves count moves l.at (without s dropped)).objects n)) (names_of l p) (λ k d lt.
     let n : Name = get_or (names_of l p) k d in

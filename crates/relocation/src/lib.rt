@@ -19,4 +19,4 @@ pub use fields::{correct_field, correct_fields, correct_moves};
 pub use moves::move_all;
 pub use pages::page_start;
 pub use plans::{MOVE_WORDS, Move, Plan, add_move, empty_plan, read_move};
-pub use slides::{Cursor, object_size, plan_pages};
+pub use slides::{SlideCursor, object_size, plan_pages};

@@ -19,7 +19,7 @@ use object_layout::{Addr, OBJECT_WORDS, decode_header};
 /// Where a slide puts objects: the pages before `next` were taken where they are of the space, and the last of them has
 /// `room` words left.
 #[derive(Clone, Copy, Debug, PartialEq, Eq, Drop)]
-pub struct Cursor {
+pub struct SlideCursor {
     pub next: u32,
     pub room: u32,
 }
@@ -63,7 +63,7 @@ fn next_place<W: Words>(
     words: &mut W,
     map: Areas,
     slid: u64,
-    cursor: &mut Cursor,
+    cursor: &mut SlideCursor,
     size: u32,
 ) -> usize
     requires sound { Sound map (W.words words.old) }
@@ -99,7 +99,7 @@ fn plan_object<W: Words>(
     map: Areas,
     slid: u64,
     plan: &mut Plan,
-    cursor: &mut Cursor,
+    cursor: &mut SlideCursor,
     a: usize,
 ) -> u32
     requires sound { Sound map (W.words words.old) }
@@ -131,7 +131,7 @@ fn plan_page<W: Words>(
     map: Areas,
     slid: u64,
     plan: &mut Plan,
-    cursor: &mut Cursor,
+    cursor: &mut SlideCursor,
     page: u32,
 )
     requires sound { Sound map (W.words words.old) }
@@ -155,7 +155,7 @@ pub fn plan_pages<W: Words>(
     map: Areas,
     slid: u64,
     plan: &mut Plan,
-    cursor: &mut Cursor,
+    cursor: &mut SlideCursor,
 )
     requires sound { Sound map (W.words words.old) }
     requires runs { Runs map slid (contents map (W.words words.old)) }

@@ -7,7 +7,7 @@ use Rattle.heap_words.specs.declared.map.Areas.{Areas}
 use Rattle.yak_model.specs.declared.history.Entry.{Entry}
 use Rattle.safepoint_gate.specs.declared.rule.Own.{Own}
 use Rattle.safepoint_gate.specs.declared.rule.View.{View}
-use Rattle.safepoint_gate.specs.Rule.{AllMine, AllRest, AreByThread, Counted, IsUnderway, Kept, Mine, StandsOpen, Underway, closed, hidden, moving, present, stands_for, times}
+use Rattle.safepoint_gate.specs.Rule.{AllMine, AllRest, AreByThread, CountsSeats, IsUnderway, OneHistory, Mine, StandsOpen, Underway, closed, hidden, moving, present, stands_for, times}
 use Rattle.safepoint_gate.proofs.Flying.{Beside, each, times_at}
 use Rattle.safepoint_gate.proofs.Keeps.{St, changes, other_fits}
 use Rattle.safepoint_gate.proofs.Totals.{total_two}
@@ -15,16 +15,16 @@ use Rattle.safepoint_gate.proofs.Totals.{total_two}
 module _ (m : Areas) where
   -- The seat's one thread acts, and no other seat has closed the gate. That owes the count, what the thread and the others have
   -- and know then, and words that stand open.
-  pub acts : (s : St) (k : Kept m s) (id : ℕ) (v w : View) (cs : List (ℕ × Unit {0})) (i n : ℕ) (words : List ℕ) (history : List Entry) (o p : Own) (now : Underway) → get_elem? s.views id ≡ some v
+  pub acts : (s : St) (k : OneHistory m s) (id : ℕ) (v w : View) (cs : List (ℕ × Unit {0})) (i n : ℕ) (words : List ℕ) (history : List Entry) (o p : Own) (now : Underway) → get_elem? s.views id ≡ some v
       → v.own ≡ o ∷ [] → w.own ≡ p ∷ [] → p.thread ≡ o.thread → w.map ≡ m
       → closed w ≡ 0 → present w ≤ 1 → (moving w ≡ 0 → AllRest w.own × (w.lasting ≡ []))
       → ((j : ℕ) (x : View) → j ≢ id → get_elem? s.views j ≡ some x → closed x ≡ 0)
       → ((q : Own) → o.thread ≢ q.thread → Mine m k.history q → Mine m history q)
       → Mine m history p → IsUnderway m now w.lasting p → AreByThread m now.flights → Beside m k.underway now v.own
-      → Counted (get_or (set s.words i n) 0 0) (set s.views id w)
+      → CountsSeats (get_or (set s.words i n) 0 0) (set s.views id w)
       → hidden (set s.words i n) ≡ words
       → StandsOpen m words history now
-      → Kept m (stepped s i n id cs w keeps)
+      → OneHistory m (stepped s i n id cs w keeps)
   acts s k id v w cs i n words history o p now at own becomes same map_is open_ single rests others beside_mine mine call by beside counted hides fine =
       let f = k.fits id v at in
       let own_at : get_elem? v.own 0 ≡ some o = ap (λ z. get_elem? z 0) own in

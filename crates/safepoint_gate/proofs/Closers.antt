@@ -17,7 +17,7 @@ use Rattle.safepoint_gate.specs.declared.rule.Place.{Place}
 use Rattle.safepoint_gate.specs.declared.rule.Place.TheVariants.{Away, Inside, Retreating, Asking, Closed}
 use Rattle.calls_in_flight.specs.Flight.{at_rest}
 use Rattle.safepoint_gate.specs.declared.rule.View.{View}
-use Rattle.safepoint_gate.specs.Rule.{present, inner, asking, closed, present_at, inner_at, asking_at, closed_at, moving, moving_at, times, hidden, AllMine, AllRest, Counted, IsUnderway, Kept, Mine, Underway}
+use Rattle.safepoint_gate.specs.Rule.{present, inner, asking, closed, present_at, inner_at, asking_at, closed_at, moving, moving_at, times, hidden, AllMine, AllRest, CountsSeats, IsUnderway, OneHistory, Mine, Underway}
 use Rattle.safepoint_gate.specs.Steps.{KeepBuffers, MayOpen, Sat, written, gets, sets, opens, first_thread, flushed, with_own}
 use Rattle.safepoint_gate.proofs.Totals.{total_set, total_at, total_two, set_there}
 use Rattle.safepoint_gate.proofs.Keeps.{St, gate_of, changes, unchanged, bounds, other_fits, resting, some_words}
@@ -33,7 +33,7 @@ moving-inner Closed = omega arith
 
 module _ (m : Areas) where
   -- a view that changes, but for its phase and its threads
-  pub counted_same : (n : ℕ) (views : List View) (id : ℕ) (v w : View) → get_elem? views id ≡ some v → w.place ≡ v.place → Counted n views → Counted n (set views id w)
+  pub counted_same : (n : ℕ) (views : List View) (id : ℕ) (v w : View) → get_elem? views id ≡ some v → w.place ≡ v.place → CountsSeats n views → CountsSeats n (set views id w)
   counted_same n views id v w at place k =
       let p : present w ≡ present v = ap present_at place in
       let a : asking w ≡ asking v = ap asking_at place in
@@ -49,15 +49,15 @@ module _ (m : Areas) where
       record { count = omega arith; one = omega arith; alone = λ h. let z = alone (omega arith) in omega arith }
 
   -- no other seat has closed the gate
-  pub others_open : (s : St) (k : Kept m s) (id j : ℕ) (v u : View) → get_elem? s.views id ≡ some v → closed v ≡ 1 → j ≢ id → get_elem? s.views j ≡ some u → closed u ≡ 0
+  pub others_open : (s : St) (k : OneHistory m s) (id j : ℕ) (v u : View) → get_elem? s.views id ≡ some v → closed v ≡ 1 → j ≢ id → get_elem? s.views j ≡ some u → closed u ≡ 0
   others_open s k id j v u at c apart there = let two = total_two closed s.views id j v u (λ e. apart (sym e)) at there in let b = bounds m s k in let one = k.counted.one in omega arith
 
-  pub gets_keeps : (slots id i : ℕ) (me : Sat) → me.0.place ≡ Closed → 1 ≤ i → Allows (Kept m) slots id me i (λ n. n) (gets (step slots i 0 0 none) me)
+  pub gets_keeps : (slots id i : ℕ) (me : Sat) → me.0.place ≡ Closed → 1 ≤ i → Allows (OneHistory m) slots id me i (λ n. n) (gets (step slots i 0 0 none) me)
   gets_keeps slots id i me is from s k _ at _ =
       let knows = (k.fits id me.0 at).knows (ap closed_at is) in
       (me.0, keeps, tt, unchanged m s k id i me.0 me.1 at, ((refl, refl), sym (get_or-set_other s.words 0 i 0 0 (λ e. omega arith)) ∙ ap (λ z. get_or z i 0) (sym knows.words_are)))
 
-  pub sets_keeps : (slots id i n : ℕ) (me : Sat) → me.0.place ≡ Closed → 1 ≤ i → Allows (Kept m) slots id me i (λ _. n) (λ _. sets (step slots i n 0 none) me n)
+  pub sets_keeps : (slots id i n : ℕ) (me : Sat) → me.0.place ≡ Closed → 1 ≤ i → Allows (OneHistory m) slots id me i (λ _. n) (λ _. sets (step slots i n 0 none) me n)
   sets_keeps slots id i n me is from s k _ at _ =
       let v = me.0 in
       let w = written v (set v.words i n) in
@@ -68,7 +68,7 @@ module _ (m : Areas) where
         keeps,
         tt,
         changes m s k id v w me.1 i n (set v.words i n) k.history k.underway at
-            (subst (λ z. Counted z (set s.views id w)) (sym (get_or-set_other s.words i 0 n 0 (λ e. omega arith))) (counted_same (gate_of s) s.views id v w at refl k.counted))
+            (subst (λ z. CountsSeats z (set s.views id w)) (sym (get_or-set_other s.words i 0 n 0 (λ e. omega arith))) (counted_same (gate_of s) s.views id v w at refl k.counted))
             (λ t. refl)
             refl
             (set_comm s.words i 0 n 0 (λ e. omega arith) ∙ ap (λ z. set z i n) (sym knows.words_are))
@@ -80,7 +80,7 @@ module _ (m : Areas) where
       )
 
   -- no call is in flight while a seat has closed the gate
-  pub closed_quiet : (s : St) (k : Kept m s) (id : ℕ) (v : View) → get_elem? s.views id ≡ some v → closed v ≡ 1 → (j : ℕ) (u : View) → get_elem? s.views j ≡ some u → moving u ≡ 0
+  pub closed_quiet : (s : St) (k : OneHistory m s) (id : ℕ) (v : View) → get_elem? s.views id ≡ some v → closed v ≡ 1 → (j : ℕ) (u : View) → get_elem? s.views j ≡ some u → moving u ≡ 0
   closed_quiet s k id v at c j u there =
       let here = total_at closed s.views id v at in
       let alone = k.counted.alone (omega arith) in
@@ -93,7 +93,7 @@ module _ (m : Areas) where
   emptied u t = record { flights = u.flights; lasting = u.lasting; logged = λ x. cond (x == t) 0 (u.logged x) }
 
   -- the closer opens, over words of the state of the closing
-  pub opens_keeps : (slots id : ℕ) (me : Sat) → me.0.place ≡ Closed → length me.0.own ≡ 1 → MayOpen me.0 None → Allows (Kept m) slots id me 0 (λ n. bit_and n 4294967295) (opens (step slots 0 4294967295 0 none) me)
+  pub opens_keeps : (slots id : ℕ) (me : Sat) → me.0.place ≡ Closed → length me.0.own ≡ 1 → MayOpen me.0 None → Allows (OneHistory m) slots id me 0 (λ n. bit_and n 4294967295) (opens (step slots 0 4294967295 0 none) me)
   opens_keeps slots id me is single still s k _ at _ =
       let v = me.0 in
       let o = (only v.own single).0 in
@@ -149,7 +149,7 @@ module _ (m : Areas) where
         keeps,
         tt,
         changes m s k id v w me.1 0 (bit_and (gate_of s) 4294967295) (hidden s.words) k.history now at
-            (subst (λ z. Counted z (set s.views id w)) (sym (get_or-set_same s.words 0 (bit_and (gate_of s) 4294967295) 0 (omega arith)))
+            (subst (λ z. CountsSeats z (set s.views id w)) (sym (get_or-set_same s.words 0 (bit_and (gate_of s) 4294967295) 0 (omega arith)))
             record { count = omega arith; one = omega arith; alone = λ h. absurd (omega arith) })
             (λ u. ap (times u) is_own ∙ sym (ap (times u) own))
             (ap length is_own ∙ sym (ap length own))

@@ -19,7 +19,7 @@ use Rattle.yak_model.proofs.Lasting.{private_first}
 use Rattle.safepoint_gate.specs.declared.rule.Place.TheVariants.{Away}
 use Rattle.safepoint_gate.specs.declared.rule.Own.{Own}
 use Rattle.safepoint_gate.specs.declared.rule.View.{View}
-use Rattle.safepoint_gate.specs.Rule.{total, present, inner, asking, closed, present_at, inner_at, asking_at, closed_at, moving, moving_at, times, stands_for, numbers, hidden, thread_told, AreByThread, IsUnderway, Mine, Fits, Kept, StandsOpen, Underway, newcomer, fresh, first_view}
+use Rattle.safepoint_gate.specs.Rule.{total, present, inner, asking, closed, present_at, inner_at, asking_at, closed_at, moving, moving_at, times, stands_for, numbers, hidden, thread_told, AreByThread, IsUnderway, Mine, Fits, OneHistory, StandsOpen, Underway, newcomer, fresh, first_view}
 use Rattle.safepoint_gate.specs.Steps.{of_first, of_others, of_both, of_none, first_thread, at_gate, seals, Sat}
 use Rattle.safepoint_gate.proofs.Totals.{total_at, total_set, total_two, total_snoc, total_below}
 use Rattle.safepoint_gate.proofs.Flying.{all_rest, rest_differs, stand_open}
@@ -118,7 +118,7 @@ module _ (m : Areas) where
   start_at : (t : ℕ) → HasThread m t → flight_at (rests_from 1 m.threads) (t - 1) ≡ at_rest t
   start_at t ht = let back : 1 + (t - 1) ≡ t = omega (arith, ht.0) in rests_at 1 m.threads (t - 1) (omega (arith, ht.0, ht.1)) ∙ ap at_rest back
 
-  pub begins : IsAreas m → (words : List ℕ) → length words ≡ total_of m → slice_index words 0 ≡ 0 → (contents m words).buffers ≡ replicate m.threads [] → StandsRecorded m (contents m words) (opening_spaces standard_limits m.threads) → Kept m (opening words [] (first_view m))
+  pub begins : IsAreas m → (words : List ℕ) → length words ≡ total_of m → slice_index words 0 ≡ 0 → (contents m words).buffers ≡ replicate m.threads [] → StandsRecorded m (contents m words) (opening_spaces standard_limits m.threads) → OneHistory m (opening words [] (first_view m))
   begins areas words long zero_gate empty stands =
       let many = fresh_length 1 m.threads in
       record {
@@ -170,7 +170,7 @@ module _ (m : Areas) where
       one zero v e = subst (Fits m (hidden words) [] start) (some-injective _ v e) first
       one (suc j) v e = absurd (some-ne-none v (sym e))
 
-  pub splits_keeps : (id : ℕ) (v : View) → v.place ≡ Away → Splits (Kept m) id v (of_others v) (of_first v)
+  pub splits_keeps : (id : ℕ) (v : View) → v.place ≡ Away → Splits (OneHistory m) id v (of_others v) (of_first v)
   splits_keeps id v away s k at =
       let l = of_others v in
       let r = of_first v in
@@ -214,7 +214,7 @@ module _ (m : Areas) where
         open_ = λ z. k.open_ (omega arith);
       }
 
-  pub joins_keeps : (id other : ℕ) (v w : View) → v.place ≡ Away → w.place ≡ Away → 1 ≤ length v.own → Joins (Kept m) id v other w (of_both v w) of_none
+  pub joins_keeps : (id other : ℕ) (v w : View) → v.place ≡ Away → w.place ≡ Away → 1 ≤ length v.own → Joins (OneHistory m) id v other w (of_both v w) of_none
   joins_keeps id other v w away away' some_own s k at apart there =
       let b = of_both v w in
       let vs = set s.views id b in
@@ -271,7 +271,7 @@ module _ (m : Areas) where
       }
 
   -- where a seat that is away stands for all threads, no other seat is present
-  pub settles : (s : St) (k : Kept m s) (id : ℕ) (v : View) → get_elem? s.views id ≡ some v → v.place ≡ Away → length v.own ≡ m.threads → total present s.views ≤ 0
+  pub settles : (s : St) (k : OneHistory m s) (id : ℕ) (v : View) → get_elem? s.views id ≡ some v → v.place ≡ Away → length v.own ≡ m.threads → total present s.views ≤ 0
   settles s k id v at away all =
       let p : present v ≡ 0 = ap present_at away in
       let given = k.all_given in
@@ -283,7 +283,7 @@ module _ (m : Areas) where
       none_there f [] h = omega arith
       none_there f (x ∷ xs) h = let a = h 0 x refl in let r = none_there f xs (λ j u e. h (suc j) u e) in omega arith
 
-  pub seals_keeps : (slots id : ℕ) (me : Sat) → me.0.place ≡ Away → length me.0.own ≡ m.threads → Allows (Kept m) slots id me 0 (λ _. 4294967297) (λ _. seals (step slots 0 4294967297 0 none) me 4294967297)
+  pub seals_keeps : (slots id : ℕ) (me : Sat) → me.0.place ≡ Away → length me.0.own ≡ m.threads → Allows (OneHistory m) slots id me 0 (λ _. 4294967297) (λ _. seals (step slots 0 4294967297 0 none) me 4294967297)
   seals_keeps slots id me away all s k _ at _ =
       let v = me.0 in
       let f = k.fits id v at in

@@ -19,7 +19,7 @@ use Rattle.yak_model.proofs.Continued.{explains_more, has_others, one_state, par
 use Rattle.yak_model.proofs.Lasting.{becomes_known, private_more, private_others}
 use Rattle.safepoint_gate.specs.declared.rule.Own.{Own}
 use Rattle.safepoint_gate.specs.declared.rule.Place.TheVariants.{Inside, Closed}
-use Rattle.safepoint_gate.specs.Rule.{present, inner, asking, closed, present_at, inner_at, asking_at, closed_at, moving_at, hidden, thread_told, AllMine, AllRest, Counted, Mine, Kept}
+use Rattle.safepoint_gate.specs.Rule.{present, inner, asking, closed, present_at, inner_at, asking_at, closed_at, moving_at, hidden, thread_told, AllMine, AllRest, CountsSeats, Mine, OneHistory}
 use Rattle.safepoint_gate.specs.Steps.{KeepBuffers, MayOpen, Sat, with_own, with_entries, told, first_known, first_thread, opens_with}
 use Rattle.safepoint_gate.proofs.Totals.{total_set, total_at}
 use Rattle.safepoint_gate.proofs.Keeps.{gate_of, bounds, resting, some_words}
@@ -85,7 +85,7 @@ module _ (m : Areas) where
 
   -- the closer opens with a call
   pub opens_with_keeps : (slots id : ℕ) (me : Sat) (event : Event) → me.0.place ≡ Closed → length me.0.own ≡ 1 → MayOpen me.0 (Some event)
-      → Allows (Kept m) slots id me 0 (λ n. bit_and n 4294967295) (opens_with event (step slots 0 4294967295 0 none) me)
+      → Allows (OneHistory m) slots id me 0 (λ n. bit_and n 4294967295) (opens_with event (step slots 0 4294967295 0 none) me)
   opens_with_keeps slots id me event is single continues s k _ at _ =
       let v = me.0 in
       let o = (only v.own single).0 in
@@ -137,7 +137,7 @@ module _ (m : Areas) where
             record { flight_is = call.flight_is; lasting_is = call.lasting_is ∙ quiet.1; few = call.few; differs = rest_differs m p' [] rest }
             k.by_thread
             (beside_same m k.underway v.own)
-            (subst (λ z. Counted z (set s.views id w)) (sym (get_or-set_same s.words 0 (bit_and (gate_of s) 4294967295) 0 (omega arith)))
+            (subst (λ z. CountsSeats z (set s.views id w)) (sym (get_or-set_same s.words 0 (bit_and (gate_of s) 4294967295) 0 (omega arith)))
             record { count = omega arith; one = omega arith; alone = λ h. absurd (omega arith) })
             (set-set s.words 0 (bit_and (gate_of s) 4294967295) 0)
             (stand_open m (hidden s.words) (k.history ++ more) k.underway k.areas (length-set s.words 0 0 ∙ k.wide) k.by_thread (resting m s k none_moves) (λ x ht. (Keep.still m s k none_moves x ht).1)

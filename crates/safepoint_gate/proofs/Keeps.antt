@@ -17,7 +17,7 @@ use Rattle.yak_model.specs.declared.history.Entry.{Entry}
 use Rattle.safepoint_gate.specs.declared.rule.Place.{Place}
 use Rattle.safepoint_gate.specs.declared.rule.Place.TheVariants.{Away, Inside, Retreating, Asking, Closed}
 use Rattle.safepoint_gate.specs.declared.rule.View.{View}
-use Rattle.safepoint_gate.specs.Rule.{total, present, inner, asking, closed, present_at, inner_at, asking_at, closed_at, times, stands_for, numbers, hidden, moving, moving_at, AllMine, AllRest, AreByThread, Counted, Fits, IsUnderway, Kept, Knows, StandsOpen, Underway}
+use Rattle.safepoint_gate.specs.Rule.{total, present, inner, asking, closed, present_at, inner_at, asking_at, closed_at, times, stands_for, numbers, hidden, moving, moving_at, AllMine, AllRest, AreByThread, CountsSeats, Fits, IsUnderway, OneHistory, Knows, StandsOpen, Underway}
 use Rattle.safepoint_gate.specs.Steps.{Sat, at_place, at_gate, enters, leaves, asks, looks, Closes, IsClosing}
 use Rattle.safepoint_gate.specs.declared.rule.Own.{Own}
 use Rattle.calls_in_flight.specs.declared.notes.Known.{Known}
@@ -79,8 +79,8 @@ module _ (m : Areas) where
       (at_set views id j w u e)
 
   -- what a step owes: the count of the gate, the seat's own facts, those of the others, and the words where no seat has closed the gate
-  pub changes : (s : St) (k : Kept m s) (id : ℕ) (v w : View) (cs : List (ℕ × Unit {0})) (i n : ℕ) (words : List ℕ) (history : List Entry) (u : Underway) → get_elem? s.views id ≡ some v
-      → Counted (get_or (set s.words i n) 0 0) (set s.views id w)
+  pub changes : (s : St) (k : OneHistory m s) (id : ℕ) (v w : View) (cs : List (ℕ × Unit {0})) (i n : ℕ) (words : List ℕ) (history : List Entry) (u : Underway) → get_elem? s.views id ≡ some v
+      → CountsSeats (get_or (set s.words i n) 0 0) (set s.views id w)
       → ((t : ℕ) → times t w.own ≡ times t v.own)
       → length w.own ≡ length v.own
       → hidden (set s.words i n) ≡ words
@@ -88,7 +88,7 @@ module _ (m : Areas) where
       → Fits m words history u w
       → ((j : ℕ) (x : View) → j ≢ id → get_elem? s.views j ≡ some x → Fits m (hidden s.words) k.history k.underway x → Fits m words history u x)
       → (total closed (set s.views id w) ≡ 0 → StandsOpen m words history u)
-      → Kept m (stepped s i n id cs w keeps)
+      → OneHistory m (stepped s i n id cs w keeps)
   changes s k id v w cs i n words history u at counted same long now by mine others fine = record {
     history = history;
     underway = u;
@@ -106,11 +106,11 @@ module _ (m : Areas) where
       after = fits_set (Fits m words history u) s.views id w mine (λ j x apart e. others j x apart e (k.fits j x e))
 
   -- a step that changes nothing
-  pub unchanged : (s : St) (k : Kept m s) (id i : ℕ) (v : View) (cs : List (ℕ × Unit {0})) → get_elem? s.views id ≡ some v → Kept m (stepped s i (get_or s.words i 0) id cs v keeps)
-  unchanged s k id i v cs at = subst (Kept m) (λ j. record { words = sym (set-get_or s.words i 0) j; homes = s.homes; views = sym (set_again s.views id v at) j }) k
+  pub unchanged : (s : St) (k : OneHistory m s) (id i : ℕ) (v : View) (cs : List (ℕ × Unit {0})) → get_elem? s.views id ≡ some v → OneHistory m (stepped s i (get_or s.words i 0) id cs v keeps)
+  unchanged s k id i v cs at = subst (OneHistory m) (λ j. record { words = sym (set-get_or s.words i 0) j; homes = s.homes; views = sym (set_again s.views id v at) j }) k
 
   -- a thread of another seat is none of this one
-  pub none_else : (s : St) (k : Kept m s) (id j : ℕ) (v x : View) (l : ℕ) (q : Own) → get_elem? s.views id ≡ some v → j ≢ id → get_elem? s.views j ≡ some x → get_elem? x.own l ≡ some q → times q.thread v.own ≡ 0
+  pub none_else : (s : St) (k : OneHistory m s) (id j : ℕ) (v x : View) (l : ℕ) (q : Own) → get_elem? s.views id ≡ some v → j ≢ id → get_elem? s.views j ≡ some x → get_elem? x.own l ≡ some q → times q.thread v.own ≡ 0
   none_else s k id j v x l q at apart there q_at =
       let once = k.once q.thread ((k.fits j x there).mine l q q_at).thread in
       let two = total_two (stands_for q.thread) s.views id j v x (λ e. apart (sym e)) at there in
@@ -118,7 +118,7 @@ module _ (m : Areas) where
       omega arith
 
   -- another seat, where nothing changes that is under way in its threads
-  pub other_fits : (s : St) (k : Kept m s) (id j : ℕ) (v x : View) (words : List ℕ) (history : List Entry) (now : Underway) → get_elem? s.views id ≡ some v → j ≢ id → get_elem? s.views j ≡ some x
+  pub other_fits : (s : St) (k : OneHistory m s) (id j : ℕ) (v x : View) (words : List ℕ) (history : List Entry) (now : Underway) → get_elem? s.views id ≡ some v → j ≢ id → get_elem? s.views j ≡ some x
       → Beside m k.underway now v.own → Fits m (hidden s.words) k.history k.underway x → AllMine m history x.own → (closed x ≡ 1 → Knows m words history now x) → Fits m words history now x
   other_fits s k id j v x words history now at apart there beside g mine knows = record {
     map_is = g.map_is;
@@ -130,7 +130,7 @@ module _ (m : Areas) where
   }
 
   -- where no call is in flight, the history explains the words
-  pub still : (s : St) (k : Kept m s) → ((j : ℕ) (x : View) → get_elem? s.views j ≡ some x → moving x ≡ 0) → (t : ℕ) → HasThread m t → (flight_at k.underway.flights (t - 1) ≡ at_rest t) × (k.underway.lasting t ≡ [])
+  pub still : (s : St) (k : OneHistory m s) → ((j : ℕ) (x : View) → get_elem? s.views j ≡ some x → moving x ≡ 0) → (t : ℕ) → HasThread m t → (flight_at k.underway.flights (t - 1) ≡ at_rest t) × (k.underway.lasting t ≡ [])
   still s k quiet t ht =
       let once = k.once t ht in
       let found = find_thread s.views t (omega (arith, once)) in
@@ -146,31 +146,31 @@ module _ (m : Areas) where
         ap k.underway.lasting (sym same) ∙ (c.lasting_is ∙ rests.1),
       )
 
-  pub resting : (s : St) (k : Kept m s) → ((j : ℕ) (x : View) → get_elem? s.views j ≡ some x → moving x ≡ 0) → AreAtRest k.underway.flights
+  pub resting : (s : St) (k : OneHistory m s) → ((j : ℕ) (x : View) → get_elem? s.views j ≡ some x → moving x ≡ 0) → AreAtRest k.underway.flights
   resting s k quiet = all_rest m k.underway.flights k.by_thread (λ t ht. (still s k quiet t ht).0)
 
   abbrev pub Told : St → List Entry → Underway → Type 0
   Told s history u = Explains m (contents m (hidden s.words)) history × ((t : ℕ) → HasThread m t → length (buffer_of (contents m (hidden s.words)) t) ≤ u.logged t)
 
-  pub explained : (s : St) (k : Kept m s) → total closed s.views ≡ 0 → ((j : ℕ) (x : View) → get_elem? s.views j ≡ some x → moving x ≡ 0) → Told s k.history k.underway
+  pub explained : (s : St) (k : OneHistory m s) → total closed s.views ≡ 0 → ((j : ℕ) (x : View) → get_elem? s.views j ≡ some x → moving x ≡ 0) → Told s k.history k.underway
   explained s k none_closed quiet = stand_closed m (hidden s.words) k.history k.underway (resting s k quiet) (k.open_ none_closed)
 
   few_threads : m.threads ≤ 8 → m.threads ≤ 255
   few_threads h = omega arith
 
   -- bounds on the gate
-  pub bounds : (s : St) (k : Kept m s) → (total present s.views ≤ 255) × (total closed s.views ≤ total asking s.views) × (total inner s.views ≤ total present s.views)
+  pub bounds : (s : St) (k : OneHistory m s) → (total present s.views ≤ 255) × (total closed s.views ≤ total asking s.views) × (total inner s.views ≤ total present s.views)
   bounds s k = (
     (let a = total_below present numbers s.views (λ j v e. (k.fits j v e).single) in let b = k.all_given in let c : m.threads ≤ 255 = few_threads k.areas.3 in omega arith),
     total_below closed asking s.views (λ j v e. closed-asks v.place),
     total_below inner present s.views (λ j v e. inner-present v.place),
   )
 
-  pub recounted : (s : St) (k : Kept m s) (id : ℕ) (v : View) (q : Place) (n : ℕ) → get_elem? s.views id ≡ some v
+  pub recounted : (s : St) (k : OneHistory m s) (id : ℕ) (v : View) (q : Place) (n : ℕ) → get_elem? s.views id ≡ some v
       → n + present v + 4294967296 * asking v ≡ gate_of s + present_at q + 4294967296 * asking_at q
       → total asking s.views + asking_at q ≤ 1 + asking v
       → (0 < total closed (set s.views id (at_place v q)) → total inner (set s.views id (at_place v q)) ≡ 0)
-      → Counted n (set s.views id (at_place v q))
+      → CountsSeats n (set s.views id (at_place v q))
   recounted s k id v q n at moved one alone = let w = at_place v q in
       let P = total_set present s.views id v w at in
       let A = total_set asking s.views id v w at in
@@ -178,16 +178,16 @@ module _ (m : Areas) where
       record { count = omega arith; one = omega arith; alone = alone }
 
   -- the seat's phase alone changes, and it hasn't closed the gate
-  phase_changes : (s : St) (k : Kept m s) (id : ℕ) (v : View) (q : Place) (cs : List (ℕ × Unit {0})) (n : ℕ) → get_elem? s.views id ≡ some v
+  phase_changes : (s : St) (k : OneHistory m s) (id : ℕ) (v : View) (q : Place) (cs : List (ℕ × Unit {0})) (n : ℕ) → get_elem? s.views id ≡ some v
       → closed_at q ≡ 0 → closed v ≡ 0 → present_at q ≤ length v.own → AllRest v.own
-      → Counted n (set s.views id (at_place v q))
-      → Kept m (stepped s 0 n id cs (at_place v q) keeps)
+      → CountsSeats n (set s.views id (at_place v q))
+      → OneHistory m (stepped s 0 n id cs (at_place v q) keeps)
   phase_changes s k id v q cs n at not was single rests counted = let w = at_place v q in
       let f = k.fits id v at in
       let C = total_set closed s.views id v w at in
       let wide : 1 ≤ length s.words = subst (λ z. 1 ≤ z) (sym k.wide) (some_words m) in
       let now = forgotten k.underway v.own in
-      changes s k id v w cs 0 n (hidden s.words) k.history now at (subst (λ z. Counted z (set s.views id w)) (sym (get_or-set_same s.words 0 n 0 (omega arith))) counted) (λ t. refl) refl (set-set s.words 0 n 0)
+      changes s k id v w cs 0 n (hidden s.words) k.history now at (subst (λ z. CountsSeats z (set s.views id w)) (sym (get_or-set_same s.words 0 n 0 (omega arith))) counted) (λ t. refl) refl (set-set s.words 0 n 0)
       record { count = k.by_thread.count; threads = k.by_thread.threads }
       record {
         map_is = f.map_is;
@@ -201,11 +201,11 @@ module _ (m : Areas) where
       (λ z. open_forgotten m (hidden s.words) k.history k.underway v.own (k.open_ (omega arith)))
 
   -- no call of a seat that is away is in flight
-  pub away_rests : (s : St) (k : Kept m s) (id : ℕ) (v : View) → get_elem? s.views id ≡ some v → v.place ≡ Away → AllRest v.own
+  pub away_rests : (s : St) (k : OneHistory m s) (id : ℕ) (v : View) → get_elem? s.views id ≡ some v → v.place ≡ Away → AllRest v.own
   away_rests s k id v at away = ((k.fits id v at).rests (ap moving_at away)).0
 
-  enters_low : (slots id : ℕ) (me : Sat) → me.0.place ≡ Away → length me.0.own ≡ 1 → (s : St) (k : Kept m s) → get_elem? s.views id ≡ some me.0 → gate_of s < 4294967296
-      → Kept m (stepped s 0 ((gate_of s + 1) % 2 ^ 64) id me.1 (at_place me.0 Inside) keeps)
+  enters_low : (slots id : ℕ) (me : Sat) → me.0.place ≡ Away → length me.0.own ≡ 1 → (s : St) (k : OneHistory m s) → get_elem? s.views id ≡ some me.0 → gate_of s < 4294967296
+      → OneHistory m (stepped s 0 ((gate_of s + 1) % 2 ^ 64) id me.1 (at_place me.0 Inside) keeps)
   enters_low slots id me away single s k at low =
       let b = bounds s k in
       let p0 : present me.0 ≡ 0 = ap present_at away in
@@ -216,8 +216,8 @@ module _ (m : Areas) where
       let C = total_set closed s.views id me.0 (at_place me.0 Inside) at in
       phase_changes s k id me.0 Inside me.1 _ at refl c0 (omega arith) (away_rests s k id me.0 at away) (recounted s k id me.0 Inside _ at (omega arith) (omega arith) (λ h. absurd (omega arith)))
 
-  enters_high : (slots id : ℕ) (me : Sat) → me.0.place ≡ Away → length me.0.own ≡ 1 → (s : St) (k : Kept m s) → get_elem? s.views id ≡ some me.0 → 4294967296 ≤ gate_of s
-      → Kept m (stepped s 0 ((gate_of s + 1) % 2 ^ 64) id me.1 (at_place me.0 Retreating) keeps)
+  enters_high : (slots id : ℕ) (me : Sat) → me.0.place ≡ Away → length me.0.own ≡ 1 → (s : St) (k : OneHistory m s) → get_elem? s.views id ≡ some me.0 → 4294967296 ≤ gate_of s
+      → OneHistory m (stepped s 0 ((gate_of s + 1) % 2 ^ 64) id me.1 (at_place me.0 Retreating) keeps)
   enters_high slots id me away single s k at high =
       let b = bounds s k in
       let p0 : present me.0 ≡ 0 = ap present_at away in
@@ -231,13 +231,13 @@ module _ (m : Areas) where
       let I = total_set inner s.views id me.0 (at_place me.0 Retreating) at in
       phase_changes s k id me.0 Retreating me.1 _ at refl c0 (omega arith) (away_rests s k id me.0 at away) (recounted s k id me.0 Retreating _ at (omega arith) (omega arith) (λ h. let z = alone (omega arith) in omega arith))
 
-  pub enters_keeps : (slots id : ℕ) (me : Sat) → me.0.place ≡ Away → length me.0.own ≡ 1 → Allows (Kept m) slots id me 0 (λ n. (n + 1) % 2 ^ 64) (enters (step slots 0 1 0 none) me)
+  pub enters_keeps : (slots id : ℕ) (me : Sat) → me.0.place ≡ Away → length me.0.own ≡ 1 → Allows (OneHistory m) slots id me 0 (λ n. (n + 1) % 2 ^ 64) (enters (step slots 0 1 0 none) me)
   enters_keeps slots id me away single s k _ at _ = dite (dec_lt (gate_of s) 4294967296)
       (λ low. (at_place me.0 Inside, keeps, tt, enters_low slots id me away single s k at low, ((λ _. (refl, refl)), (λ high. absurd (omega arith)), away_rests s k id me.0 at away)))
       (λ high. (at_place me.0 Retreating, keeps, tt, enters_high slots id me away single s k at (omega arith), ((λ low. absurd (high low)), (λ _. (refl, refl)), away_rests s k id me.0 at away)))
 
   -- a seat that is present, and neither asks nor has closed, goes
-  pub leaves_keeps : (slots id : ℕ) (me : Sat) → present me.0 ≡ 1 → asking me.0 ≡ 0 → closed me.0 ≡ 0 → AllRest me.0.own → Allows (Kept m) slots id me 0 (λ n. (n + (2 ^ 64 - 1)) % 2 ^ 64) (leaves (step slots 0 1 0 none) me)
+  pub leaves_keeps : (slots id : ℕ) (me : Sat) → present me.0 ≡ 1 → asking me.0 ≡ 0 → closed me.0 ≡ 0 → AllRest me.0.own → Allows (OneHistory m) slots id me 0 (λ n. (n + (2 ^ 64 - 1)) % 2 ^ 64) (leaves (step slots 0 1 0 none) me)
   leaves_keeps slots id me p1 a0 c0 rests s k _ at fits =
       let b = bounds s k in
       let count = k.counted.count in
@@ -259,12 +259,12 @@ module _ (m : Areas) where
       let split : n ≡ 1 * 2 ^ 32 + r = omega arith in
       ap (λ z. bit_or z 4294967296) split ∙ (or_block 32 1 1 r 0 small (omega arith) ∙ ap (λ z. 1 * 2 ^ 32 + z) (or_zero_r r)) ∙ sym split
 
-  pub asks_keeps : (slots id : ℕ) (me : Sat) → me.0.place ≡ Inside → length me.0.own ≡ 1 → AllRest me.0.own → Allows (Kept m) slots id me 0 (λ n. bit_or n 4294967296) (asks (step slots 0 4294967296 0 none) me)
+  pub asks_keeps : (slots id : ℕ) (me : Sat) → me.0.place ≡ Inside → length me.0.own ≡ 1 → AllRest me.0.own → Allows (OneHistory m) slots id me 0 (λ n. bit_or n 4294967296) (asks (step slots 0 4294967296 0 none) me)
   asks_keeps slots id me inside single rests s k _ at fits = dite (dec_lt (gate_of s) 4294967296)
       (λ low. (at_place me.0 Asking, keeps, tt, asks_low low, ((λ _. (refl, refl)), (λ high. absurd (omega arith)))))
       (λ high. (me.0, keeps, tt, asks_high (omega arith), ((λ low. absurd (high low)), (λ _. (refl, refl)))))
     where
-      asks_low : gate_of s < 4294967296 → Kept m (stepped s 0 (bit_or (gate_of s) 4294967296) id me.1 (at_place me.0 Asking) keeps)
+      asks_low : gate_of s < 4294967296 → OneHistory m (stepped s 0 (bit_or (gate_of s) 4294967296) id me.1 (at_place me.0 Asking) keeps)
       asks_low low =
           let v = me.0 in
           let w = at_place v Asking in
@@ -278,17 +278,17 @@ module _ (m : Areas) where
           let C = total_set closed s.views id v w at in
           phase_changes s k id v Asking me.1 _ at refl c0 (omega arith) rests (recounted s k id v Asking _ at (omega arith) (omega arith) (λ h. absurd (omega arith)))
 
-      asks_high : 4294967296 ≤ gate_of s → Kept m (stepped s 0 (bit_or (gate_of s) 4294967296) id me.1 me.0 keeps)
+      asks_high : 4294967296 ≤ gate_of s → OneHistory m (stepped s 0 (bit_or (gate_of s) 4294967296) id me.1 me.0 keeps)
       asks_high high =
           let v = me.0 in
           let b = bounds s k in
           let a0 : asking v ≡ 0 = ap asking_at inside in
           let count = k.counted.count in
           let one = k.counted.one in
-          subst (λ n. Kept m (stepped s 0 n id me.1 v keeps)) (sym (or_high (gate_of s) high (omega arith))) (unchanged s k id 0 v me.1 at)
+          subst (λ n. OneHistory m (stepped s 0 n id me.1 v keeps)) (sym (or_high (gate_of s) high (omega arith))) (unchanged s k id 0 v me.1 at)
 
   -- what a seat comes to know as it closes the gate
-  pub closing_known : (s : St) (k : Kept m s) (id : ℕ) (v : View) → get_elem? s.views id ≡ some v → 1 ≤ length v.own → moving v ≡ 0 → Told s k.history k.underway → IsClosing (at_gate v (hidden s.words) k.history)
+  pub closing_known : (s : St) (k : OneHistory m s) (id : ℕ) (v : View) → get_elem? s.views id ≡ some v → 1 ≤ length v.own → moving v ≡ 0 → Told s k.history k.underway → IsClosing (at_gate v (hidden s.words) k.history)
   closing_known s k id v at some_own settled known =
       let f = k.fits id v at in
       let same : m ≡ v.map = sym (f.map_is some_own) in
@@ -304,9 +304,9 @@ module _ (m : Areas) where
       }
 
   -- the seat closes the gate: it has the words, and no other seat is inside
-  pub closes : (s : St) (k : Kept m s) (id : ℕ) (v : View) (cs : List (ℕ × Unit {0})) (n : ℕ) → get_elem? s.views id ≡ some v → moving v ≡ 0 → 1 ≤ length v.own → Told s k.history k.underway
-      → Counted n (set s.views id (at_gate v (hidden s.words) k.history))
-      → Kept m (stepped s 0 n id cs (at_gate v (hidden s.words) k.history) keeps)
+  pub closes : (s : St) (k : OneHistory m s) (id : ℕ) (v : View) (cs : List (ℕ × Unit {0})) (n : ℕ) → get_elem? s.views id ≡ some v → moving v ≡ 0 → 1 ≤ length v.own → Told s k.history k.underway
+      → CountsSeats n (set s.views id (at_gate v (hidden s.words) k.history))
+      → OneHistory m (stepped s 0 n id cs (at_gate v (hidden s.words) k.history) keeps)
   closes s k id v cs n at settled some_own known counted =
       let w = at_gate v (hidden s.words) k.history in
       let f = k.fits id v at in
@@ -314,7 +314,7 @@ module _ (m : Areas) where
       let wide : 1 ≤ length s.words = subst (λ z. 1 ≤ z) (sym k.wide) (some_words m) in
       let C : total closed (set s.views id w) ≡ 0 → ⊥ = λ z. let there = total_at closed (set s.views id w) id w (set_there s.views id v w at) in omega arith in
       changes s k id v w cs 0 n (hidden s.words) k.history k.underway at
-      (subst (λ z. Counted z (set s.views id w)) (sym (get_or-set_same s.words 0 n 0 (omega arith))) counted)
+      (subst (λ z. CountsSeats z (set s.views id w)) (sym (get_or-set_same s.words 0 n 0 (omega arith))) counted)
       (λ t. refl)
       refl
       (set-set s.words 0 n 0)
@@ -331,7 +331,7 @@ module _ (m : Areas) where
       (λ z. absurd (C z))
 
   -- the seat that asked finds itself alone
-  pub looks_keeps : (slots id : ℕ) (me : Sat) → me.0.place ≡ Asking → length me.0.own ≡ 1 → Allows (Kept m) slots id me 0 (λ n. n) (looks (step slots 0 0 0 none) me)
+  pub looks_keeps : (slots id : ℕ) (me : Sat) → me.0.place ≡ Asking → length me.0.own ≡ 1 → Allows (OneHistory m) slots id me 0 (λ n. n) (looks (step slots 0 0 0 none) me)
   looks_keeps slots id me asked single s k _ at fits = dite (ℕ_discrete (gate_of s) 4294967297)
       (λ alone. (at_gate me.0 (hidden s.words) k.history, keeps, tt, finds_alone alone, ((λ _. told alone), (λ other. absurd (other alone)))))
       (λ other. (me.0, keeps, tt, finds_others, ((λ alone. absurd (other alone)), (λ _. (refl, refl)))))
@@ -373,7 +373,7 @@ module _ (m : Areas) where
       told : gate_of s ≡ 4294967297 → Closes me (at_gate me.0 (hidden s.words) k.history, me.1)
       told alone = ((refl, refl), closing_known s k id me.0 at (omega (arith, single)) m0 (known alone))
 
-      finds_alone : gate_of s ≡ 4294967297 → Kept m (stepped s 0 (gate_of s) id me.1 (at_gate me.0 (hidden s.words) k.history) keeps)
+      finds_alone : gate_of s ≡ 4294967297 → OneHistory m (stepped s 0 (gate_of s) id me.1 (at_gate me.0 (hidden s.words) k.history) keeps)
       finds_alone alone =
           let v = me.0 in
           let a : asking v ≡ 1 = a1 in
@@ -393,5 +393,5 @@ module _ (m : Areas) where
           closes s k id v me.1 (gate_of s) at m0 (omega (arith, single)) (known alone)
           record { count = omega arith; one = omega arith; alone = λ _. omega arith }
 
-      finds_others : Kept m (stepped s 0 (gate_of s) id me.1 me.0 keeps)
+      finds_others : OneHistory m (stepped s 0 (gate_of s) id me.1 me.0 keeps)
       finds_others = unchanged s k id 0 me.0 me.1 at

@@ -27,7 +27,7 @@ use Rattle.calls_in_flight.proofs.ViewTells as Told
 use Rattle.safepoint_gate.specs.declared.rule.Own.{Own}
 use Rattle.safepoint_gate.specs.declared.rule.Place.TheVariants.{Inside}
 use Rattle.safepoint_gate.specs.declared.rule.View.{View}
-use Rattle.safepoint_gate.specs.Rule.{Kept, actor_of, hidden}
+use Rattle.safepoint_gate.specs.Rule.{OneHistory, actor_of, hidden}
 use Rattle.safepoint_gate.specs.Singles as play
 use Rattle.safepoint_gate.specs.Singles.{actor}
 use Rattle.safepoint_gate.proofs.Keeps.{St}
@@ -35,12 +35,12 @@ use Rattle.safepoint_gate.proofs.Singly.{acting, after_step, call, few_after, fl
 
 -- an answer at a number that was found
 abbrev Found : (m : Areas) (s : St) (id i n : ℕ) (cs : List (ℕ × Unit {0})) → ((w : View) → List (ℕ × Unit {0}) → Type 0) → Type 0
-Found m s id i n cs then = (w : View) × (a : Act (Unit {0})) × Valid s.homes cs a × Kept m (stepped s i n id cs w a) × then w (carried_after cs a)
+Found m s id i n cs then = (w : View) × (a : Act (Unit {0})) × Valid s.homes cs a × OneHistory m (stepped s i n id cs w a) × then w (carried_after cs a)
 
 module _ (m : Areas) where
   -- ---- loads of words that last
 
-  meets_plain : (slots id i : ℕ) (o : Own) (z : View) (cs : List (ℕ × Unit {0})) → MayMeet m (actor_of o z.lasting) i → Allows (Kept m) slots id (plain m o z, cs) i (λ n. n) (play.meets (step slots i 0 0 none) (plain m o z, cs))
+  meets_plain : (slots id i : ℕ) (o : Own) (z : View) (cs : List (ℕ × Unit {0})) → MayMeet m (actor_of o z.lasting) i → Allows (OneHistory m) slots id (plain m o z, cs) i (λ n. n) (play.meets (step slots i 0 0 none) (plain m o z, cs))
   meets_plain slots id i o z cs may s k _ at _ =
       let h = stands m o z s k id at in
       let a : Actor = actor_of o z.lasting in
@@ -72,11 +72,11 @@ module _ (m : Areas) where
         ),
       )
 
-  pub meets_keeps : (slots id i : ℕ) (v : View) (cs : List (ℕ × Unit {0})) → v.map ≡ m → v.place ≡ Inside → length v.own ≡ 1 → MayMeet v.map (actor v) i → Allows (Kept m) slots id (v, cs) i (λ n. n) (play.meets (step slots i 0 0 none) (v, cs))
-  meets_keeps slots id i v cs map inside single = in_plain m v map inside single (λ x. MayMeet x.map (actor x) i → Allows (Kept m) slots id (x, cs) i (λ n. n) (play.meets (step slots i 0 0 none) (x, cs))) (λ o. meets_plain slots id i o v cs)
+  pub meets_keeps : (slots id i : ℕ) (v : View) (cs : List (ℕ × Unit {0})) → v.map ≡ m → v.place ≡ Inside → length v.own ≡ 1 → MayMeet v.map (actor v) i → Allows (OneHistory m) slots id (v, cs) i (λ n. n) (play.meets (step slots i 0 0 none) (v, cs))
+  meets_keeps slots id i v cs map inside single = in_plain m v map inside single (λ x. MayMeet x.map (actor x) i → Allows (OneHistory m) slots id (x, cs) i (λ n. n) (play.meets (step slots i 0 0 none) (x, cs))) (λ o. meets_plain slots id i o v cs)
 
   meets_with_plain : (slots id i : ℕ) (o : Own) (z : View) (cs : List (ℕ × Unit {0})) (asked : Call) (said : Reply) → MayMeet m (actor_of o z.lasting) i → MayTell m (actor_of o z.lasting) (record { call = asked; reply = said; collected = false })
-      → Allows (Kept m) slots id (plain m o z, cs) i (λ n. n) (play.meets_with (record { call = asked; reply = said; collected = false }) (step slots i 0 0 none) (plain m o z, cs))
+      → Allows (OneHistory m) slots id (plain m o z, cs) i (λ n. n) (play.meets_with (record { call = asked; reply = said; collected = false }) (step slots i 0 0 none) (plain m o z, cs))
   meets_with_plain slots id i o z cs asked said may tell s k _ at _ =
       let h = stands m o z s k id at in
       let a : Actor = actor_of o z.lasting in
@@ -96,15 +96,15 @@ module _ (m : Areas) where
       )
 
   pub meets_with_keeps : (slots id i : ℕ) (v : View) (cs : List (ℕ × Unit {0})) (event : Event) → v.map ≡ m → v.place ≡ Inside → length v.own ≡ 1 → MayMeet v.map (actor v) i → MayTell v.map (actor v) event
-      → Allows (Kept m) slots id (v, cs) i (λ n. n) (play.meets_with event (step slots i 0 0 none) (v, cs))
+      → Allows (OneHistory m) slots id (v, cs) i (λ n. n) (play.meets_with event (step slots i 0 0 none) (v, cs))
   meets_with_keeps slots id i v cs event map inside single may tell =
-      in_lone event tell.alone (λ e. MayTell v.map (actor v) e → Allows (Kept m) slots id (v, cs) i (λ n. n) (play.meets_with e (step slots i 0 0 none) (v, cs)))
-      (in_plain m v map inside single (λ x. MayMeet x.map (actor x) i → MayTell x.map (actor x) (lone event) → Allows (Kept m) slots id (x, cs) i (λ n. n) (play.meets_with (lone event) (step slots i 0 0 none) (x, cs)))
+      in_lone event tell.alone (λ e. MayTell v.map (actor v) e → Allows (OneHistory m) slots id (v, cs) i (λ n. n) (play.meets_with e (step slots i 0 0 none) (v, cs)))
+      (in_plain m v map inside single (λ x. MayMeet x.map (actor x) i → MayTell x.map (actor x) (lone event) → Allows (OneHistory m) slots id (x, cs) i (λ n. n) (play.meets_with (lone event) (step slots i 0 0 none) (x, cs)))
       (λ o. meets_with_plain slots id i o v cs event.call event.reply) may) tell
 
   -- ---- stores of own words
 
-  puts_plain : (slots id i n : ℕ) (o : Own) (z : View) (cs : List (ℕ × Unit {0})) → MayStore m (actor_of o z.lasting) i n None → Allows (Kept m) slots id (plain m o z, cs) i (λ _. n) (λ _. play.puts (step slots i n 0 none) (plain m o z, cs) n)
+  puts_plain : (slots id i n : ℕ) (o : Own) (z : View) (cs : List (ℕ × Unit {0})) → MayStore m (actor_of o z.lasting) i n None → Allows (OneHistory m) slots id (plain m o z, cs) i (λ _. n) (λ _. play.puts (step slots i n 0 none) (plain m o z, cs) n)
   puts_plain slots id i n o z cs may s k _ at _ =
       let h = stands m o z s k id at in
       let a : Actor = actor_of o z.lasting in
@@ -129,12 +129,12 @@ module _ (m : Areas) where
         ),
       )
 
-  pub puts_keeps : (slots id i n : ℕ) (v : View) (cs : List (ℕ × Unit {0})) → v.map ≡ m → v.place ≡ Inside → length v.own ≡ 1 → MayStore v.map (actor v) i n None → Allows (Kept m) slots id (v, cs) i (λ _. n) (λ _. play.puts (step slots i n 0 none) (v, cs) n)
-  puts_keeps slots id i n v cs map inside single = in_plain m v map inside single (λ x. MayStore x.map (actor x) i n None → Allows (Kept m) slots id (x, cs) i (λ _. n) (λ _. play.puts (step slots i n 0 none) (x, cs) n)) (λ o. puts_plain slots id i n o v cs)
+  pub puts_keeps : (slots id i n : ℕ) (v : View) (cs : List (ℕ × Unit {0})) → v.map ≡ m → v.place ≡ Inside → length v.own ≡ 1 → MayStore v.map (actor v) i n None → Allows (OneHistory m) slots id (v, cs) i (λ _. n) (λ _. play.puts (step slots i n 0 none) (v, cs) n)
+  puts_keeps slots id i n v cs map inside single = in_plain m v map inside single (λ x. MayStore x.map (actor x) i n None → Allows (OneHistory m) slots id (x, cs) i (λ _. n) (λ _. play.puts (step slots i n 0 none) (x, cs) n)) (λ o. puts_plain slots id i n o v cs)
 
   -- ---- the pool
 
-  loads_pool_plain : (slots id i : ℕ) (o : Own) (z : View) (cs : List (ℕ × Unit {0})) → MayLoadPool m i → Allows (Kept m) slots id (plain m o z, cs) i (λ n. n) (play.loads_pool (step slots i 0 0 none) (plain m o z, cs))
+  loads_pool_plain : (slots id i : ℕ) (o : Own) (z : View) (cs : List (ℕ × Unit {0})) → MayLoadPool m i → Allows (OneHistory m) slots id (plain m o z, cs) i (λ n. n) (play.loads_pool (step slots i 0 0 none) (plain m o z, cs))
   loads_pool_plain slots id i o z cs may s k _ at _ =
       let h = stands m o z s k id at in
       let a : Actor = actor_of o z.lasting in
@@ -165,10 +165,10 @@ module _ (m : Areas) where
         ),
       )
 
-  pub loads_pool_keeps : (slots id i : ℕ) (v : View) (cs : List (ℕ × Unit {0})) → v.map ≡ m → v.place ≡ Inside → length v.own ≡ 1 → MayLoadPool v.map i → Allows (Kept m) slots id (v, cs) i (λ n. n) (play.loads_pool (step slots i 0 0 none) (v, cs))
-  loads_pool_keeps slots id i v cs map inside single = in_plain m v map inside single (λ x. MayLoadPool x.map i → Allows (Kept m) slots id (x, cs) i (λ n. n) (play.loads_pool (step slots i 0 0 none) (x, cs))) (λ o. loads_pool_plain slots id i o v cs)
+  pub loads_pool_keeps : (slots id i : ℕ) (v : View) (cs : List (ℕ × Unit {0})) → v.map ≡ m → v.place ≡ Inside → length v.own ≡ 1 → MayLoadPool v.map i → Allows (OneHistory m) slots id (v, cs) i (λ n. n) (play.loads_pool (step slots i 0 0 none) (v, cs))
+  loads_pool_keeps slots id i v cs map inside single = in_plain m v map inside single (λ x. MayLoadPool x.map i → Allows (OneHistory m) slots id (x, cs) i (λ n. n) (play.loads_pool (step slots i 0 0 none) (x, cs))) (λ o. loads_pool_plain slots id i o v cs)
 
-  claims_plain : (slots id : ℕ) (o : Own) (z : View) (cs : List (ℕ × Unit {0})) → o.flight.claims ≡ 1 → Allows (Kept m) slots id (plain m o z, cs) CLAIM_COUNTER (λ n. (n + 1) % 2 ^ 64) (play.claims (step slots CLAIM_COUNTER 1 0 none) (plain m o z, cs))
+  claims_plain : (slots id : ℕ) (o : Own) (z : View) (cs : List (ℕ × Unit {0})) → o.flight.claims ≡ 1 → Allows (OneHistory m) slots id (plain m o z, cs) CLAIM_COUNTER (λ n. (n + 1) % 2 ^ 64) (play.claims (step slots CLAIM_COUNTER 1 0 none) (plain m o z, cs))
   claims_plain slots id o z cs found s k _ at _ =
       let h = stands m o z s k id at in
       let a : Actor = actor_of o z.lasting in
@@ -187,13 +187,13 @@ module _ (m : Areas) where
         (record { flight = law.flight; lasting = law.lasting; view = refl; claims = law.claims }, refl),
       )
 
-  pub claims_keeps : (slots id : ℕ) (v : View) (cs : List (ℕ × Unit {0})) → v.map ≡ m → v.place ≡ Inside → length v.own ≡ 1 → (actor v).flight.claims ≡ 1 → Allows (Kept m) slots id (v, cs) CLAIM_COUNTER (λ n. (n + 1) % 2 ^ 64) (play.claims (step slots CLAIM_COUNTER 1 0 none) (v, cs))
-  claims_keeps slots id v cs map inside single = in_plain m v map inside single (λ x. (actor x).flight.claims ≡ 1 → Allows (Kept m) slots id (x, cs) CLAIM_COUNTER (λ n. (n + 1) % 2 ^ 64) (play.claims (step slots CLAIM_COUNTER 1 0 none) (x, cs))) (λ o. claims_plain slots id o v cs)
+  pub claims_keeps : (slots id : ℕ) (v : View) (cs : List (ℕ × Unit {0})) → v.map ≡ m → v.place ≡ Inside → length v.own ≡ 1 → (actor v).flight.claims ≡ 1 → Allows (OneHistory m) slots id (v, cs) CLAIM_COUNTER (λ n. (n + 1) % 2 ^ 64) (play.claims (step slots CLAIM_COUNTER 1 0 none) (v, cs))
+  claims_keeps slots id v cs map inside single = in_plain m v map inside single (λ x. (actor x).flight.claims ≡ 1 → Allows (OneHistory m) slots id (x, cs) CLAIM_COUNTER (λ n. (n + 1) % 2 ^ 64) (play.claims (step slots CLAIM_COUNTER 1 0 none) (x, cs))) (λ o. claims_plain slots id o v cs)
 
   -- ---- readers
 
   sets_reader_plain : (slots id i bits owner depth : ℕ) (o : Own) (z : View) (cs : List (ℕ × Unit {0})) → i ≡ readers_at m owner depth → bits ≡ 2 ^ (o.thread - 1) → MayRead m (actor_of o z.lasting) owner depth
-      → Allows (Kept m) slots id (plain m o z, cs) i (λ n. bit_or n bits) (play.sets_reader (step slots i bits 0 none) (plain m o z, cs))
+      → Allows (OneHistory m) slots id (plain m o z, cs) i (λ n. bit_or n bits) (play.sets_reader (step slots i bits 0 none) (plain m o z, cs))
   sets_reader_plain slots id i bits owner depth o z cs place bit may s k _ at _ =
       let h = stands m o z s k id at in
       let a : Actor = actor_of o z.lasting in
@@ -213,15 +213,15 @@ module _ (m : Areas) where
       )
 
   pub sets_reader_keeps : (slots id i bits owner depth : ℕ) (v : View) (cs : List (ℕ × Unit {0})) → v.map ≡ m → v.place ≡ Inside → length v.own ≡ 1 → i ≡ readers_at v.map owner depth → bits ≡ 2 ^ ((actor v).thread - 1) → MayRead v.map (actor v) owner depth
-      → Allows (Kept m) slots id (v, cs) i (λ n. bit_or n bits) (play.sets_reader (step slots i bits 0 none) (v, cs))
+      → Allows (OneHistory m) slots id (v, cs) i (λ n. bit_or n bits) (play.sets_reader (step slots i bits 0 none) (v, cs))
   sets_reader_keeps slots id i bits owner depth v cs map inside single =
-      in_plain m v map inside single (λ x. i ≡ readers_at x.map owner depth → bits ≡ 2 ^ ((actor x).thread - 1) → MayRead x.map (actor x) owner depth → Allows (Kept m) slots id (x, cs) i (λ n. bit_or n bits) (play.sets_reader (step slots i bits 0 none) (x, cs)))
+      in_plain m v map inside single (λ x. i ≡ readers_at x.map owner depth → bits ≡ 2 ^ ((actor x).thread - 1) → MayRead x.map (actor x) owner depth → Allows (OneHistory m) slots id (x, cs) i (λ n. bit_or n bits) (play.sets_reader (step slots i bits 0 none) (x, cs)))
       (λ o. sets_reader_plain slots id i bits owner depth o v cs)
 
   -- ---- stores of fields
 
   stores_field_plain : (slots id i n : ℕ) (o : Own) (z : View) (cs : List (ℕ × Unit {0})) (asked : Call) (object field : ℕ) → i ≡ heap_at m + (object + OBJECT_WORDS + field) → MayStoreField m (actor_of o z.lasting) asked object field n
-      → Allows (Kept m) slots id (plain m o z, cs) i (λ _. n) (λ _. play.stores_field (done_by asked) (step slots i n 0 none) (plain m o z, cs) n)
+      → Allows (OneHistory m) slots id (plain m o z, cs) i (λ _. n) (λ _. play.stores_field (done_by asked) (step slots i n 0 none) (plain m o z, cs) n)
   stores_field_plain slots id i n o z cs asked object field place may s k _ at _ =
       let h = stands m o z s k id at in
       let a : Actor = actor_of o z.lasting in
@@ -239,16 +239,16 @@ module _ (m : Areas) where
       )
 
   pub stores_field_keeps : (slots id i n : ℕ) (v : View) (cs : List (ℕ × Unit {0})) (event : Event) (asked : Call) (object field : ℕ) → event ≡ done_by asked → v.map ≡ m → v.place ≡ Inside → length v.own ≡ 1 → i ≡ heap_at v.map + (object + OBJECT_WORDS + field) → MayStoreField v.map (actor v) asked object field n
-      → Allows (Kept m) slots id (v, cs) i (λ _. n) (λ _. play.stores_field event (step slots i n 0 none) (v, cs) n)
+      → Allows (OneHistory m) slots id (v, cs) i (λ _. n) (λ _. play.stores_field event (step slots i n 0 none) (v, cs) n)
   stores_field_keeps slots id i n v cs event asked object field is map inside single place may =
-      subst (λ e. Allows (Kept m) slots id (v, cs) i (λ _. n) (λ _. play.stores_field e (step slots i n 0 none) (v, cs) n)) (sym is)
-      (in_plain m v map inside single (λ x. i ≡ heap_at x.map + (object + OBJECT_WORDS + field) → MayStoreField x.map (actor x) asked object field n → Allows (Kept m) slots id (x, cs) i (λ _. n) (λ _. play.stores_field (done_by asked) (step slots i n 0 none) (x, cs) n))
+      subst (λ e. Allows (OneHistory m) slots id (v, cs) i (λ _. n) (λ _. play.stores_field e (step slots i n 0 none) (v, cs) n)) (sym is)
+      (in_plain m v map inside single (λ x. i ≡ heap_at x.map + (object + OBJECT_WORDS + field) → MayStoreField x.map (actor x) asked object field n → Allows (OneHistory m) slots id (x, cs) i (λ _. n) (λ _. play.stores_field (done_by asked) (step slots i n 0 none) (x, cs) n))
       (λ o. stores_field_plain slots id i n o v cs asked object field) place may)
 
   -- ---- stores of own words that tell an event
 
   puts_with_plain : (slots id i n : ℕ) (o : Own) (z : View) (cs : List (ℕ × Unit {0})) (asked : Call) (said : Reply) → MayStore m (actor_of o z.lasting) i n (Some (record { call = asked; reply = said; collected = false }))
-      → Allows (Kept m) slots id (plain m o z, cs) i (λ _. n) (λ _. play.puts_with (record { call = asked; reply = said; collected = false }) (step slots i n 0 none) (plain m o z, cs) n)
+      → Allows (OneHistory m) slots id (plain m o z, cs) i (λ _. n) (λ _. play.puts_with (record { call = asked; reply = said; collected = false }) (step slots i n 0 none) (plain m o z, cs) n)
   puts_with_plain slots id i n o z cs asked said may s k _ at _ =
       let h = stands m o z s k id at in
       let a : Actor = actor_of o z.lasting in
@@ -285,16 +285,16 @@ module _ (m : Areas) where
   store_alone a _ _ _ (begins deep rests) = refl
 
   pub puts_with_keeps : (slots id i n : ℕ) (v : View) (cs : List (ℕ × Unit {0})) (event : Event) → v.map ≡ m → v.place ≡ Inside → length v.own ≡ 1 → MayStore v.map (actor v) i n (Some event)
-      → Allows (Kept m) slots id (v, cs) i (λ _. n) (λ _. play.puts_with event (step slots i n 0 none) (v, cs) n)
+      → Allows (OneHistory m) slots id (v, cs) i (λ _. n) (λ _. play.puts_with event (step slots i n 0 none) (v, cs) n)
   puts_with_keeps slots id i n v cs event map inside single =
-      in_plain m v map inside single (λ x. MayStore x.map (actor x) i n (Some event) → Allows (Kept m) slots id (x, cs) i (λ _. n) (λ _. play.puts_with event (step slots i n 0 none) (x, cs) n))
-      (λ o may. in_lone event (store_alone (actor_of o v.lasting) i n (Some event) may) (λ e. MayStore m (actor_of o v.lasting) i n (Some e) → Allows (Kept m) slots id (plain m o v, cs) i (λ _. n) (λ _. play.puts_with e (step slots i n 0 none) (plain m o v, cs) n))
+      in_plain m v map inside single (λ x. MayStore x.map (actor x) i n (Some event) → Allows (OneHistory m) slots id (x, cs) i (λ _. n) (λ _. play.puts_with event (step slots i n 0 none) (x, cs) n))
+      (λ o may. in_lone event (store_alone (actor_of o v.lasting) i n (Some event) may) (λ e. MayStore m (actor_of o v.lasting) i n (Some e) → Allows (OneHistory m) slots id (plain m o v, cs) i (λ _. n) (λ _. play.puts_with e (step slots i n 0 none) (plain m o v, cs) n))
       (puts_with_plain slots id i n o v cs event.call event.reply) may)
 
   -- ---- loads of fields
 
   loads_field_plain : (slots id i : ℕ) (o : Own) (z : View) (cs : List (ℕ × Unit {0})) (asked : Call) (object field : ℕ) → i ≡ heap_at m + (object + OBJECT_WORDS + field) → LoadsFrom m (actor_of o z.lasting) asked object field
-      → Allows (Kept m) slots id (plain m o z, cs) i (λ n. n) (play.loads_field (done_by asked) (step slots i 0 0 none) (plain m o z, cs))
+      → Allows (OneHistory m) slots id (plain m o z, cs) i (λ n. n) (play.loads_field (done_by asked) (step slots i 0 0 none) (plain m o z, cs))
   loads_field_plain slots id i o z cs asked object field place may s k _ at _ =
       let h = stands m o z s k id at in
       let a : Actor = actor_of o z.lasting in
@@ -323,8 +323,8 @@ module _ (m : Areas) where
       )
 
   pub loads_field_keeps : (slots id i : ℕ) (v : View) (cs : List (ℕ × Unit {0})) (event : Event) (asked : Call) (object field : ℕ) → event ≡ done_by asked → v.map ≡ m → v.place ≡ Inside → length v.own ≡ 1 → i ≡ heap_at v.map + (object + OBJECT_WORDS + field) → LoadsFrom v.map (actor v) asked object field
-      → Allows (Kept m) slots id (v, cs) i (λ n. n) (play.loads_field event (step slots i 0 0 none) (v, cs))
+      → Allows (OneHistory m) slots id (v, cs) i (λ n. n) (play.loads_field event (step slots i 0 0 none) (v, cs))
   loads_field_keeps slots id i v cs event asked object field is map inside single place may =
-      subst (λ e. Allows (Kept m) slots id (v, cs) i (λ n. n) (play.loads_field e (step slots i 0 0 none) (v, cs))) (sym is)
-      (in_plain m v map inside single (λ x. i ≡ heap_at x.map + (object + OBJECT_WORDS + field) → LoadsFrom x.map (actor x) asked object field → Allows (Kept m) slots id (x, cs) i (λ n. n) (play.loads_field (done_by asked) (step slots i 0 0 none) (x, cs)))
+      subst (λ e. Allows (OneHistory m) slots id (v, cs) i (λ n. n) (play.loads_field e (step slots i 0 0 none) (v, cs))) (sym is)
+      (in_plain m v map inside single (λ x. i ≡ heap_at x.map + (object + OBJECT_WORDS + field) → LoadsFrom x.map (actor x) asked object field → Allows (OneHistory m) slots id (x, cs) i (λ n. n) (play.loads_field (done_by asked) (step slots i 0 0 none) (x, cs)))
       (λ o. loads_field_plain slots id i o v cs asked object field) place may)

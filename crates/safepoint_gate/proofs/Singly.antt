@@ -47,7 +47,7 @@ use Rattle.calls_in_flight.proofs.ViewWords.{own-in_block, shows-word}
 use Rattle.safepoint_gate.specs.declared.rule.Own.{Own}
 use Rattle.safepoint_gate.specs.declared.rule.Place.TheVariants.{Inside}
 use Rattle.safepoint_gate.specs.declared.rule.View.{View}
-use Rattle.safepoint_gate.specs.Rule.{AreByThread, IsUnderway, Kept, Mine, StandsOpen, Underway, actor_of, closed, hidden, inner, times, total}
+use Rattle.safepoint_gate.specs.Rule.{AreByThread, IsUnderway, OneHistory, Mine, StandsOpen, Underway, actor_of, closed, hidden, inner, times, total}
 use Rattle.safepoint_gate.specs.Singles.{IsSo, Tells}
 use Rattle.safepoint_gate.specs.Steps.{with_entries}
 use Rattle.safepoint_gate.proofs.Changing.{acts}
@@ -114,7 +114,7 @@ hides ws i n from = set_comm ws i 0 n 0 (λ e. omega arith)
 pub word_there : (ws : List ℕ) (i : ℕ) → 1 ≤ i → get_or (hidden ws) i 0 ≡ get_or ws i 0
 word_there ws i from = get_or-set_other ws 0 i 0 0 (λ e. omega arith)
 
-module _ (m : Areas) (o : Own) (z : View) (s : St) (k : Kept m s) (id : ℕ) (at : get_elem? s.views id ≡ some (plain m o z)) where
+module _ (m : Areas) (o : Own) (z : View) (s : St) (k : OneHistory m s) (id : ℕ) (at : get_elem? s.views id ≡ some (plain m o z)) where
   pub none_closed : total closed s.views ≡ 0
   none_closed = let here = total_at inner s.views id (plain m o z) at in let alone = k.counted.alone in dite (ℕ_discrete (total closed s.views) 0) (λ e. e) (λ more. let none_inner = alone (omega arith) in absurd (omega arith))
 
@@ -194,7 +194,7 @@ module _ (m : Areas) (o : Own) (z : View) (s : St) (k : Kept m s) (id : ℕ) (at
   -- the step keeps the rule
   pub kept_after : (i n : ℕ) (cs : List (ℕ × Unit {0})) → 1 ≤ i → (now : List ℕ) → hidden (set s.words i n) ≡ now → (gs : List Flight) (after : SpaceState) (later : StandInFlight m now gs after) (p : Own) (put : ℕ) (lasting : List Known) (history : List Entry) → p.thread ≡ o.thread → o.put + put ≤ p.put
       → LeftBy now gs after later p.flight put lasting → DiffersOnly m (actor_of p lasting) → ((q : Own) → o.thread ≢ q.thread → Mine m k.history q → Mine m history q) → Mine m history p
-      → StandsOpen m now history (under_after gs lasting put) → Kept m (stepped s i n id cs (after_step m z p lasting) keeps)
+      → StandsOpen m now history (under_after gs lasting put) → OneHistory m (stepped s i n id cs (after_step m z p lasting) keeps)
   kept_after i n cs from now same gs after later p put lasting history thread few l differs others is_mine fine =
       let x = plain m o z in
       let w = after_step m z p lasting in
@@ -246,7 +246,7 @@ module _ (m : Areas) (o : Own) (z : View) (s : St) (k : Kept m s) (id : ℕ) (at
   still_differs now gs f loads count put lasting v = subst (λ x. DiffersOnly m (record { thread = o.thread; told = x; flight = f; lasting = lasting })) (mine.has v.stepped.after (still_leaves now gs f put lasting v)) v.differs
 
   pub still_keeps : (i n : ℕ) (cs : List (ℕ × Unit {0})) → 1 ≤ i → (now : List ℕ) → hidden (set s.words i n) ≡ now → (gs : List Flight) (f : Flight) (loads : List Known) (count put : ℕ) (lasting : List Known) → o.put + put ≤ count
-      → Moves m (hidden s.words) now k.underway.flights gs stands.state stands.stands (actor_of o z.lasting) f [] put lasting → Kept m (stepped s i n id cs (after_step m z (flying o f loads count) lasting) keeps)
+      → Moves m (hidden s.words) now k.underway.flights gs stands.state stands.stands (actor_of o z.lasting) f [] put lasting → OneHistory m (stepped s i n id cs (after_step m z (flying o f loads count) lasting) keeps)
   still_keeps i n cs from now same gs f loads count put lasting few v =
       let l = left_by now gs f [] put lasting v in
       kept_after i n cs from now same gs v.stepped.after v.stepped.later (flying o f loads count) put lasting k.history refl few l (still_differs now gs f loads count put lasting v) (λ q apart x. x) (mine_flying f loads count)
@@ -328,7 +328,7 @@ module _ (m : Areas) (o : Own) (z : View) (s : St) (k : Kept m s) (id : ℕ) (at
       record { thread = one.thread; calls = one.calls; has = one.has; knows = one.knows; goes_on = one.goes_on }
 
   pub told_keeps : (i n : ℕ) (cs : List (ℕ × Unit {0})) → 1 ≤ i → (now : List ℕ) → hidden (set s.words i n) ≡ now → (gs : List Flight) (asked : Call) (said : Reply) (f : Flight) (lasting loads : List Known) (v : Event_moves now gs asked said f lasting)
-      → Kept m (stepped s i n id cs (after_step m z (teller now gs asked said f lasting loads v) lasting) keeps)
+      → OneHistory m (stepped s i n id cs (after_step m z (teller now gs asked said f lasting loads v) lasting) keeps)
   told_keeps i n cs from now same gs asked said f lasting loads v =
       let history = k.history ++ Said o.thread asked said ∷ [] in
       let lawful = told_lawful now gs asked said f lasting v in

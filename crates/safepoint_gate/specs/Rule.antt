@@ -92,7 +92,7 @@ numbers v = length v.own
 
 -- The gate counts the seats that are present, and has the closing bit where one asks. At most one asks, and where one has closed
 -- the gate no seat is inside but that one.
-pub record Counted (gate : ℕ) (views : List View) : Type 0 where
+pub record CountsSeats (gate : ℕ) (views : List View) : Type 0 where
   pub count : gate ≡ total present views + CLOSING * total asking views
   pub one : total asking views ≤ 1
   pub alone : 0 < total closed views → total inner views ≡ 0
@@ -199,13 +199,13 @@ pub record Fits (m : Areas) (words : List ℕ) (history : List Entry) (u : Under
 -- The rule: there is one history. Each thread of the heap stands in exactly one view, and no other does. Its entries are its part of
 -- the history, its stack, depth and number made are those that the history leaves, and its known objects it alone knows. Where no
 -- seat has closed the gate, the history explains the words, apart from the calls in flight of seats that are inside.
-pub record Kept (m : Areas) (s : State (Unit {0}) View) : Type 0 where
+pub record OneHistory (m : Areas) (s : State (Unit {0}) View) : Type 0 where
   pub history : List Entry
   pub underway : Underway
   pub areas : IsAreas m
   pub wide : length s.words ≡ total_of m
   pub all_given : total numbers s.views ≡ m.threads
-  pub counted : Counted (slice_index s.words 0) s.views
+  pub counted : CountsSeats (slice_index s.words 0) s.views
   pub once : (t : ℕ) → HasThread m t → total (stands_for t) s.views ≡ 1
   pub by_thread : AreByThread m underway.flights
   pub fits : (j : ℕ) (v : View) → get_elem? s.views j ≡ some v → Fits m (hidden s.words) history underway v

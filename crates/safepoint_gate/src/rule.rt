@@ -57,9 +57,9 @@ pub struct View {
 pub struct Law;
 
 impl TableRule<(), View, Areas> for Law {
-    ghost use Rattle.safepoint_gate.specs.Rule.{Kept, first_view};
+    ghost use Rattle.safepoint_gate.specs.Rule.{OneHistory, first_view};
 
-    ghost holds = { Kept };
+    ghost holds = { OneHistory };
 
     ghost first = { first_view };
 }

@@ -20,7 +20,7 @@ use Rattle.mutator.specs.Resting.{seats_of}
 use Rattle.mutator.specs.Finishing.{AllOf, Finishes, owns_of}
 use Rattle.mutator.proofs.Rested.{seats_length, seats_more}
 use Rattle.script_text.specs.declared.scripts.Line.{Line}
-use Rattle.script_text.specs.Contents.{Heap}
+use Rattle.script_text.specs.ScriptContents.{Heap}
 use Rattle.script_runner.specs.declared.workers.Worker.{Worker}
 use Rattle.script_runner.specs.Runs.{all_said, calls_of}
 use Rattle.script_runner.specs.Threaded.{HasEach, HasMade, HasRun, IsReady, IsThreaded}

@@ -15,7 +15,7 @@ use Rattle.yak_model.specs.Continued.{AreLawful, PackedIfAsked}
 use Rattle.yak_model.specs.Recorded.{StandsRecorded}
 use Rattle.heap_core.specs.Steps.{entries}
 use Rattle.script_text.specs.declared.scripts.Line.{Line}
-use Rattle.script_text.specs.Contents.{Contents, Heap}
+use Rattle.script_text.specs.ScriptContents.{ScriptContents, Heap}
 use Rattle.script_text.specs.Printing.{IsValid, Rises}
 use Rattle.yak_model.specs.Agreement.{MachinesAgree}
 use Rattle.yak_model.specs.Graph.{standard_limits}
@@ -161,7 +161,7 @@ runnable threads number (line ∷ commands) rises =
     (runnable threads (line.number + 1) commands rises.4)
 
 -- one of its commands
-pub runs_at : (script : Contents) (items : List Line) (i : ℕ) (d : Line) → items ≡ script.lines → i < length items → IsValid script → IsRunnable script.heap.threads (get_or items i d)
+pub runs_at : (script : ScriptContents) (items : List Line) (i : ℕ) (d : Line) → items ≡ script.lines → i < length items → IsValid script → IsRunnable script.heap.threads (get_or items i d)
 runs_at script items i d same inside valid =
     All-get_or (IsRunnable script.heap.threads) items i d inside
     (subst (All (IsRunnable script.heap.threads)) (sym same) (runnable script.heap.threads 2 script.lines valid.rise))

@@ -12,7 +12,7 @@ use Rattle.yak_model.specs.declared.history.Entry.TheVariants.{Said, Collected}
 use Rattle.yak_model.specs.Lawful.{IsLawful}
 use Rattle.yak_model.specs.Spaces.{SpaceState, TurnsAll, spaces}
 use Rattle.script_text.specs.declared.scripts.Line.{Line}
-use Rattle.script_text.specs.Contents.{Heap}
+use Rattle.script_text.specs.ScriptContents.{Heap}
 
 -- the entry of a history that tells a command line with its reply
 abbrev pub said : Line → Reply → Entry

@@ -16,7 +16,7 @@ use Rattle.safepoint_gate.specs.Seats.{IsOf}
 use Rattle.safepoint_gate.specs.Steps.{first_calls}
 use Rattle.mutator.specs.declared.resting.Resting.{Resting}
 use Rattle.script_text.specs.declared.scripts.Line.{Line}
-use Rattle.script_text.specs.Contents.{Heap}
+use Rattle.script_text.specs.ScriptContents.{Heap}
 use Rattle.script_runner.specs.Runs.{all_said, calls_of}
 
 -- Each of so many threads stands in the list once, in order of thread.

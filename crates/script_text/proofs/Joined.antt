@@ -5,7 +5,7 @@ use Rattle.std.proofs.lemmas.List.Elements.{All-nil}
 use Rattle.bstr.specs.Text.{no_cr}
 use Rattle.script_text.specs.declared.scripts.Line.{Line}
 use Rattle.script_text.specs.Commands.{command_words}
-use Rattle.script_text.specs.Contents.{Contents}
+use Rattle.script_text.specs.ScriptContents.{ScriptContents}
 use Rattle.script_text.specs.Printing.{lines_text, script_text, spaced}
 use Rattle.script_text.specs.Scripts.{header_words}
 use Rattle.script_text.specs.Words.{is_feed, lines}
@@ -66,7 +66,7 @@ commands_end number (line ∷ commands) =
     (rw cut (both_end (command ++ 10 ∷ []) more (fed_ends command) (commands_end (line.number + 1) commands)))
 
 -- the text of a script
-pub script_ends : (script : Contents) → EndsLine (script_text script)
+pub script_ends : (script : ScriptContents) → EndsLine (script_text script)
 script_ends script =
     let header = spaced (header_words script.heap) in
     let more = lines_text 2 script.lines in

@@ -1,5 +1,5 @@
 pub mod Commands
-pub mod Contents
+pub mod ScriptContents
 pub mod Digits
 pub mod Words
 pub mod Faults

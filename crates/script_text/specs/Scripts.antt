@@ -2,7 +2,7 @@
 use Rattle.std.specs.Prelude.{◌≡◌, ◌≤◌, ◌+◌, ◌⊎◌, ℕ, List, [], ◌∷◌, ◌++◌, codes, decimal, slice_index}
 use Rattle.object_layout.specs.declared.calls.Call.{Call}
 use Rattle.object_layout.specs.declared.TheConstants.{MAX_THREADS}
-use Rattle.script_text.specs.declared.TheConstants.{MAX_PAGES}
+use Rattle.heap_words.specs.declared.TheConstants.{MAX_PAGES}
 use Rattle.script_text.specs.declared.faults.Reason.{Reason}
 use Rattle.script_text.specs.declared.faults.Reason.TheVariants.{BadHeader}
 use Rattle.script_text.specs.declared.faults.Bad.{Bad}
@@ -10,7 +10,7 @@ use Rattle.script_text.specs.declared.faults.ReadError.{ReadError}
 use Rattle.script_text.specs.declared.faults.ReadError.TheVariants.{Refused, Memory}
 use Rattle.script_text.specs.declared.scripts.Line.{Line}
 use Rattle.script_text.specs.Commands.{IsSayable, command_words}
-use Rattle.script_text.specs.Contents.{Contents, Heap}
+use Rattle.script_text.specs.ScriptContents.{ScriptContents, Heap}
 use Rattle.script_text.specs.Faults.{Faulty}
 use Rattle.script_text.specs.Words.{lines, words}
 
@@ -61,7 +61,7 @@ FirstFault threads number (line ∷ lines) bad =
     ⊎ ((IsSilent line ⊎ ((thread : ℕ) × (call : Call) × IsCommand threads line thread call)) × FirstFault threads (number + 1) lines bad)
 
 -- the lines are a header and, from line 2 on, the commands of this script
-abbrev pub IsScriptOf : List (List ℕ) → Contents → Type 0
+abbrev pub IsScriptOf : List (List ℕ) → ScriptContents → Type 0
 IsScriptOf [] script = ⊥
 IsScriptOf (line ∷ lines) script = IsHeader line script.heap × Holds script.heap.threads 2 lines script.lines
 
@@ -73,7 +73,7 @@ IsBadOf (line ∷ lines) bad =
     ⊎ ((heap : Heap) × IsHeader line heap × FirstFault heap.threads 2 lines bad)
 
 -- the bytes are this script
-abbrev pub IsScript : List ℕ → Contents → Type 0
+abbrev pub IsScript : List ℕ → ScriptContents → Type 0
 IsScript bytes script = IsScriptOf (lines bytes) script
 
 -- the bytes are no script, and this is their first bad line, with its first reason

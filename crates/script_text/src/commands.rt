@@ -9,7 +9,7 @@ ghost use Rattle.script_text.specs.Words.{words};
 
 use crate::faults::Reason;
 use crate::numbers::number_of;
-use crate::words::Words;
+use crate::words::LineWords;
 use object_layout::{Call, MAX_INT};
 use std::alloc::AllocError;
 
@@ -76,7 +76,7 @@ fn find_call(word: &[u8]) -> Option<Call>
 }
 
 /// The next word, as a number within a limit.
-fn number(words: &mut Words, limit: u64) -> Result<u64, Reason>
+fn number(words: &mut LineWords, limit: u64) -> Result<u64, Reason>
     ensures { MatchResult result (λ n. Takes limit words.old n words.new) (λ reason. Misses limit words.old reason) }
 {
     let Some(digits) = words.next() else {
@@ -89,14 +89,14 @@ fn number(words: &mut Words, limit: u64) -> Result<u64, Reason>
 }
 
 /// The next word, as the number of an integer.
-fn integer(words: &mut Words) -> Result<u64, Reason>
+fn integer(words: &mut LineWords) -> Result<u64, Reason>
     ensures { MatchResult result (λ n. Takes (most IsInteger) words.old n words.new) (λ reason. Misses (most IsInteger) words.old reason) }
 {
     number(words, MAX_INT)
 }
 
 /// The next word, as a slot, a field or a number of fields.
-fn index(words: &mut Words) -> Result<u32, Reason>
+fn index(words: &mut LineWords) -> Result<u32, Reason>
     ensures { MatchResult result (λ n. Takes (most IsIndex) words.old n words.new) (λ reason. Misses (most IsIndex) words.old reason) }
 {
     match number(words, u32::MAX as u64) {
@@ -106,7 +106,7 @@ fn index(words: &mut Words) -> Result<u32, Reason>
 }
 
 /// The call, with the numbers that follow in place of its own.
-fn read_numbers(shape: Call, words: &mut Words) -> Result<Call, Reason>
+fn read_numbers(shape: Call, words: &mut LineWords) -> Result<Call, Reason>
     ensures read { IfOk result (λ call. (word_of call ≡ word_of shape) × (words.old ≡ number_words (numbers_of call) ++ words.new) × All IsWithin (numbers_of call)) }
     ensures fault { IfErr result (λ reason. FaultyNumbers (limits_of shape) words.old reason) }
 {
@@ -115,7 +115,7 @@ fn read_numbers(shape: Call, words: &mut Words) -> Result<Call, Reason>
 
 /// The same, where no further word follows.
 #[tactic(auto, using(crate::proofs::Table::extra_word))]
-fn read_call(shape: Call, words: &mut Words) -> Result<Call, Reason>
+fn read_call(shape: Call, words: &mut LineWords) -> Result<Call, Reason>
     ensures read { IfOk result (λ call. (word_of call ≡ word_of shape) × (words.old ≡ number_words (numbers_of call)) × All IsWithin (numbers_of call)) }
     ensures fault { IfErr result (λ reason. FaultyNumbers (limits_of shape) words.old reason) }
 {
@@ -134,7 +134,7 @@ pub(crate) fn read_command(line: &[u8], threads: u8) -> Result<(u8, Call), Reaso
         (λ read. (words line.now ≡ command_words read.0 read.1) × IsSayable threads read.0 read.1)
         (λ reason. Faulty threads (words line.now) reason) }
 {
-    let mut words = Words::of(line);
+    let mut words = LineWords::of(line);
     let Some(first) = words.next() else {
         unreachable!();
     };

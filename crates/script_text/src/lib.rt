@@ -25,9 +25,4 @@ pub use reading::{is_silent, read_front, read_script, text_lines};
 pub use replies::print_reply;
 pub use saying::read_reply;
 pub use scripts::{Line, Script};
-pub use words::Words;
-
-/// The greatest number of bytes of a text that is read.
-pub const INPUT_LIMIT: usize = 16777216;
-/// The greatest number of pages of a heap.
-pub const MAX_PAGES: u32 = 4096;
+pub use words::LineWords;

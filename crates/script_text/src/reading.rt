@@ -2,7 +2,7 @@
 ghost use Rattle.std.specs.Prelude.{◌≡◌, ◌≤◌, ◌+◌, ◌⊎◌, ◌∷◌, [], Ok, Err, MatchOption, MatchResult, MatchBool, IfOk, IfErr, IfSome, OnOk, length, take};
 ghost use Rattle.script_text.specs.declared.faults.Bad.{Bad};
 ghost use Rattle.script_text.specs.declared.faults.ReadError.TheVariants.{Refused, Memory};
-ghost use Rattle.script_text.specs.Contents.{Contents, Heap};
+ghost use Rattle.script_text.specs.ScriptContents.{ScriptContents, Heap};
 ghost use Rattle.script_text.specs.Printing.{IsValid};
 ghost use Rattle.script_text.specs.Words.{lines};
 ghost use Rattle.script_text.specs.Scripts.{IsSilent, IsCommand, IsFault, IsHeader, IsScript, IsScriptOf, IsBadLine, Refuses, RefusesOf, Adds, Stops};
@@ -11,11 +11,12 @@ use crate::commands::read_command;
 use crate::faults::{Bad, ReadError, Reason};
 use crate::numbers::number_of;
 use crate::scripts::{Line, Script};
-use crate::words::Words;
-use crate::{INPUT_LIMIT, MAX_PAGES};
+use crate::words::LineWords;
 use bstr::{ByteSlice, Lines};
+use heap_words::MAX_PAGES;
 use object_layout::{Call, MAX_THREADS};
 use std::alloc::Global;
+use yak_io::INPUT_LIMIT;
 
 /// What a header tells.
 #[derive(Clone, Copy, Drop)]
@@ -28,7 +29,7 @@ struct Header {
 fn read_header(line: &[u8]) -> Option<Header>
     ensures { MatchOption result ((heap : Heap) → IsHeader line.now heap → ⊥) (λ header. IsHeader line.now (record { pages = header.pages; threads = header.threads })) }
 {
-    let mut words = Words::of(line);
+    let mut words = LineWords::of(line);
     if words.next()? != b"heap".as_slice() {
         return None;
     }
@@ -48,7 +49,7 @@ fn read_header(line: &[u8]) -> Option<Header>
 pub fn is_silent(line: &[u8]) -> bool
     ensures { MatchBool result (IsSilent line.now) (IsSilent line.now → ⊥) }
 {
-    Words::of(line).next().is_none() || line.first() == Some(&b'#')
+    LineWords::of(line).next().is_none() || line.first() == Some(&b'#')
 }
 
 /// The thread and the call of a line, or none where the line is silent.
@@ -169,7 +170,7 @@ pub fn read_script(alloc: Global, bytes: &[u8]) -> Result<Script, ReadError>
     requires { length bytes.now ≤ INPUT_LIMIT }
     ensures found { IfOk result (λ script. IsScript bytes.now script × IsValid script) }
     ensures refused { IfErr result (λ error. Refuses bytes.now error) }
-    ensures every_script { (script : Contents) → IsScript bytes.now script → (result ≡ Ok script) ⊎ (result ≡ Err Memory) }
+    ensures every_script { (script : ScriptContents) → IsScript bytes.now script → (result ≡ Ok script) ⊎ (result ≡ Err Memory) }
     ensures every_fault { (bad : Bad) → IsBadLine bytes.now bad → (result ≡ Err (Refused bad)) ⊎ (result ≡ Err Memory) }
 {
     few_lines(bytes);

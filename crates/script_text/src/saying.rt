@@ -7,14 +7,14 @@ ghost use Rattle.script_text.specs.Replies.{IsReply, refusal_words, reply_words}
 ghost use Rattle.script_text.specs.Words.{words};
 
 use crate::numbers::number_of;
-use crate::words::Words;
+use crate::words::LineWords;
 use object_layout::{Refusal, Reply};
 
 /// Whether a text has this word alone.
 fn says_one(text: &[u8], one: &[u8]) -> bool
     ensures { MatchBool result (words text.now ≡ one.now ∷ []) (words text.now ≢ one.now ∷ []) }
 {
-    let mut words = Words::of(text);
+    let mut words = LineWords::of(text);
     let Some(first) = words.next() else {
         return false;
     };
@@ -25,7 +25,7 @@ fn says_one(text: &[u8], one: &[u8]) -> bool
 fn says_two(text: &[u8], one: &[u8], two: &[u8]) -> bool
     ensures { MatchBool result (words text.now ≡ one.now ∷ two.now ∷ []) (words text.now ≢ one.now ∷ two.now ∷ []) }
 {
-    let mut words = Words::of(text);
+    let mut words = LineWords::of(text);
     let Some(first) = words.next() else {
         return false;
     };
@@ -39,7 +39,7 @@ fn says_two(text: &[u8], one: &[u8], two: &[u8]) -> bool
 fn says_three(text: &[u8], one: &[u8], two: &[u8], three: &[u8]) -> bool
     ensures { MatchBool result (words text.now ≡ one.now ∷ two.now ∷ three.now ∷ []) (words text.now ≢ one.now ∷ two.now ∷ three.now ∷ []) }
 {
-    let mut words = Words::of(text);
+    let mut words = LineWords::of(text);
     let Some(first) = words.next() else {
         return false;
     };
@@ -56,7 +56,7 @@ fn says_three(text: &[u8], one: &[u8], two: &[u8], three: &[u8]) -> bool
 fn says_number(text: &[u8], one: &[u8], most: u64) -> Option<u64>
     ensures { MatchOption result ((n : ℕ) → n ≤ most → words text.now ≢ one.now ∷ decimal n ∷ []) (λ n. (n ≤ most) × (words text.now ≡ one.now ∷ decimal n ∷ [])) }
 {
-    let mut words = Words::of(text);
+    let mut words = LineWords::of(text);
     let first = words.next()?;
     let number = number_of(words.next()?, 0, most)?;
     if first == one && words.next().is_none() {
@@ -70,7 +70,7 @@ fn says_number(text: &[u8], one: &[u8], most: u64) -> Option<u64>
 fn says_moved(text: &[u8]) -> Option<(u64, bool)>
     ensures { MatchOption result ((moved : ℕ) (tight : Bool) → IsReply (said.Ended moved tight) → words text.now ≢ reply_words (said.Ended moved tight)) (λ end. IsReply (said.Ended end.0 end.1) × (words text.now ≡ reply_words (said.Ended end.0 end.1))) }
 {
-    let mut words = Words::of(text);
+    let mut words = LineWords::of(text);
     let first = words.next()?;
     let second = words.next()?;
     let moved = number_of(words.next()?, 0, u64::MAX)?;
@@ -88,7 +88,7 @@ fn says_moved(text: &[u8]) -> Option<(u64, bool)>
 }
 
 /// The number behind a word that comes next.
-fn next_pair(words: &mut Words, word: &[u8]) -> Option<u64>
+fn next_pair(words: &mut LineWords, word: &[u8]) -> Option<u64>
     ensures { MatchOption result ((n : ℕ) (rest : List (List ℕ)) → n ≤ 4294967295 → words.old ≢ word.now ∷ decimal n ∷ rest) (λ n. (n ≤ 4294967295) × (words.old ≡ word.now ∷ decimal n ∷ words.new)) }
 {
     let next = words.next()?;
@@ -97,7 +97,7 @@ fn next_pair(words: &mut Words, word: &[u8]) -> Option<u64>
 }
 
 /// The number behind a word, where these are all that is left.
-fn last_pair(words: &mut Words, word: &[u8]) -> Option<u64>
+fn last_pair(words: &mut LineWords, word: &[u8]) -> Option<u64>
     ensures { MatchOption result ((n : ℕ) → n ≤ 4294967295 → words.old ≢ word.now ∷ decimal n ∷ []) (λ n. (n ≤ 4294967295) × (words.old ≡ word.now ∷ decimal n ∷ [])) }
 {
     let number = next_pair(words, word)?;
@@ -109,7 +109,7 @@ fn last_pair(words: &mut Words, word: &[u8]) -> Option<u64>
 }
 
 /// The pages of regions and of the control space, where these are all that is left.
-fn last_two(words: &mut Words) -> Option<(u64, u64)>
+fn last_two(words: &mut LineWords) -> Option<(u64, u64)>
     ensures { MatchOption result ((region control : ℕ) → region ≤ 4294967295 → control ≤ 4294967295 → words.old ≢ codes "region" ∷ decimal region ∷ codes "control" ∷ decimal control ∷ []) (λ pages. (pages.0 ≤ 4294967295) × (pages.1 ≤ 4294967295) × (words.old ≡ codes "region" ∷ decimal pages.0 ∷ codes "control" ∷ decimal pages.1 ∷ [])) }
 {
     let region = next_pair(words, b"region")?;
@@ -118,7 +118,7 @@ fn last_two(words: &mut Words) -> Option<(u64, u64)>
 }
 
 /// The three numbers of pages, where these are all that is left.
-fn last_three(words: &mut Words) -> Option<(u64, u64, u64)>
+fn last_three(words: &mut LineWords) -> Option<(u64, u64, u64)>
     ensures { MatchOption result ((free region control : ℕ) → free ≤ 4294967295 → region ≤ 4294967295 → control ≤ 4294967295 → words.old ≢ codes "free" ∷ decimal free ∷ codes "region" ∷ decimal region ∷ codes "control" ∷ decimal control ∷ []) (λ pages. (pages.0 ≤ 4294967295) × (pages.1 ≤ 4294967295) × (pages.2 ≤ 4294967295) × (words.old ≡ codes "free" ∷ decimal pages.0 ∷ codes "region" ∷ decimal pages.1 ∷ codes "control" ∷ decimal pages.2 ∷ [])) }
 {
     let free = next_pair(words, b"free")?;
@@ -130,7 +130,7 @@ fn last_three(words: &mut Words) -> Option<(u64, u64, u64)>
 fn says_pages(text: &[u8]) -> Option<(u64, u64, u64)>
     ensures { MatchOption result ((free region control : ℕ) → IsReply (said.Pages free region control) → words text.now ≢ reply_words (said.Pages free region control)) (λ pages. IsReply (said.Pages pages.0 pages.1 pages.2) × (words text.now ≡ reply_words (said.Pages pages.0 pages.1 pages.2))) }
 {
-    let mut words = Words::of(text);
+    let mut words = LineWords::of(text);
     let first = words.next()?;
     if first != b"pages".as_slice() {
         return None;

@@ -26,22 +26,22 @@ fn cut(bytes: &[u8]) -> Option<(&[u8], &[u8])>
 
 /// The words of a line that are still to come.
 #[derive(Drop)]
-pub struct Words<'a> {
+pub struct LineWords<'a> {
     rest: &'a [u8],
 }
 
-impl<'a> Model for Words<'a> {
+impl<'a> Model for LineWords<'a> {
     ghost Value = { List (List ℕ) };
 
     ghost view = { λ s. words s.rest.now };
 }
 
-impl<'a> Words<'a> {
+impl<'a> LineWords<'a> {
     /// All the words of a line.
-    pub fn of(line: &'a [u8]) -> Words<'a>
+    pub fn of(line: &'a [u8]) -> LineWords<'a>
         ensures { result ≡ words line.now }
     {
-        Words { rest: line }
+        LineWords { rest: line }
     }
 
     /// The text of the words that are still to come.

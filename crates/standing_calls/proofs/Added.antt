@@ -20,12 +20,12 @@ use Rattle.yak_model.specs.declared.datum.Datum.{Datum}
 use Rattle.yak_model.specs.declared.datum.Datum.TheVariants.{Null, Int, Object}
 use Rattle.yak_model.specs.State.{IsClosed, IsDatum, IsOpen, State, Thing, stack}
 use Rattle.yak_model.specs.Placed.{IsAt, Places, same_name, space_word, used_mark, with_object}
-use Rattle.yak_model.specs.Stands.{CurrentsStand, NamesMade, PoolStands, RegionsDense, SpacesOpen, current, pages_of, unused_heads, words_in, words_of}
+use Rattle.yak_model.specs.Stands.{CurrentsStand, NamesMade, PoolStands, RegionsDense, SpacesOpen, current, pages_of, unused_heads, words_in, words_taken}
 use Rattle.yak_model.proofs.Grown.{grown}
 use Rattle.yak_model.proofs.Placed.{same_name-self}
 use Rattle.yak_model.proofs.Stacks.{all-at}
 use Rattle.yak_model.proofs.Stored.{after_object}
-use Rattle.standing_calls.proofs.Sums.{words_of-grown}
+use Rattle.standing_calls.proofs.Sums.{words_taken-grown}
 use Rattle.standing_calls.proofs.Entered.{Entered, claimed-dense, mark-entered, pages-more, pages-other, pages-own, row-other, space-entered}
 
 -- what placing an object of some words changes in the words of the pages, the pool and the current pages
@@ -126,14 +126,14 @@ decide_pair u t e d = ⊎_elim
 
 -- what is said of one region
 abbrev pub IsDense : Areas → List (List ℕ) → List (List ℕ) → List (List Name) → (Name → Option Thing) → ℕ → ℕ → Type 0
-IsDense m table currents pages objects t d = (current currents t d ≢ 0) × (page_words m * (pages_of table (Region t d) - 1) + used_mark table (current currents t d - 1) ≤ 2 * words_of pages objects (Region t d))
+IsDense m table currents pages objects t d = (current currents t d ≢ 0) × (page_words m * (pages_of table (Region t d) - 1) + used_mark table (current currents t d - 1) ≤ 2 * words_taken pages objects (Region t d))
 
 own-region : (m : Areas) (c c' : Contents) (l : Places) (objects : Name → Option Thing) (n : Name) (o : Thing) (t d size p used a : ℕ) → 1 ≤ d → d ≤ max_depth m → HasThread m t → Placing m c c' t d size p used → p < length l.pages → ((x : Name) (q k : ℕ) → IsAt l x q k → x ≢ n) → o.home ≡ inner_of t d → size ≡ length o.fields + OBJECT_WORDS → RegionsDense m c.table c.currents l.pages objects → 0 < pages_of c'.table (Region t d) → IsDense m c'.table c'.currents (grown l p n a).pages (with_object objects n o) t d
 own-region m c c' l objects n o t zero size p used a one deep ht h hp apart home is was some = absurd (omega arith)
 own-region m c c' l objects n o t (suc d) size p used a one deep ht h hp apart home is was some =
     let x : Space = Region t (suc d) in
-    let W : ℕ = words_of l.pages objects x in
-    let total : words_of (grown l p n a).pages (with_object objects n o) x ≡ W + words_in x (Some o) = words_of-grown l objects n o p a x hp apart in
+    let W : ℕ = words_taken l.pages objects x in
+    let total : words_taken (grown l p n a).pages (with_object objects n o) x ≡ W + words_in x (Some o) = words_taken-grown l objects n o p a x hp apart in
     let own : words_in x (Some o) ≡ size = own_words o x (ap space_index home) ∙ sym is in
     let at : current c'.currents t (suc d) - 1 ≡ p = omega (arith, h.current_now) in
     let dense = own-dense m c c' t d size p used W h (λ s. was t (suc d) ht.0 ht.1 one deep s) some in
@@ -143,7 +143,7 @@ own-region m c c' l objects n o t (suc d) size p used a one deep ht h hp apart h
 pub dense-added : (m : Areas) (c c' : Contents) (l : Places) (objects : Name → Option Thing) (n : Name) (o : Thing) (t d size p used a : ℕ) → IsAreas m → HasThread m t → d ≤ max_depth m → Placing m c c' t d size p used → CurrentsStand m c.currents c.table → p < length l.pages → ((x : Name) (q k : ℕ) → IsAt l x q k → x ≢ n) → o.home ≡ inner_of t d → size ≡ length o.fields + OBJECT_WORDS → RegionsDense m c.table c.currents l.pages objects → RegionsDense m c'.table c'.currents (grown l p n a).pages (with_object objects n o)
 dense-added m c c' l objects n o t d size p used a areas ht hd h cur hp apart home is was u e hu hm he hk some =
     let y : Space = Region u e in
-    let total : words_of (grown l p n a).pages (with_object objects n o) y ≡ words_of l.pages objects y + words_in y (Some o) = words_of-grown l objects n o p a y hp apart in
+    let total : words_taken (grown l p n a).pages (with_object objects n o) y ≡ words_taken l.pages objects y + words_in y (Some o) = words_taken-grown l objects n o p a y hp apart in
     ⊎_elim
     (λ (same : (u ≡ t) × (e ≡ d)).
     let some' : 0 < pages_of c'.table (Region t d) = subst (λ i. 0 < pages_of c'.table (Region t i)) same.1 (subst (λ i. 0 < pages_of c'.table (Region i e)) same.0 some) in

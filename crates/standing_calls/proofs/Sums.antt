@@ -9,7 +9,7 @@ use Rattle.epoch_lattice.specs.declared.Space.{Space}
 use Rattle.epoch_lattice.specs.Lattice.{space_index}
 use Rattle.yak_model.specs.State.{Thing}
 use Rattle.yak_model.specs.Placed.{IsAt, Places, names_of, same_name, with_object}
-use Rattle.yak_model.specs.Stands.{pages_of, words_in, words_of}
+use Rattle.yak_model.specs.Stands.{pages_of, words_in, words_taken}
 use Rattle.yak_model.proofs.Placed.{same_name-true, same_name-self}
 use Rattle.yak_model.proofs.Grown.{grown}
 
@@ -32,12 +32,12 @@ pub own_object : (objects : Name → Option Thing) (n : Name) (o : Thing) → wi
 own_object objects n o = rw (same_name-self n) refl
 
 -- the words of a space, with an object more
-pub words_of-grown : (l : Places) (objects : Name → Option Thing) (n : Name) (o : Thing) (p a : ℕ) (y : Space) → p < length l.pages → ((x : Name) (q k : ℕ) → IsAt l x q k → x ≢ n) → words_of (grown l p n a).pages (with_object objects n o) y ≡ words_of l.pages objects y + words_in y (Some o)
-words_of-grown l objects n o p a y hp apart =
+pub words_taken-grown : (l : Places) (objects : Name → Option Thing) (n : Name) (o : Thing) (p a : ℕ) (y : Space) → p < length l.pages → ((x : Name) (q k : ℕ) → IsAt l x q k → x ≢ n) → words_taken (grown l p n a).pages (with_object objects n o) y ≡ words_taken l.pages objects y + words_in y (Some o)
+words_taken-grown l objects n o p a y hp apart =
     let g : Name → ℕ = λ x. words_in y (objects x) in
     let g' : Name → ℕ = λ x. words_in y (with_object objects n o x) in
     let F : List Name → ℕ = λ ns. sum_by g' ns in
-    let alike : sum_by F l.pages ≡ words_of l.pages objects y = sum-alike F (λ ns. sum_by g ns) l.pages (λ q d lq. sum-alike g' g (get_or l.pages q d) (λ k x lk.
+    let alike : sum_by F l.pages ≡ words_taken l.pages objects y = sum-alike F (λ ns. sum_by g ns) l.pages (λ q d lq. sum-alike g' g (get_or l.pages q d) (λ k x lk.
     let ns : get_or l.pages q d ≡ names_of l q = get_or_default l.pages q d [] lq in
     let lk' : k < length (names_of l q) = subst (λ (xs : List Name). k < length xs) ns lk in
     let at : IsAt l (get_or (names_of l q) k x) q k = record { page = lq; place = lk'; name = get_or_default (names_of l q) k (get_or (names_of l q) k x) x lk' } in

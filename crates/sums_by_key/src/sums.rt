@@ -9,7 +9,7 @@ use crate::lines::Line;
 use crate::tables::add_all;
 use group_jobs::sort_counts;
 use heap_core::{Core, CoreCaller};
-use heap_tables::{Counted, make, read_entries};
+use heap_tables::{WordCount, make, read_entries};
 use heap_words::{Image, MakeError};
 use object_layout::{NoMemory, OutOfHeap};
 use std::alloc::Global;
@@ -51,7 +51,7 @@ fn sum_with<C: Caller>(
     alloc: Global,
     caller: &mut C,
     lines: &[Line],
-) -> Result<Vec<Counted>, SumError>
+) -> Result<Vec<WordCount>, SumError>
     requires some { KnowsSome (C.knows caller.old) }
     requires own { (C.standing caller.old).own ≡ opening_own }
     requires summable { AreSummable lines.now }
@@ -82,7 +82,7 @@ fn open_heap(alloc: Global, pages: u32) -> Result<CoreCaller<Image>, SumError>
 /// # Errors
 ///
 /// `OutOfHeap` where the heap had no room for a key or for its sum; `Memory` where an allocation was refused.
-pub fn sum_lines(alloc: Global, pages: u32, lines: &[Line]) -> Result<Vec<Counted>, SumError>
+pub fn sum_lines(alloc: Global, pages: u32, lines: &[Line]) -> Result<Vec<WordCount>, SumError>
     requires pages { IsAreas (record { pages = pages; threads = 1 }) }
     requires summable { AreSummable lines.now }
     ensures { IfOk result (λ list. AreListed lines.now list.items) }

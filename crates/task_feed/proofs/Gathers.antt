@@ -3,7 +3,7 @@ use Rattle.std.proofs.Common.{◌≡◌, ℕ, zero, suc, ◌+◌, ◌<◌, ◌==
 use Rattle.std.specs.declared.alloc.Global.{Global}
 use Rattle.std.proofs.lemmas.List.Sums.{sum_by-cons, sum_by_push}
 use Rattle.task_feed.specs.Dealt.{places}
-use Rattle.task_feed.specs.Contents.{lists_in}
+use Rattle.task_feed.specs.FeedContents.{lists_in}
 use Rattle.task_feed.specs.Takers.{has_ended, row_of}
 use Rattle.task_feed.specs.declared.hands.Hand.{Hand}
 use Rattle.task_feed.specs.declared.takers.Taker.{Taker}

@@ -1,6 +1,6 @@
 -- Tasks that are dealt out.
 pub mod Dealt
-pub mod Contents
+pub mod FeedContents
 pub mod Hands
 pub mod Takers
 pub mod Shares

@@ -4,7 +4,7 @@ ghost use Rattle.std.specs.Vec.{vec_capacity};
 ghost use Rattle.crossbeam_queue.specs.Passes.{IsPassOf, ruled_capacity, view};
 ghost use Rattle.task_feed.specs.Dealt.{IsDealt, places};
 ghost use Rattle.task_feed.specs.Hands.{IsWhole, hand};
-ghost use Rattle.task_feed.specs.Contents.{lists_in};
+ghost use Rattle.task_feed.specs.FeedContents.{lists_in};
 ghost use Rattle.task_feed.specs.Takers.{IsFresh, IsTakerOf, TakesFrom, has_ended, row_of, takers_of, tasks_of};
 
 use crate::feed::{Feed, Taken, TaskQueue};

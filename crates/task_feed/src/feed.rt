@@ -34,9 +34,9 @@ pub struct Taken {
 }
 
 impl Model for Taken {
-    ghost use Rattle.task_feed.specs.Contents.{Contents, lists_in};
+    ghost use Rattle.task_feed.specs.FeedContents.{FeedContents, lists_in};
 
-    ghost Value = { Contents };
+    ghost Value = { FeedContents };
 
     ghost view = { λ s. record { rows = lists_in s.rows.items; left = s.left.items } };
 }

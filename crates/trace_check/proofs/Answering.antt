@@ -1,7 +1,7 @@
 -- What a check answers.
 use Rattle.std.proofs.Common.{◌≡◌, ℕ, ◌<◌, List, [], ◌∷◌, Option, Some, None, Result, Ok, Err, IfOk, length, get_or, zero, suc, refl, ap, subst, arith}
 use Rattle.std.specs.Prelude.{IfNone, IfSome}
-use Rattle.script_text.specs.Contents.{Contents}
+use Rattle.script_text.specs.ScriptContents.{ScriptContents}
 use Rattle.script_text.specs.Printing.{Rises}
 use Rattle.yak_model.specs.Unique.{StatesAreUnique}
 use Rattle.trace_check.specs.declared.traces.Entry.{Entry}
@@ -20,7 +20,7 @@ none_of {T} {E} P r h is = subst (λ (x : Result (Option T) E). IfOk x (λ done.
 pub some_of : {T E : Type 0} (P : T → Type 0) (r : Result (Option T) E) (x : T) → IfOk r (λ done. IfSome done P) → r ≡ Ok (Some x) → P x
 some_of {T} {E} P r x h is = subst (λ (y : Result (Option T) E). IfOk y (λ done. IfSome done P)) is h
 
-module _ (unique : StatesAreUnique) (script : Contents) (rise : Rises script.heap.threads 2 script.lines) (entries : List Entry) {E : Type 0} where
+module _ (unique : StatesAreUnique) (script : ScriptContents) (rise : Rises script.heap.threads 2 script.lines) (entries : List Entry) {E : Type 0} where
   pub every_lawful : (r : Result (Option ℕ) E) → IfOk r (λ answer. IfSome answer (λ k. TraceBreaksAt script entries k)) → IsLawfulTrace script entries → IfOk r (λ answer. answer ≡ None)
   every_lawful (Ok None) breaks lawful = refl
   every_lawful (Ok (Some k)) breaks lawful = absurd (never_breaks unique script rise entries k lawful breaks)

@@ -4,7 +4,7 @@ use Rattle.std.proofs.lemmas.List.{length-replicate}
 use Rattle.std.specs.Prelude.{MatchOption}
 use Rattle.object_layout.specs.declared.replies.Reply.{Reply}
 use Rattle.object_layout.specs.declared.replies.Reply.TheVariants as reply
-use Rattle.script_text.specs.Contents.{Contents}
+use Rattle.script_text.specs.ScriptContents.{ScriptContents}
 use Rattle.object_layout.specs.declared.calls.Call.{Call}
 use Rattle.object_layout.specs.declared.calls.Call.TheVariants as call
 use Rattle.object_layout.specs.declared.replies.Refusal.{Refusal}
@@ -129,7 +129,7 @@ turn_limits s (happened.Collected t) after turns = ap (λ (g : Graph). g.limits)
 
 -- ---- one more entry
 
-module _ (unique : StatesAreUnique) (script : Contents) (before : List Entry) (s : SpaceState) (last : Option Step) (cursors : List ℕ) (at : IsAt script before s last cursors) where
+module _ (unique : StatesAreUnique) (script : ScriptContents) (before : List Entry) (s : SpaceState) (last : Option Step) (cursors : List ℕ) (at : IsAt script before s last cursors) where
   abbrev so_far : List history.Entry
   so_far = history_of script.lines before
 
@@ -225,7 +225,7 @@ module _ (unique : StatesAreUnique) (script : Contents) (before : List Entry) (s
       }
 
 -- no entries
-pub at_opened : (script : Contents) (s : SpaceState) (cursors : List ℕ) → s ≡ opening_spaces standard_limits script.heap.threads → PointAtNext script.lines script.heap.threads [] cursors → IsAt script [] s None cursors
+pub at_opened : (script : ScriptContents) (s : SpaceState) (cursors : List ℕ) → s ≡ opening_spaces standard_limits script.heap.threads → PointAtNext script.lines script.heap.threads [] cursors → IsAt script [] s None cursors
 at_opened script s cursors is points = record {
   goes = λ before next rest none. absurd (none_first before next rest none);
   each = tt;
@@ -238,7 +238,7 @@ at_opened script s cursors is points = record {
 }
 
 -- nothing is left untold where no collection stands last and no thread has a line left
-pub settled_is : (script : Contents) (entries : List Entry) (s : SpaceState) (last : Option Step) (cursors : List ℕ) → IsAt script entries s last cursors
+pub settled_is : (script : ScriptContents) (entries : List Entry) (s : SpaceState) (last : Option Step) (cursors : List ℕ) → IsAt script entries s last cursors
     → (((t : ℕ) → EndsCollected (last_alone last) t → ⊥) → (t : ℕ) → EndsCollected (history_of script.lines entries) t → ⊥)
     × (((t : ℕ) → EndsCollected (history_of script.lines entries) t → ⊥) → (t : ℕ) → EndsCollected (last_alone last) t → ⊥)
 settled_is script entries s last cursors at =
@@ -246,7 +246,7 @@ settled_is script entries s last cursors at =
     (λ none t ends. none t (collected_alone whole last at.ends t ends), λ none t ends. none t (collected_after whole last at.ends t ends))
 
 -- a step that was taken
-module _ (unique : StatesAreUnique) (script : Contents) (before : List Entry) (s : SpaceState) (last : Option Step) (cursors : List ℕ) (at : IsAt script before s last cursors) (next : Entry) (step : Step) (names : Names script.lines before next step) where
+module _ (unique : StatesAreUnique) (script : ScriptContents) (before : List Entry) (s : SpaceState) (last : Option Step) (cursors : List ℕ) (at : IsAt script before s last cursors) (next : Entry) (step : Step) (names : Names script.lines before next step) where
   pub taken : {E : Type 0} (after : SpaceState) (pointed : List ℕ) (r : Result Bool E) → PointAtNext script.lines script.heap.threads (before ++ next ∷ []) pointed → length after.graph.threads ≡ length s.graph.threads
       → IfOk r (λ done. done ≡ true → MayFollow script.heap.pages last s step) → IfOk r (λ done. done ≡ true → Turns s (entry_of step) after) → r ≡ Ok true → IsAt script (before ++ next ∷ []) after (Some step) pointed
   taken after pointed (Ok b) points same may turns is =

@@ -9,7 +9,7 @@ use Rattle.std.proofs.Math.Seq.{drop-append-add, get_or-append_seam, take-append
 use Rattle.object_layout.specs.declared.TheConstants.{MAX_THREADS}
 use Rattle.script_text.specs.declared.scripts.Line.{Line}
 use Rattle.script_text.specs.Commands.{command_words}
-use Rattle.script_text.specs.Contents.{Contents}
+use Rattle.script_text.specs.ScriptContents.{ScriptContents}
 use Rattle.script_text.specs.Printing.{script_text, spaced}
 use Rattle.script_text.specs.Replies.{reply_text, reply_words}
 use Rattle.script_text.specs.Scripts.{Holds, IsScript, IsScriptOf}
@@ -32,7 +32,7 @@ held_no_mark threads number (line ∷ ls) commands (inl (silent, holds)) (suc i)
 held_no_mark threads number (line ∷ ls) commands (inr (thread, call, others, is, whole, holds)) zero lt = λ mark. (let both : command_words thread call ≡ codes "==" ∷ [] = sym is.spelled ∙ mark.spelled in cc both)
 held_no_mark threads number (line ∷ ls) commands (inr (thread, call, others, is, whole, holds)) (suc i) lt = held_no_mark threads (number + 1) ls others holds i (omega (arith, lt))
 
-pub script_no_mark : (ls : List (List ℕ)) (script : Contents) → IsScriptOf ls script → HasNoMark ls
+pub script_no_mark : (ls : List (List ℕ)) (script : ScriptContents) → IsScriptOf ls script → HasNoMark ls
 script_no_mark [] script is i lt = absurd is
 script_no_mark (line ∷ ls) script is zero lt = λ mark. (let both = sym is.0.spelled ∙ mark.spelled in cc both)
 script_no_mark (line ∷ ls) script is (suc i) lt = held_no_mark script.heap.threads 2 ls script.lines is.1 i (omega (arith, lt))
@@ -135,16 +135,16 @@ lines_marked : (more : List ℕ) → lines (mark_line ++ more) ≡ mark ∷ line
 unfolding mark
 lines_marked more = lines_more (codes "==") more (omega arith, (omega arith, tt))
 
-text_lines : (script : Contents) (entries : List Entry) → lines (trace_text script entries) ≡ lines (script_text script) ++ mark ∷ lines (entries_text entries)
+text_lines : (script : ScriptContents) (entries : List Entry) → lines (trace_text script entries) ≡ lines (script_text script) ++ mark ∷ lines (entries_text entries)
 text_lines script entries =
     ap lines (append_assoc (script_text script) mark_line (entries_text entries)) ∙ (script_ends script).parted (mark_line ++ entries_text entries)
     ∙ ap (λ (ls : List (List ℕ)). lines (script_text script) ++ ls) (lines_marked (entries_text entries))
 
-few_threads : (ls : List (List ℕ)) (script : Contents) → IsScriptOf ls script → script.heap.threads ≤ MAX_THREADS
+few_threads : (ls : List (List ℕ)) (script : ScriptContents) → IsScriptOf ls script → script.heap.threads ≤ MAX_THREADS
 few_threads [] script is = absurd is
 few_threads (line ∷ ls) script is = is.0.possible.few_threads
 
-parted : (front more : List (List ℕ)) (script : Contents) (entries : List Entry) → IsScriptOf front script → HoldsEntries script.heap.threads more entries
+parted : (front more : List (List ℕ)) (script : ScriptContents) (entries : List Entry) → IsScriptOf front script → HoldsEntries script.heap.threads more entries
     → IsTraceOf (front ++ mark ∷ more) (record { script = script; entries = entries })
 parted front more script entries is holds =
     let all = front ++ mark ∷ more in
@@ -161,7 +161,7 @@ parted front more script entries is holds =
       subst (λ (ls : List (List ℕ)). HoldsEntries script.heap.threads ls entries) (sym left) holds,
     )
 
-pub reads_back : (script : Contents) (entries : List Entry) → IsScript (script_text script) script → AreEntries script.heap.threads entries
+pub reads_back : (script : ScriptContents) (entries : List Entry) → IsScript (script_text script) script → AreEntries script.heap.threads entries
     → IsTraceOf (lines (trace_text script entries)) (record { script = script; entries = entries })
 reads_back script entries is are =
     rw (text_lines script entries) (parted (lines (script_text script)) (lines (entries_text entries)) script entries is (entries_held script.heap.threads entries (few_threads (lines (script_text script)) script is) are))

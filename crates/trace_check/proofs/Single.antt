@@ -4,7 +4,7 @@ use Rattle.std.specs.Prelude.{codes, decimal, IfErr, IfOk, Result, Ok, Err}
 use Rattle.std.proofs.lemmas.Bool.{cases_lt}
 use Rattle.std.proofs.lemmas.Fmt.{decimal_injective}
 use Rattle.object_layout.specs.declared.TheConstants.{MAX_THREADS}
-use Rattle.script_text.specs.Contents.{Contents}
+use Rattle.script_text.specs.ScriptContents.{ScriptContents}
 use Rattle.script_text.specs.declared.faults.Bad.{Bad}
 use Rattle.script_text.specs.Replies.{reply_words}
 use Rattle.script_text.specs.Scripts.{IsBadOf, IsScriptOf, IsSilent}
@@ -83,20 +83,20 @@ no_mark lines a is none = none a is.within is.mark
 
 -- ---- texts
 
-trace_of : Contents → List Entry → Trace
+trace_of : ScriptContents → List Entry → Trace
 trace_of script entries = record { script = script; entries = entries }
 
 same_parts : (a b : Trace) → a.script ≡ b.script → a.entries ≡ b.entries → a ≡ b
 unfolding trace_of
-same_parts a b script entries = ap (λ (s : Contents). trace_of s a.entries) script ∙ ap (trace_of b.script) entries
+same_parts a b script entries = ap (λ (s : ScriptContents). trace_of s a.entries) script ∙ ap (trace_of b.script) entries
 
-few_threads : (lines : List (List ℕ)) (script : Contents) → IsScriptOf lines script → script.heap.threads ≤ MAX_THREADS
+few_threads : (lines : List (List ℕ)) (script : ScriptContents) → IsScriptOf lines script → script.heap.threads ≤ MAX_THREADS
 few_threads [] script is = absurd is
 few_threads (line ∷ lines) script is = is.0.possible.few_threads
 
 -- the entries that lines hold where another script has the same threads
-held_by : (lines : List (List ℕ)) (a b : Contents) (entries : List Entry) → a ≡ b → HoldsEntries a.heap.threads lines entries → HoldsEntries b.heap.threads lines entries
-held_by lines a b entries same holds = subst (λ (s : Contents). HoldsEntries s.heap.threads lines entries) same holds
+held_by : (lines : List (List ℕ)) (a b : ScriptContents) (entries : List Entry) → a ≡ b → HoldsEntries a.heap.threads lines entries → HoldsEntries b.heap.threads lines entries
+held_by lines a b entries same holds = subst (λ (s : ScriptContents). HoldsEntries s.heap.threads lines entries) same holds
 
 pub one_trace : (lines : List (List ℕ)) (a b : Trace) → IsTraceOf lines a → IsTraceOf lines b → a ≡ b
 one_trace lines a b (at, marked, script, held) (at', marked', script', held') =
@@ -120,7 +120,7 @@ one_bad_trace lines a b (inl (at, script, marked, is, bad)) (inl (at', script', 
     let other : IsScriptOf (take at lines) script' = subst (λ (n : ℕ). IsScriptOf (take n lines) script') mark is' in
     let scripts : script' ≡ script = one_script (take at lines) script' script other is in
     let here : FirstNoEntry script'.heap.threads (at + 2) (drop (at + 1) lines) b = subst (λ (n : ℕ). FirstNoEntry script'.heap.threads (n + 2) (drop (n + 1) lines) b) mark bad' in
-    let fault : FirstNoEntry script.heap.threads (at + 2) (drop (at + 1) lines) b = subst (λ (s : Contents). FirstNoEntry s.heap.threads (at + 2) (drop (at + 1) lines) b) scripts here in
+    let fault : FirstNoEntry script.heap.threads (at + 2) (drop (at + 1) lines) b = subst (λ (s : ScriptContents). FirstNoEntry s.heap.threads (at + 2) (drop (at + 1) lines) b) scripts here in
     same_no_entry script.heap.threads (at + 2) (drop (at + 1) lines) a b bad fault
 one_bad_trace lines a b (inl (at, script, marked, is, bad)) (inr (script', none, is', here)) = absurd (no_mark lines at marked none)
 one_bad_trace lines a b (inr (script, none, is, here)) (inl (at', script', marked', is', bad')) = absurd (no_mark lines at' marked' none)

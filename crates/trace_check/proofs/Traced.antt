@@ -11,7 +11,7 @@ use Rattle.yak_model.specs.Continued.{AreLawful, PackedIfAsked}
 use Rattle.yak_model.specs.Recorded.{StandsRecorded}
 use Rattle.yak_model.proofs.Lawful.{EachLawful, lawful_more, lawful_none}
 use Rattle.script_text.specs.declared.scripts.Line.{Line}
-use Rattle.script_text.specs.Contents.{Contents}
+use Rattle.script_text.specs.ScriptContents.{ScriptContents}
 use Rattle.script_text.specs.Printing.{IsValid}
 use Rattle.yak_model.specs.Agreement.{MachinesAgree}
 use Rattle.yak_model.specs.Graph.{standard_limits}
@@ -88,7 +88,7 @@ threads_step threads line said false some few = (tt, tt)
 -- ---- lines
 
 -- so many lines have run and were told, and Control is packed if a collection that was asked for was last
-pub record HasTraced (script : Contents) (done : ℕ) (entries : List Entry) (held : Held) : Type 0 where
+pub record HasTraced (script : ScriptContents) (done : ℕ) (entries : List Entry) (held : Held) : Type 0 where
   pub each : EachTells script.lines entries
   pub named : all_named script.lines entries ≡ take done script.lines
   pub of_threads : AreOfThreads script.heap.threads entries
@@ -101,7 +101,7 @@ pub record HasTraced (script : Contents) (done : ℕ) (entries : List Entry) (he
   pub recorded : Recorded held.map (contents held.map held.words) state stands
   pub packed : PackedIfAsked held.map (contents held.map held.words) state stands (history_of script.lines entries)
 
-pub traced_none : (script : Contents) (map : Areas) (words : List ℕ) → map.pages ≡ script.heap.pages → map.threads ≡ script.heap.threads
+pub traced_none : (script : ScriptContents) (map : Areas) (words : List ℕ) → map.pages ≡ script.heap.pages → map.threads ≡ script.heap.threads
     → StandsRecorded map (contents map words) (opening_spaces standard_limits script.heap.threads) → HasTraced script 0 [] (held_of map words)
 traced_none script map words pages threads stands = record {
   each = tt;
@@ -117,7 +117,7 @@ traced_none script map words pages threads stands = record {
   packed = λ asked. absurd (none_first asked.0 _ [] asked.2);
 }
 
-pub traced_more : StatesAreUnique → (script : Contents) → IsValid script → (i : ℕ) (line : Line) (before after : List Entry) (heap next : Held) → i < length script.lines → line ≡ line_at script.lines i → next.map ≡ heap.map
+pub traced_more : StatesAreUnique → (script : ScriptContents) → IsValid script → (i : ℕ) (line : Line) (before after : List Entry) (heap next : Held) → i < length script.lines → line ≡ line_at script.lines i → next.map ≡ heap.map
     → HasTraced script i before heap → TracesLine line heap next before after → HasTraced script (i + 1) after next
 traced_more unique script valid i line before after heap next lt is same so_far traces =
     let lines = script.lines in
@@ -157,7 +157,7 @@ traced_more unique script valid i line before after heap next lt is same so_far 
     }
 
 -- all lines have run
-pub traced_all : MachinesAgree → (script : Contents) (i : ℕ) (entries : List Entry) (held : Held) → length script.lines ≤ i → HasTraced script i entries held
+pub traced_all : MachinesAgree → (script : ScriptContents) (i : ℕ) (entries : List Entry) (held : Held) → length script.lines ≤ i → HasTraced script i entries held
     → (all_named script.lines entries ≡ script.lines) × IsLawfulTrace script entries
 traced_all agree script i entries held le traced =
     let all : all_named script.lines entries ≡ script.lines = traced.named ∙ take_all i script.lines le in

@@ -4,7 +4,7 @@ use Rattle.std.specs.Prelude.{MatchBool, slice_index}
 use Rattle.std.proofs.lemmas.Bool.{cases_lt}
 use Rattle.std.proofs.lemmas.List.{append-nil, append_cancel_left}
 use Rattle.script_text.specs.declared.scripts.Line.{Line}
-use Rattle.script_text.specs.Contents.{Contents}
+use Rattle.script_text.specs.ScriptContents.{ScriptContents}
 use Rattle.script_text.specs.Printing.{Rises}
 use Rattle.yak_model.specs.Agreement.{MachinesAgree}
 use Rattle.yak_model.specs.Graph.{standard_limits}
@@ -34,7 +34,7 @@ room_of pages before s (happened.Said t asked said) rest lawful = lawful
 room_of pages before s (happened.Collected t) rest lawful = tt
 
 -- a whole trace that goes on to its end is lawful
-pub lawful_whole : MachinesAgree → (script : Contents) (entries : List Entry) (s : SpaceState) (last : Option Step) (cursors : List ℕ) → IsAt script entries s last cursors → IsWhole script entries → IsLawfulTrace script entries
+pub lawful_whole : MachinesAgree → (script : ScriptContents) (entries : List Entry) (s : SpaceState) (last : Option Step) (cursors : List ℕ) → IsAt script entries s last cursors → IsWhole script entries → IsLawfulTrace script entries
 lawful_whole agree script entries s last cursors at whole =
     let agreed = agree standard_limits script.heap.threads (history_of script.lines entries) s at.state in
     record {
@@ -66,7 +66,7 @@ one_line f [] step is = absurd (cc is)
 one_line f (line ∷ []) step is = (line, refl)
 one_line f (line ∷ other ∷ lines) step is = absurd (cc is)
 
-module _ (unique : StatesAreUnique) (script : Contents) (rise : Rises script.heap.threads 2 script.lines) (entries : List Entry) (lawful : IsLawfulTrace script entries) where
+module _ (unique : StatesAreUnique) (script : ScriptContents) (rise : Rises script.heap.threads 2 script.lines) (entries : List Entry) (lawful : IsLawfulTrace script entries) where
   abbrev start : SpaceState
   start = opening_spaces standard_limits script.heap.threads
 
@@ -137,13 +137,13 @@ module _ (unique : StatesAreUnique) (script : Contents) (rise : Rises script.hea
     }
 
 -- a lawful trace breaks nowhere
-pub never_breaks : StatesAreUnique → (script : Contents) → Rises script.heap.threads 2 script.lines → (entries : List Entry) (k : ℕ) → IsLawfulTrace script entries → TraceBreaksAt script entries k → ⊥
+pub never_breaks : StatesAreUnique → (script : ScriptContents) → Rises script.heap.threads 2 script.lines → (entries : List Entry) (k : ℕ) → IsLawfulTrace script entries → TraceBreaksAt script entries k → ⊥
 never_breaks unique script rise entries k lawful (inl (before, next, rest, is, goes, breaks, place)) = breaks (continues_lawful unique script rise entries lawful before next rest is)
 never_breaks unique script rise entries k lawful (inr (goes, not_whole, place)) = not_whole (whole_lawful unique script rise entries lawful)
 
 -- ---- where no thread has a line left
 
-module _ (script : Contents) (entries : List Entry) (s : SpaceState) (last : Option Step) (cursors : List ℕ) (at : IsAt script entries s last cursors) where
+module _ (script : ScriptContents) (entries : List Entry) (s : SpaceState) (last : Option Step) (cursors : List ℕ) (at : IsAt script entries s last cursors) where
   named_all : ((i : ℕ) → i < length cursors → length script.lines ≤ slice_index cursors i) → (t : ℕ) → 1 ≤ t → t ≤ script.heap.threads → own t (all_named script.lines entries) ≡ own t script.lines
   named_all ended t some few =
       let i = t - 1 in
@@ -191,7 +191,7 @@ front_or_same {A} (z ∷ a) x r (w ∷ b) y q e =
     ]
 
 -- a trace breaks at one place
-pub one_break : (script : Contents) (entries : List Entry) (j k : ℕ) → TraceBreaksAt script entries j → TraceBreaksAt script entries k → j ≡ k
+pub one_break : (script : ScriptContents) (entries : List Entry) (j k : ℕ) → TraceBreaksAt script entries j → TraceBreaksAt script entries k → j ≡ k
 one_break script entries j k (inl (a, x, r, is, goes, breaks, at)) (inl (b, y, q, was, goes', breaks', at')) =
     elim (front_or_same a x r b y q (sym is ∙ was)) [
       | inl (m, front) ↦ absurd (breaks (goes' a x m front))

@@ -1,7 +1,7 @@
 -- Traces that were checked so far.
 use Rattle.std.specs.Prelude.{◌≡◌, ◌≤◌, ℕ, List, [], ◌∷◌, ◌++◌, Option, length}
 use Rattle.script_text.specs.declared.scripts.Line.{Line}
-use Rattle.script_text.specs.Contents.{Contents}
+use Rattle.script_text.specs.ScriptContents.{ScriptContents}
 use Rattle.yak_model.specs.Graph.{standard_limits}
 use Rattle.yak_model.specs.declared.history.Entry as history
 use Rattle.yak_model.specs.declared.history.Entry.TheVariants as happened
@@ -26,7 +26,7 @@ pub record Names (lines : List Line) (before : List Entry) (next : Entry) (step 
   pub tells : told lines next ≡ entry_of step ∷ []
 
 -- a script of so many pages and threads
-abbrev pub script_of : ℕ → ℕ → List Line → Contents
+abbrev pub script_of : ℕ → ℕ → List Line → ScriptContents
 script_of pages threads lines = record { heap = record { pages = pages; threads = threads }; lines = lines }
 
 -- each entry of a history may come where it comes, but that a collection at its end may still lack its cause
@@ -36,7 +36,7 @@ HasBegun pages threads whole =
     → HasRoom pages before s entry × ((t : ℕ) → entry ≡ happened.Collected t → (rest ≡ [] → ⊥) → BeginsWithCause rest t)
 
 -- these entries don't break, and leave this state, last step and places of next lines
-pub record IsAt (script : Contents) (before : List Entry) (s : SpaceState) (last : Option Step) (cursors : List ℕ) : Type 0 where
+pub record IsAt (script : ScriptContents) (before : List Entry) (s : SpaceState) (last : Option Step) (cursors : List ℕ) : Type 0 where
   pub goes : AllContinue script before
   pub each : EachTells script.lines before
   pub state : Leaves script before s

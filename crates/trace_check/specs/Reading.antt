@@ -1,7 +1,7 @@
 -- Which texts are traces, and the first line that is none of one.
 use Rattle.std.specs.Prelude.{◌≡◌, ◌≤◌, ◌<◌, ◌+◌, ◌⊎◌, ℕ, List, [], ◌∷◌, ◌++◌, codes, decimal, drop, length, slice_index_or, take}
 use Rattle.script_text.specs.declared.faults.Bad.{Bad}
-use Rattle.script_text.specs.Contents.{Contents}
+use Rattle.script_text.specs.ScriptContents.{ScriptContents}
 use Rattle.script_text.specs.Replies.{IsReply, reply_words}
 use Rattle.script_text.specs.Scripts.{IsBadOf, IsScriptOf, IsSilent}
 use Rattle.script_text.specs.Words.{words}
@@ -112,8 +112,8 @@ IsBadScript lines bad = ((before : ℕ) × IsMarked lines before × IsBadOf (tak
 -- a script is followed by a line that is none of a trace, or there is no mark, which is told of the line behind the last
 abbrev pub IsBadTrace : List (List ℕ) → ℕ → Type 0
 IsBadTrace lines number =
-    ((before : ℕ) × (script : Contents) × IsMarked lines before × IsScriptOf (take before lines) script × FirstNoEntry script.heap.threads (before + 2) (drop (before + 1) lines) number)
-    ⊎ ((script : Contents) × HasNoMark lines × IsScriptOf lines script × (number ≡ length lines + 1))
+    ((before : ℕ) × (script : ScriptContents) × IsMarked lines before × IsScriptOf (take before lines) script × FirstNoEntry script.heap.threads (before + 2) (drop (before + 1) lines) number)
+    ⊎ ((script : ScriptContents) × HasNoMark lines × IsScriptOf lines script × (number ≡ length lines + 1))
 
 -- what an error says of the lines
 abbrev pub RefusesTrace : List (List ℕ) → TraceError → Type 0

@@ -1,6 +1,6 @@
 -- The text of traces: a script, a line `==`, and a line for each entry.
 use Rattle.std.specs.Prelude.{ℕ, List, [], ◌∷◌, ◌++◌, codes, decimal}
-use Rattle.script_text.specs.Contents.{Contents}
+use Rattle.script_text.specs.ScriptContents.{ScriptContents}
 use Rattle.script_text.specs.Printing.{script_text}
 use Rattle.script_text.specs.Replies.{reply_line}
 use Rattle.trace_check.specs.declared.traces.Entry.{Entry}
@@ -25,5 +25,5 @@ entries_text [] = []
 entries_text (first ∷ rest) = entry_line first ++ entries_text rest
 
 -- the text of a trace
-abbrev pub trace_text : Contents → List Entry → List ℕ
+abbrev pub trace_text : ScriptContents → List Entry → List ℕ
 trace_text script entries = script_text script ++ mark_line ++ entries_text entries

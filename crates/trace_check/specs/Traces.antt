@@ -1,7 +1,7 @@
 -- What the entries of a trace name, and the history that they tell.
 use Rattle.std.specs.Prelude.{◌≤◌, ◌==◌, ℕ, List, [], ◌∷◌, ◌++◌, filter, map}
 use Rattle.script_text.specs.declared.scripts.Line.{Line}
-use Rattle.script_text.specs.Contents.{Contents}
+use Rattle.script_text.specs.ScriptContents.{ScriptContents}
 use Rattle.trace_check.specs.declared.traces.Entry.{Entry}
 use Rattle.trace_check.specs.declared.traces.Entry.TheVariants as entry
 use Rattle.yak_model.specs.declared.history.Entry as history
@@ -9,7 +9,7 @@ use Rattle.yak_model.specs.declared.history.Entry.TheVariants as happened
 
 -- a script, and the entries of a run of it
 pub record Trace : Type 0 where
-  pub script : Contents
+  pub script : ScriptContents
   pub entries : List Entry
 
 -- the command lines of a number: one at most, since the numbers of a script rise

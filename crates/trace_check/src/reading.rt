@@ -10,16 +10,16 @@ ghost use Rattle.trace_check.specs.Traces.{AreOfThreads, Trace};
 
 use crate::traces::{Entry, TraceError, TraceText};
 use script_text::{
-    INPUT_LIMIT, ReadError, Words, is_silent, number_of, read_front, read_reply, read_script,
-    text_lines,
+    LineWords, ReadError, is_silent, number_of, read_front, read_reply, read_script, text_lines,
 };
 use std::alloc::Global;
+use yak_io::INPUT_LIMIT;
 
 /// Whether a line parts a script from its trace.
 fn is_mark(line: &[u8]) -> bool
     ensures { MatchBool result (IsMark line.now) (IsMark line.now → ⊥) }
 {
-    let mut words = Words::of(line);
+    let mut words = LineWords::of(line);
     !is_silent(line) && words.next() == Some(b"==".as_slice()) && words.next().is_none()
 }
 
@@ -42,7 +42,7 @@ fn mark_at(bytes: &[u8]) -> Option<u32>
 }
 
 /// The thread of the words behind `collected`.
-fn read_thread(words: &mut Words, threads: u8) -> Option<u8>
+fn read_thread(words: &mut LineWords, threads: u8) -> Option<u8>
     ensures { MatchOption result ((thread : ℕ) → 1 ≤ thread → thread ≤ threads → words.old ≢ decimal thread ∷ []) (λ thread. (1 ≤ thread) × (thread ≤ threads) × (words.old ≡ decimal thread ∷ [])) }
 {
     let thread = number_of(words.next()?, 1, u64::from(threads))?;
@@ -65,7 +65,7 @@ fn is_collected(word: &[u8]) -> bool
 fn read_entry(line: &[u8], threads: u8) -> Option<Entry>
     ensures { MatchOption result ((told : Told) → IsEntry threads told → words line.now ≢ entry_words told) (λ told. IsEntry threads told × (words line.now ≡ entry_words told)) }
 {
-    let mut words = Words::of(line);
+    let mut words = LineWords::of(line);
     let first = words.next()?;
     if is_collected(first) {
         let Some(thread) = read_thread(&mut words, threads) else {

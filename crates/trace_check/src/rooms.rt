@@ -2,7 +2,7 @@
 ghost use Rattle.std.specs.Prelude.{◌≡◌, ◌+◌, ◌*◌, ◌<◌, ◌≤◌, ℕ, [], ◌∷◌, Some, IfOk, IfNone, IfSome, IsTrue, ◌↔◌, MatchBool, length, true, false};
 ghost use Rattle.object_layout.specs.declared.calls.Call.TheVariants as asked;
 ghost use Rattle.object_layout.specs.declared.replies.Reply.TheVariants as said;
-ghost use Rattle.script_text.specs.declared.TheConstants.{MAX_PAGES};
+ghost use Rattle.heap_words.specs.declared.TheConstants.{MAX_PAGES};
 ghost use Rattle.yak_model.specs.Graph.{IsThread, standard_limits, thread_of};
 ghost use Rattle.yak_model.specs.Lawful.{BeginsWithCause, EndsAsked, EndsCollected, HasWords, IsCensus, IsReplyLawful, open_regions, present_words};
 ghost use Rattle.yak_model.specs.Machine.{CanTurn};
@@ -96,7 +96,7 @@ fn ends_asked(last: Option<Step>) -> bool
 }
 
 /// The words of so many pages.
-fn words_of(pages: u32) -> u64
+fn page_words(pages: u32) -> u64
     ensures { result ≡ PAGE_WORDS * pages }
 {
     u64::from(PAGE_WORDS) * u64::from(pages)
@@ -109,7 +109,7 @@ fn is_full(spaces: &SpaceState, pages: u32) -> bool
     ensures { IsTrue result ↔ (spaces.now.graph.limits.page * pages ≤ 2 * present_words spaces.now + spaces.now.graph.limits.page * (open_regions spaces.now + 1)) }
 {
     let present = spaces.control_words() + spaces.region_words();
-    words_of(pages) <= 2 * present + words_of(spaces.open_regions() + 1)
+    page_words(pages) <= 2 * present + page_words(spaces.open_regions() + 1)
 }
 
 /// Whether the heap is as short of pages as it is where an end is tight.
@@ -123,7 +123,7 @@ fn is_short(spaces: &SpaceState, pages: u32, thread: u8) -> Result<bool, NoMemor
 {
     let present = spaces.control_words() + spaces.region_words();
     let escaped = spaces.escape_words(thread)?;
-    Ok(words_of(pages) < 2 * present + 2 * escaped + 2 * words_of(spaces.open_regions() + 1))
+    Ok(page_words(pages) < 2 * present + 2 * escaped + 2 * page_words(spaces.open_regions() + 1))
 }
 
 /// Whether three numbers of pages are those that a census may tell.
@@ -142,10 +142,10 @@ fn is_census(
     let in_regions = spaces.region_words();
     let all = u64::from(free) + u64::from(region) + u64::from(control);
     all == u64::from(pages)
-        && in_control <= words_of(control)
-        && in_regions <= words_of(region)
-        && words_of(region) <= 2 * in_regions + words_of(spaces.open_regions())
-        && (!ends_asked(last) || words_of(control) <= 2 * in_control + words_of(1))
+        && in_control <= page_words(control)
+        && in_regions <= page_words(region)
+        && page_words(region) <= 2 * in_regions + page_words(spaces.open_regions())
+        && (!ends_asked(last) || page_words(control) <= 2 * in_control + page_words(1))
 }
 
 /// Whether a reply to a thread may come after the last step, as far as the room in the pages goes.

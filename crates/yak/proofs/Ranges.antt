@@ -2,7 +2,7 @@
 use Rattle.std.proofs.Common.{◌≡◌, ◌≤◌, ℕ, List, Option, None, Some, sym, subst, inl, inr, arith}
 use Rattle.std.specs.Prelude.{IfSome}
 use Rattle.object_layout.specs.declared.TheConstants.{MAX_THREADS}
-use Rattle.script_text.specs.declared.TheConstants.{MAX_PAGES}
+use Rattle.heap_words.specs.declared.TheConstants.{MAX_PAGES}
 use Rattle.yak.specs.declared.forms.TheConstants.{DEFAULT_TASK}
 use Rattle.yak.specs.declared.forms.Form.{Form}
 use Rattle.yak.specs.declared.forms.Form.TheVariants.{Count}

@@ -7,7 +7,7 @@ use Rattle.std.proofs.lemmas.Fmt.{length-decimal-le}
 use Rattle.object_layout.specs.declared.calls.Call.{Call}
 use Rattle.object_layout.specs.declared.calls.Call.TheVariants.{Null, Pop, New, Load, Store, Get, Begin, End, Collect, Census}
 use Rattle.object_layout.specs.Calls.{IsCall}
-use Rattle.script_text.specs.declared.TheConstants.{INPUT_LIMIT}
+use Rattle.yak_io.specs.declared.TheConstants.{INPUT_LIMIT}
 use Rattle.script_text.specs.declared.scripts.Line.{Line}
 use Rattle.script_text.specs.Commands.{IsWithin, Number, command_words, index, number_words, numbers_of, word_of}
 use Rattle.script_text.specs.Printing.{AreWithin, IsValid, Rises, lines_text, script_text, spaced}

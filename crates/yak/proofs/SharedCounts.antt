@@ -4,7 +4,7 @@ use denote.Enum.Declared.{tag_of}
 use Rattle.yak_io.specs.Causes.{Rose}
 use Rattle.object_layout.specs.declared.replies.Census.{Census}
 use Rattle.heap_words.specs.Map.{IsAreas}
-use Rattle.script_text.specs.declared.TheConstants.{INPUT_LIMIT}
+use Rattle.yak_io.specs.declared.TheConstants.{INPUT_LIMIT}
 use Rattle.safepoint_gate.specs.declared.finished.Finished.{Finished}
 use Rattle.group_jobs.specs.LongWords.{has_long_word}
 use Rattle.group_jobs.specs.Shared.{TellsWhyShared}

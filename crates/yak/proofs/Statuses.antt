@@ -4,9 +4,9 @@ use Rattle.std.specs.Prelude.{IfSome, OnOk, Result, Ok, Err}
 use Rattle.std.specs.Result.{is_err}
 use Rattle.std.specs.Io.KnownBytes.{Appends}
 use Rattle.yak_io.specs.Causes.{Rose}
-use Rattle.script_text.specs.declared.TheConstants.{INPUT_LIMIT}
+use Rattle.yak_io.specs.declared.TheConstants.{INPUT_LIMIT}
 use Rattle.script_text.specs.declared.faults.Bad.{Bad}
-use Rattle.script_text.specs.Contents.{Contents}
+use Rattle.script_text.specs.ScriptContents.{ScriptContents}
 use Rattle.script_text.specs.Scripts.{IsBadLine, IsScript}
 use Rattle.yak.specs.Keeping.{Keeping}
 use Rattle.yak.specs.declared.endings.Status.{Status}
@@ -60,7 +60,7 @@ not_large input bytes told fits large = let more = of_told input.before bytes (�
 -- ---- statuses
 
 abbrev pub Never : Type 0
-Never = (bytes : List ℕ) (script : Contents) (bad : Bad) → IsScript bytes script → IsBadLine bytes bad → ⊥
+Never = (bytes : List ℕ) (script : ScriptContents) (bad : Bad) → IsScript bytes script → IsBadLine bytes bad → ⊥
 
 done_replayed : (words : List (List ℕ)) (input : Input) (output : Output) (text : List ℕ) (kept : Keeping) → Appends output.before output.after text
     → belongs words Done input text kept → IsReplay words → EndsReplayed input output kept
@@ -173,7 +173,7 @@ other_words BadTrace words input output kept h other = absurd h.1.meaning
 other_words NotLawful words input output kept h other = absurd h.1.meaning
 
 pub script_ends : Never → (status : Status) (words : List (List ℕ)) (input : Input) (output : Output) (kept : Keeping) → ends status words input output kept
-    → (bytes : List ℕ) (script : Contents) → IsReplay words → IsFaultless input output bytes → length bytes ≤ INPUT_LIMIT → IsScript bytes script → (status ≡ Done) ⊎ (status ≡ NoMemory)
+    → (bytes : List ℕ) (script : ScriptContents) → IsReplay words → IsFaultless input output bytes → length bytes ≤ INPUT_LIMIT → IsScript bytes script → (status ≡ Done) ⊎ (status ≡ NoMemory)
 script_ends never Done words input output kept h bytes script named clean fits is = inl refl
 script_ends never Usage words input output kept h bytes script named clean fits is = absurd (h.1.meaning.0 (Replay, named, tt))
 script_ends never Refused words input output kept h bytes script named clean fits is =

@@ -2,9 +2,9 @@
 use Rattle.std.proofs.Common.{◌≡◌, ◌≤◌, ◌<◌, ◌⊎◌, ℕ, List, [], length, refl, subst, inl, inr}
 use denote.Enum.Declared.{tag_of}
 use Rattle.yak_io.specs.Causes.{Rose}
-use Rattle.script_text.specs.declared.TheConstants.{INPUT_LIMIT}
+use Rattle.yak_io.specs.declared.TheConstants.{INPUT_LIMIT}
 use Rattle.script_text.specs.declared.faults.Bad.{Bad}
-use Rattle.script_text.specs.Contents.{Contents}
+use Rattle.script_text.specs.ScriptContents.{ScriptContents}
 use Rattle.script_text.specs.Scripts.{IsBadLine, IsScript}
 use Rattle.yak.specs.contracts.endings.Status.{the_type}
 use Rattle.yak.specs.declared.endings.Status.{Status}
@@ -19,7 +19,7 @@ use Rattle.yak.proofs.Writing.{same_text}
 -- ---- which statuses come
 
 script_ends : Never → (status : Status) (input : Input) (output : Output) (kept : Keeping) → ends_by threads_mean status input output kept
-    → (bytes : List ℕ) (script : Contents) → IsFaultless input output bytes → length bytes ≤ INPUT_LIMIT → IsScript bytes script → (status ≡ Done) ⊎ (status ≡ NoMemory)
+    → (bytes : List ℕ) (script : ScriptContents) → IsFaultless input output bytes → length bytes ≤ INPUT_LIMIT → IsScript bytes script → (status ≡ Done) ⊎ (status ≡ NoMemory)
 script_ends never Done input output kept h bytes script clean fits is = inl refl
 script_ends never Usage input output kept h bytes script clean fits is = absurd h.1.meaning
 script_ends never Refused input output kept h bytes script clean fits is =

@@ -1,9 +1,9 @@
 -- Which statuses making a trace and checking one may end with, and what the number of each tells.
 use Rattle.std.proofs.Common.{◌≡◌, ◌≤◌, ◌<◌, ◌⊎◌, ℕ, List, [], length, refl, subst, inl, inr}
 use denote.Enum.Declared.{tag_of}
-use Rattle.script_text.specs.declared.TheConstants.{INPUT_LIMIT}
+use Rattle.yak_io.specs.declared.TheConstants.{INPUT_LIMIT}
 use Rattle.script_text.specs.declared.faults.Bad.{Bad}
-use Rattle.script_text.specs.Contents.{Contents}
+use Rattle.script_text.specs.ScriptContents.{ScriptContents}
 use Rattle.script_text.specs.Scripts.{IsBadLine, IsScript}
 use Rattle.script_text.specs.Words.{lines}
 use Rattle.trace_check.specs.Breaks.{IsLawfulTrace, TraceBreaksAt}
@@ -89,7 +89,7 @@ excess_ends tracing LongWord input output kept h bytes clean many = absurd h.1.m
 
 -- ---- what the bytes of a script come to
 
-script_makes : Never → (status : Status) (bytes text : List ℕ) (script : Contents) → IsScript bytes script → tracing_to Make status bytes text → (status ≡ Done) ⊎ (status ≡ NoMemory)
+script_makes : Never → (status : Status) (bytes text : List ℕ) (script : ScriptContents) → IsScript bytes script → tracing_to Make status bytes text → (status ≡ Done) ⊎ (status ≡ NoMemory)
 script_makes never Done bytes text script is told = inl refl
 script_makes never Refused bytes text script is told = absurd (never bytes script told.bad is told.refused)
 script_makes never NoMemory bytes text script is told = inr refl

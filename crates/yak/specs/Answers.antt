@@ -2,9 +2,9 @@
 use Rattle.std.specs.Prelude.{◌≡◌, ◌≢◌, ◌<◌, ◌≤◌, ◌⊎◌, ℕ, true, false, List, length}
 use Rattle.std.specs.Io.KnownBytes.{Appends}
 use Rattle.yak_io.specs.Causes.{Rose}
-use Rattle.script_text.specs.declared.TheConstants.{INPUT_LIMIT}
+use Rattle.yak_io.specs.declared.TheConstants.{INPUT_LIMIT}
 use Rattle.script_text.specs.declared.faults.Bad.{Bad}
-use Rattle.script_text.specs.Contents.{Contents}
+use Rattle.script_text.specs.ScriptContents.{ScriptContents}
 use Rattle.script_text.specs.Scripts.{IsScript, IsBadLine}
 use Rattle.group_jobs.specs.LongWords.{has_long_word}
 use Rattle.yak.specs.declared.forms.Options.{Options}
@@ -30,7 +30,7 @@ pub record Answers (number : ℕ) (words : List (List ℕ)) (input : Input) (out
   pub no_others : (number ≡ 9) ⊎ (number ≡ 10) → ⊥
   pub kept : number ≢ 0 → KeepsNothing keeping
   pub other_words : (IsAsked words → ⊥) → (number ≡ 1) ⊎ (number ≡ 4) ⊎ (number ≡ 5)
-  pub every_script : (bytes : List ℕ) (script : Contents) → IsReplay words → IsFaultless input output bytes → length bytes ≤ INPUT_LIMIT → IsScript bytes script
+  pub every_script : (bytes : List ℕ) (script : ScriptContents) → IsReplay words → IsFaultless input output bytes → length bytes ≤ INPUT_LIMIT → IsScript bytes script
       → (number ≡ 0) ⊎ (number ≡ 5)
   pub every_refusal : (bytes : List ℕ) (bad : Bad) → IsReplay words → IsFaultless input output bytes → length bytes ≤ INPUT_LIMIT → IsBadLine bytes bad
       → (number ≡ 2) ⊎ (number ≡ 5)

@@ -4,9 +4,9 @@ use Rattle.std.specs.List.{flat_map}
 use Rattle.std.specs.Io.KnownBytes.{Appends}
 use Rattle.yak_io.specs.Causes.{Rose}
 use Rattle.yak_io.specs.Transfers.{TookAll, TookFront}
-use Rattle.script_text.specs.declared.TheConstants.{INPUT_LIMIT}
+use Rattle.yak_io.specs.declared.TheConstants.{INPUT_LIMIT}
 use Rattle.script_text.specs.declared.faults.Bad.{Bad}
-use Rattle.script_text.specs.Contents.{Contents}
+use Rattle.script_text.specs.ScriptContents.{ScriptContents}
 use Rattle.script_text.specs.Reasons.{bad_text}
 use Rattle.yak.specs.declared.endings.Status.{Status}
 use Rattle.yak.specs.declared.endings.Status.TheVariants.{Done, Usage, Refused, ReadFault, WriteFault, NoMemory, TooLarge, OutOfHeap, LongWord, BadTrace, NotLawful}
@@ -66,7 +66,7 @@ IsTooLarge input = IfSome input.before (λ told. INPUT_LIMIT < length told)
 
 -- the bytes are a script, which ran and left this heap, and the text tells the replies
 pub record Replays (bytes text : List ℕ) (held : Held) : Type 0 where
-  pub script : Contents
+  pub script : ScriptContents
   pub replies : List Reply
   pub read : IsScript bytes script
   pub run : IsRun script.heap script.lines replies held

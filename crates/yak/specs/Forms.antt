@@ -1,7 +1,8 @@
 -- The forms of words that are understood, and which of them are answered.
 use Rattle.std.specs.Prelude.{◌≡◌, ◌≤◌, ◌⊎◌, ℕ, true, false, List, [], ◌∷◌, ◌++◌, Option, Some, None, codes, decimal}
 use Rattle.object_layout.specs.declared.TheConstants.{MAX_THREADS}
-use Rattle.script_text.specs.declared.TheConstants.{INPUT_LIMIT, MAX_PAGES}
+use Rattle.yak_io.specs.declared.TheConstants.{INPUT_LIMIT}
+use Rattle.heap_words.specs.declared.TheConstants.{MAX_PAGES}
 use Rattle.yak.specs.declared.forms.TheConstants.{DEFAULT_TASK, MAX_ROUNDS}
 use Rattle.yak.specs.declared.forms.Form.{Form}
 use Rattle.yak.specs.declared.forms.Form.TheVariants.{Replay, Threads, Count, Gen, Traced}

@@ -3,7 +3,7 @@ use Rattle.std.specs.Prelude.{ℕ, zero, suc, ◌+◌, ◌*◌, ◌/◌, ◌%◌
 use Rattle.object_layout.specs.declared.calls.Call.TheVariants.{Null, Pop, New, Load, Store, Get, Begin, End, Collect, Census}
 use Rattle.object_layout.specs.declared.calls.Call.{Call}
 use Rattle.script_text.specs.declared.scripts.Line.{Line}
-use Rattle.script_text.specs.Contents.{Contents}
+use Rattle.script_text.specs.ScriptContents.{ScriptContents}
 
 -- a command before it has a line: its thread and its call
 abbrev pub Command : Type 0
@@ -46,5 +46,5 @@ numbered number [] = []
 numbered number (command ∷ more) = record { number = number; thread = command.0; call = command.1 } ∷ numbered (number + 1) more
 
 -- the script of so many rounds
-abbrev pub generated : ℕ → Contents
+abbrev pub generated : ℕ → ScriptContents
 generated seed = record { heap = record { pages = 64; threads = 4 }; lines = numbered 2 (commands seed) }

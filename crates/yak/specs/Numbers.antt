@@ -14,9 +14,8 @@ use Rattle.safepoint_gate.specs.declared.TheConstants as gate
 use Rattle.yak_model.specs.declared.TheConstants as model
 use Rattle.yak_model.specs.Room.{entry_words, root_words, table_words}
 use Rattle.yak_model.specs.Tables.{groups}
-use Rattle.script_text.specs.declared.TheConstants as text
+use Rattle.yak_io.specs.declared.TheConstants as files
 use Rattle.script_text.specs.Commands.{IsIndex, IsInteger, most}
-use Rattle.group_jobs.specs.declared.TheConstants as jobs
 use Rattle.yak.specs.declared.forms.TheConstants.{MAX_ROUNDS}
 use Rattle.yak.specs.Forms.{chosen, unset}
 use Rattle.yak.specs.Generator.{number_at}
@@ -25,15 +24,15 @@ use Rattle.yak.specs.Generator.{number_at}
 pub record AreLimits : Type 0 where
   pub threads : (heap.MAX_THREADS ≡ 8) × (layout.MAX_THREADS ≡ 8) × (lattice.MAX_THREADS ≡ 8)
   pub depth : (heap.MAX_DEPTH ≡ 8) × (layout.MAX_DEPTH ≡ 8) × (lattice.MAX_DEPTH ≡ 8)
-  pub slots : (heap.STACK_SLOTS ≡ 64) × (model.STACK_SLOTS ≡ 64)
+  pub slots : heap.STACK_SLOTS ≡ 64
   pub entries : heap.BUFFER_ENTRIES ≡ 64
-  pub pages : (heap.MAX_PAGES ≡ 4096) × (text.MAX_PAGES ≡ 4096)
+  pub pages : heap.MAX_PAGES ≡ 4096
   pub page : (heap.PAGE_WORDS ≡ 256) × (layout.PAGE_WORDS ≡ 256)
   pub fields : layout.MAX_FIELDS ≡ 253
   pub integers : (layout.MAX_INT ≡ 9223372036854775807) × (most IsInteger ≡ 9223372036854775807)
   pub indices : most IsIndex ≡ 4294967295
   pub made : layout.MAX_SERIAL ≡ 281474976710655
-  pub input : (text.INPUT_LIMIT ≡ 16777216) × (jobs.INPUT_LIMIT ≡ 16777216)
+  pub input : files.INPUT_LIMIT ≡ 16777216
   pub word : layout.WORD_LIMIT ≡ 1024
   pub rounds : MAX_ROUNDS ≡ 100000
   pub options : chosen unset ≡ record { workers = 1; task = 64; pages = 4096; feed = false }

@@ -10,7 +10,7 @@ use Rattle.yak_model.specs.Room.{least_room}
 use Rattle.yak_model.specs.Texts.{counts_of, words_of}
 use Rattle.safepoint_gate.specs.declared.finished.Finished.{Finished}
 use Rattle.safepoint_gate.specs.declared.rule.View.{View}
-use Rattle.script_text.specs.declared.TheConstants.{INPUT_LIMIT}
+use Rattle.yak_io.specs.declared.TheConstants.{INPUT_LIMIT}
 use Rattle.group_jobs.specs.LongWords.{has_long_word}
 use Rattle.group_jobs.specs.Printing.{count_line}
 use Rattle.group_jobs.specs.Shared.{IsCountedFed, IsCountedShared, TellsWhyShared}

@@ -4,9 +4,9 @@ use Rattle.std.specs.Io.KnownBytes.{Appends}
 use Rattle.yak_io.specs.Causes.{Rose}
 use Rattle.object_layout.specs.declared.replies.Reply.{Reply}
 use Rattle.safepoint_gate.specs.declared.rule.View.{View}
-use Rattle.script_text.specs.declared.TheConstants.{INPUT_LIMIT}
+use Rattle.yak_io.specs.declared.TheConstants.{INPUT_LIMIT}
 use Rattle.script_text.specs.declared.faults.Bad.{Bad}
-use Rattle.script_text.specs.Contents.{Contents}
+use Rattle.script_text.specs.ScriptContents.{ScriptContents}
 use Rattle.script_text.specs.Scripts.{IsScript, IsBadLine}
 use Rattle.script_runner.specs.Threaded.{IsThreaded}
 use Rattle.yak.specs.declared.endings.Status.{Status}
@@ -17,7 +17,7 @@ use Rattle.yak.specs.Texts.{replies_text}
 
 -- the bytes are a script, whose threads ran and left words of this view, and the text tells the replies
 pub record RunsThreads (bytes text : List ℕ) (v : View) : Type 0 where
-  pub script : Contents
+  pub script : ScriptContents
   pub replies : List Reply
   pub read : IsScript bytes script
   pub run : IsThreaded script.heap script.lines replies v
@@ -68,7 +68,7 @@ pub record AnswersThreads (number : ℕ) (input : Input) (output : Output) (keep
   pub too_large : number ≡ 6 → IsTooLarge input × WritesNothing output
   pub no_others : (number ≡ 1) ⊎ (number ≡ 7) ⊎ (number ≡ 8) ⊎ (number ≡ 9) ⊎ (number ≡ 10) → ⊥
   pub kept : number ≢ 0 → KeepsNothing keeping
-  pub every_script : (bytes : List ℕ) (script : Contents) → IsFaultless input output bytes → length bytes ≤ INPUT_LIMIT → IsScript bytes script
+  pub every_script : (bytes : List ℕ) (script : ScriptContents) → IsFaultless input output bytes → length bytes ≤ INPUT_LIMIT → IsScript bytes script
       → (number ≡ 0) ⊎ (number ≡ 5)
   pub every_refusal : (bytes : List ℕ) (bad : Bad) → IsFaultless input output bytes → length bytes ≤ INPUT_LIMIT → IsBadLine bytes bad
       → (number ≡ 2) ⊎ (number ≡ 5)

@@ -2,9 +2,9 @@
 use Rattle.std.specs.Prelude.{◌≡◌, ◌<◌, ◌≤◌, ◌⊎◌, ℕ, List, [], ◌++◌, codes, decimal, length}
 use Rattle.std.specs.Io.KnownBytes.{Appends}
 use Rattle.yak_io.specs.Causes.{Rose}
-use Rattle.script_text.specs.declared.TheConstants.{INPUT_LIMIT}
+use Rattle.yak_io.specs.declared.TheConstants.{INPUT_LIMIT}
 use Rattle.script_text.specs.declared.faults.Bad.{Bad}
-use Rattle.script_text.specs.Contents.{Contents}
+use Rattle.script_text.specs.ScriptContents.{ScriptContents}
 use Rattle.script_text.specs.Scripts.{IsBadLine, IsScript}
 use Rattle.script_text.specs.Words.{lines}
 use Rattle.trace_check.specs.declared.traces.Entry.{Entry}
@@ -22,7 +22,7 @@ use Rattle.yak.specs.Endings.{CutBy, EndsBy, EndsRefused, Input, IsFaultless, Is
 -- ---- what is written
 
 -- the text is a trace of the script, which names the command lines in their order, is lawful, and reads as it was
-pub record IsTraceText (script : Contents) (text : List ℕ) : Type 0 where
+pub record IsTraceText (script : ScriptContents) (text : List ℕ) : Type 0 where
   pub entries : List Entry
   pub order : all_named script.lines entries ≡ script.lines
   pub lawful : IsLawfulTrace script entries
@@ -31,7 +31,7 @@ pub record IsTraceText (script : Contents) (text : List ℕ) : Type 0 where
 
 -- the bytes are a script, and the text is a trace of it
 pub record Traces (bytes text : List ℕ) : Type 0 where
-  pub script : Contents
+  pub script : ScriptContents
   pub read : IsScript bytes script
   pub made : IsTraceText script text
 
@@ -171,7 +171,7 @@ pub record AnswersTrace (number : ℕ) (input : Input) (output : Output) (keepin
   pub traces : number ≡ 0 → EndsTraced input output
   pub refused : number ≡ 2 → EndsRefused input output
   pub no_check : (number ≡ 9) ⊎ (number ≡ 10) → ⊥
-  pub every_script : (bytes : List ℕ) (script : Contents) → IsFaultless input output bytes → length bytes ≤ INPUT_LIMIT → IsScript bytes script
+  pub every_script : (bytes : List ℕ) (script : ScriptContents) → IsFaultless input output bytes → length bytes ≤ INPUT_LIMIT → IsScript bytes script
       → (number ≡ 0) ⊎ (number ≡ 5)
   pub every_refusal : (bytes : List ℕ) (bad : Bad) → IsFaultless input output bytes → length bytes ≤ INPUT_LIMIT → IsBadLine bytes bad
       → (number ≡ 2) ⊎ (number ≡ 5)

@@ -1,7 +1,7 @@
 //! Traces that are made and checked.
 
-use crate::plain::{Kept, plain};
-use crate::tests::words_of;
+use crate::plain::{KeptHeap, plain};
+use crate::tests::split_words;
 use object_layout::{Call, Reply};
 use std::test::Fail;
 use yak_io::{MemorySink, SureSource};
@@ -93,10 +93,10 @@ fn traces_are_made_and_checked(rt: HostRuntime) -> Result<(), Fail> {
         ("trace", "heap 4 1\n1 nil\n", 2, "line 2: bad command\n"),
         ("trace", "heap 4 1", 0, "heap 4 1\n==\n"),
     ] {
-        let args = words_of(alloc, word)?;
+        let args = split_words(alloc, word)?;
         let mut source = SureSource::new(Vec::from_slice(alloc, text.as_bytes())?);
         let mut sink = MemorySink::new(alloc, 1000, Vec::new(alloc))?;
-        let mut kept = Kept::Nothing;
+        let mut kept = KeptHeap::Nothing;
         let ended = plain(alloc, &args, &mut source, &mut sink, &mut kept);
         assert_eq!(rt; ended, status, "{text}");
         assert_eq!(rt; sink.written(), written.as_bytes(), "{text}");

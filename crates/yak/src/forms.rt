@@ -7,8 +7,10 @@ ghost use Rattle.yak.specs.declared.forms.Setting.{Setting};
 ghost use Rattle.yak.specs.declared.forms.Settings.{Settings};
 ghost use Rattle.yak.specs.Forms.{GoesShared, IsAsked, IsBuiltForm, IsForm, IsJoined, IsSetting, Sets, Tells, chosen, feed_word, most_of, setting_word, tell, told, unset};
 
+use heap_words::MAX_PAGES;
 use object_layout::MAX_THREADS;
-use script_text::{INPUT_LIMIT, MAX_PAGES, number_of};
+use script_text::number_of;
+use yak_io::INPUT_LIMIT;
 
 /// The greatest number of rounds of a generated script.
 pub const MAX_ROUNDS: u32 = 100000;

@@ -6,8 +6,9 @@ ghost use Rattle.yak.specs.Generator.{commands, generated, kind, numbered, round
 
 use crate::forms::MAX_ROUNDS;
 use object_layout::{Call, NoMemory};
-use script_text::{INPUT_LIMIT, Line, ReadError, Script, print_script, read_script};
+use script_text::{Line, ReadError, Script, print_script, read_script};
 use std::alloc::Global;
+use yak_io::INPUT_LIMIT;
 
 /// The number after a number.
 fn next_number(x: u32) -> u32

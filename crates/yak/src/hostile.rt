@@ -2,20 +2,21 @@
 
 ghost use Rattle.std.specs.Prelude.{◌≡◌, IfSome};
 
-use crate::plain::Kept;
-use crate::tests::{FIRST_PATH, words_of};
+use crate::plain::KeptHeap;
+use crate::tests::{FIRST_PATH, split_words};
 use crate::threaded::run;
 use heap_core::Core;
 use heap_words::{Image, set_made};
 use object_layout::{Call, MAX_SERIAL, Refusal, Reply};
-use script_text::INPUT_LIMIT;
 use std::alloc::{AllocError, Global};
 use std::sync::Wait;
 use std::sync::atomic::{AtomicU64, Ordering};
 use std::test::Fail;
 use std::thread;
 use std::thread::Threads;
-use yak_io::{Brake, Failed, MemorySink, MemorySource, NoBrake, Sink, Source, SureSource};
+use yak_io::{
+    Brake, Failed, INPUT_LIMIT, MemorySink, MemorySource, NoBrake, Sink, Source, SureSource,
+};
 
 const FIRST_REPLIES: &[u8] = b"2 ok\n3 int 7\n";
 
@@ -31,8 +32,8 @@ fn status_of<R: Threads + Wait + Sync, S: Source, K: Sink, B: Brake + Sync>(
     sink: &mut K,
     brake: &B,
 ) -> Result<u8, AllocError> {
-    let args = words_of(alloc, command)?;
-    let mut kept = Kept::Nothing;
+    let args = split_words(alloc, command)?;
+    let mut kept = KeptHeap::Nothing;
     Ok(run(rt, alloc, &args, source, sink, brake, &mut kept))
 }
 

@@ -1,6 +1,6 @@
 //! What is so of all words and numbers.
 ghost use Rattle.std.specs.Prelude.{◌≡◌, ◌≤◌, ℕ, List, length};
-ghost use Rattle.script_text.specs.declared.TheConstants.{INPUT_LIMIT};
+ghost use Rattle.yak_io.specs.declared.TheConstants.{INPUT_LIMIT};
 ghost use Rattle.script_text.specs.Printing.{script_text};
 ghost use Rattle.script_text.specs.Scripts.{IsScript};
 ghost use Rattle.yak.specs.declared.forms.TheConstants.{MAX_ROUNDS};

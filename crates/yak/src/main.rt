@@ -23,7 +23,7 @@ mod worked;
 #[cfg(test)]
 mod workers;
 
-use plain::Kept;
+use plain::KeptHeap;
 use std::alloc::AllocError;
 use std::process::ExitCode;
 use std::{env, io};
@@ -43,7 +43,7 @@ fn main(rt: HostRuntime) -> ExitCode {
     };
     let mut source = StdSource::new(rt.reader());
     let mut sink = StdSink::new(io::writer(&rt));
-    let mut kept = Kept::Nothing;
+    let mut kept = KeptHeap::Nothing;
     ExitCode::from(run(
         &rt,
         alloc,

@@ -1,7 +1,7 @@
 //! The top call.
 ghost use Rattle.std.specs.Prelude.{◌≡◌, ◌≢◌, ◌≤◌, ◌<◌, ◌⊎◌, ℕ, true, false, List, [], None, Option, map, codes, Some, IfOk, IfErr, OnErr, IfSome, length, string_bytes};
 ghost use Rattle.std.specs.Io.KnownBytes.{Appends};
-ghost use Rattle.script_text.specs.Contents.{Contents};
+ghost use Rattle.script_text.specs.ScriptContents.{ScriptContents};
 ghost use Rattle.yak_io.specs.Causes.{Rose};
 ghost use Rattle.script_text.specs.Scripts.{IsBadLine, IsScript};
 ghost use Rattle.group_jobs.specs.LongWords.{has_long_word, long_word_line};
@@ -24,17 +24,17 @@ use crate::summaries::{reply_lines, summed_up};
 use crate::traced::{asked_tracing, traced};
 use group_jobs::{CountError, count_one, long_word, print_counts};
 use heap_core::Core;
-use heap_words::{Image, Words};
+use heap_words::{Image, MAX_PAGES, Words};
 use object_layout::NoMemory;
 use safepoint_gate::Finished;
 use script_runner::replay;
-use script_text::{Bad, INPUT_LIMIT, MAX_PAGES, ReadError, law_script_or_refusal, read_script};
+use script_text::{Bad, ReadError, law_script_or_refusal, read_script};
 use std::alloc::{AllocError, Global};
-use yak_io::{ReadAllError, Sink, Source, read_all, write_all};
+use yak_io::{INPUT_LIMIT, ReadAllError, Sink, Source, read_all, write_all};
 
 /// The heap as a run left it.
 #[derive(Drop)]
-pub enum Kept {
+pub enum KeptHeap {
     /// No heap.
     Nothing,
     /// The heap after the last call of a replay, or of a count by one worker.
@@ -65,7 +65,7 @@ pub fn read_input<S: Source>(alloc: Global, source: &mut S) -> Result<Vec<u8>, S
 pub struct Prepared {
     pub status: Status,
     pub text: Vec<u8>,
-    pub kept: Kept,
+    pub kept: KeptHeap,
 }
 
 /// A run that ends with a status, and writes and keeps nothing.
@@ -77,7 +77,7 @@ pub fn stopped(alloc: Global, status: Status) -> Prepared
     Prepared {
         status,
         text: Vec::new(alloc),
-        kept: Kept::Nothing,
+        kept: KeptHeap::Nothing,
     }
 }
 
@@ -98,7 +98,7 @@ fn done(alloc: Global, text: Result<Vec<u8>, NoMemory>, core: Core<Image>) -> Pr
         Ok(text) => Prepared {
             status: Status::Done,
             text,
-            kept: Kept::Alone(core),
+            kept: KeptHeap::Alone(core),
         },
         Err(_) => stopped(alloc, Status::NoMemory),
     }
@@ -157,7 +157,7 @@ pub fn too_long(alloc: Global, line: u32) -> Prepared
         Ok(text) => Prepared {
             status: Status::LongWord,
             text,
-            kept: Kept::Nothing,
+            kept: KeptHeap::Nothing,
         },
         Err(_) => stopped(alloc, Status::NoMemory),
     }
@@ -192,7 +192,7 @@ pub fn refused(alloc: Global, bad: Bad) -> Prepared
         Ok(text) => Prepared {
             status: Status::Refused,
             text,
-            kept: Kept::Nothing,
+            kept: KeptHeap::Nothing,
         },
         Err(_) => stopped(alloc, Status::NoMemory),
     }
@@ -206,7 +206,7 @@ fn usage(alloc: Global) -> Prepared
         Ok(text) => Prepared {
             status: Status::Usage,
             text,
-            kept: Kept::Nothing,
+            kept: KeptHeap::Nothing,
         },
         Err(_) => stopped(alloc, Status::NoMemory),
     }
@@ -241,7 +241,7 @@ fn written<S: Source, K: Sink>(
     args: &[String],
     source: &mut S,
     sink: &mut K,
-    kept: &mut Kept,
+    kept: &mut KeptHeap,
 ) -> Status
     requires untraced { IsUntraced (map string_bytes args.now) }
     requires nothing { KeepsNothing (kept_by ⟦<Image as Words>⟧.words kept.old) }
@@ -272,7 +272,7 @@ pub fn plain<S: Source, K: Sink>(
     args: &[String],
     source: &mut S,
     sink: &mut K,
-    kept: &mut Kept,
+    kept: &mut KeptHeap,
 ) -> u8
     requires { KeepsNothing (kept_by ⟦<Image as Words>⟧.words kept.old) }
     ensures answers { IsUntraced (map string_bytes args.now) → Answers result (map string_bytes args.now)

@@ -3,7 +3,7 @@ ghost use Rattle.std.specs.Prelude.{◌≡◌, ◌*◌, ◌≤◌, IfErr, IfOk, 
 ghost use Rattle.heap_words.specs.Map.{IsAreas, page_words};
 ghost use Rattle.yak_model.specs.Room.{least_room};
 ghost use Rattle.yak_model.specs.Texts.{counts_of, words_of};
-ghost use Rattle.script_text.specs.declared.TheConstants.{INPUT_LIMIT};
+ghost use Rattle.yak_io.specs.declared.TheConstants.{INPUT_LIMIT};
 ghost use Rattle.group_jobs.specs.LongWords.{has_long_word};
 ghost use Rattle.group_jobs.specs.Shared.{TellsWhyShared};
 ghost use Rattle.yak.specs.Endings.{input_of, output_of, ends_by, KeepsNothing};
@@ -13,7 +13,7 @@ ghost use Rattle.yak.specs.SharedCounts.{AnswersShared, IsCountedBy, shares_mean
 
 use crate::endings::Status;
 use crate::forms::{Options, read_form};
-use crate::plain::{Kept, Prepared, read_input, stopped, too_long};
+use crate::plain::{KeptHeap, Prepared, read_input, stopped, too_long};
 use crate::threaded::done;
 use group_jobs::{CountError, Counts, Fed, count_fed, count_many, long_word, print_counts};
 use heap_words::{Image, Words};
@@ -82,7 +82,7 @@ fn answer<R: Threads + Wait + Sync, B: Brake + Sync>(
         Err(CountError::OutOfHeap(_, finished)) => Prepared {
             status: Status::OutOfHeap,
             text: Vec::new(alloc),
-            kept: Kept::Shared(finished),
+            kept: KeptHeap::Shared(finished),
         },
         Err(CountError::Memory) => stopped(alloc, Status::NoMemory),
     }
@@ -115,7 +115,7 @@ fn written<R: Threads + Wait + Sync, S: Source, K: Sink, B: Brake + Sync>(
     source: &mut S,
     sink: &mut K,
     brake: &B,
-    kept: &mut Kept,
+    kept: &mut KeptHeap,
 ) -> Status
     requires size { IsAreas (size_of_heap options) }
     requires lines { 1 ≤ options.task }
@@ -140,7 +140,7 @@ pub fn count_shared<R: Threads + Wait + Sync, S: Source, K: Sink, B: Brake + Syn
     source: &mut S,
     sink: &mut K,
     brake: &B,
-    kept: &mut Kept,
+    kept: &mut KeptHeap,
 ) -> u8
     requires size { IsAreas (size_of_heap options) }
     requires lines { 1 ≤ options.task }

@@ -1,5 +1,5 @@
 use crate::forms::{Form, read_form};
-use crate::plain::{Kept, plain};
+use crate::plain::{KeptHeap, plain};
 use crate::threaded::{asks_threads, run};
 use epoch_lattice::{Space, below};
 use heap_core::Core;
@@ -18,7 +18,7 @@ const USAGE: &[u8] =
     b"usage: yak replay | threads | count [--workers n] [--task lines] [--pages p] [--feed] | gen n | trace | check\n";
 
 // The words of a line.
-pub(crate) fn words_of(alloc: Global, line: &str) -> Result<Vec<String>, AllocError> {
+pub(crate) fn split_words(alloc: Global, line: &str) -> Result<Vec<String>, AllocError> {
     let mut words = Vec::new(alloc);
     for word in line.split_whitespace() {
         words.push(String::from_str(alloc, word)?)?;
@@ -27,11 +27,11 @@ pub(crate) fn words_of(alloc: Global, line: &str) -> Result<Vec<String>, AllocEr
 }
 
 // The heap of one owner, where one is kept.
-fn kept_alone(kept: Kept) -> Option<Core<Image>> {
+fn kept_alone(kept: KeptHeap) -> Option<Core<Image>> {
     match kept {
-        Kept::Alone(core) => Some(core),
-        Kept::Shared(_finished) => None,
-        Kept::Nothing => None,
+        KeptHeap::Alone(core) => Some(core),
+        KeptHeap::Shared(_finished) => None,
+        KeptHeap::Nothing => None,
     }
 }
 
@@ -66,10 +66,10 @@ fn other_words_give_the_usage_line(rt: HostRuntime) -> Result<(), Fail> {
         ("count --feed --feed", 1),
         ("--feed", 1),
     ] {
-        let args = words_of(alloc, line)?;
+        let args = split_words(alloc, line)?;
         let mut source = SureSource::new(Vec::from_slice(alloc, FIRST_PATH)?);
         let mut sink = MemorySink::new(alloc, 200, Vec::new(alloc))?;
-        let mut kept = Kept::Nothing;
+        let mut kept = KeptHeap::Nothing;
         let ended = plain(alloc, &args, &mut source, &mut sink, &mut kept);
         assert_eq!(rt; ended, status, "{line}");
         let is_usage = sink.written() == USAGE;
@@ -116,7 +116,7 @@ fn counts_have_a_form(rt: HostRuntime) -> Result<(), Fail> {
         ("count -feed", None),
         ("count --task --feed", None),
     ] {
-        let args = words_of(alloc, line)?;
+        let args = split_words(alloc, line)?;
         let found = match read_form(&args) {
             Some(Form::Count(options)) => Some((
                 options.workers,
@@ -148,12 +148,12 @@ fn generated_scripts_are_summed_up(rt: HostRuntime) -> Result<(), Fail> {
             "calls 32\nmoved 4\npages free 63 region 0 control 1\n",
         ),
     ] {
-        let args = words_of(alloc, line)?;
+        let args = split_words(alloc, line)?;
         // A generated script reads nothing: the source's first call would fail.
         let fails = Vec::from_slice(alloc, &[1])?;
         let mut source = MemorySource::new(Vec::new(alloc), 5, fails);
         let mut sink = MemorySink::new(alloc, 100, Vec::new(alloc))?;
-        let mut kept = Kept::Nothing;
+        let mut kept = KeptHeap::Nothing;
         assert_eq!(rt;
             plain(alloc, &args, &mut source, &mut sink, &mut kept),
             0,
@@ -171,15 +171,15 @@ fn generated_scripts_are_summed_up(rt: HostRuntime) -> Result<(), Fail> {
 #[test]
 fn a_generated_script_runs_the_same_twice(rt: HostRuntime) -> Result<(), Fail> {
     let alloc = rt.alloc();
-    let args = words_of(alloc, "gen 2000")?;
+    let args = split_words(alloc, "gen 2000")?;
     let mut source = SureSource::new(Vec::new(alloc));
     let mut first = MemorySink::new(alloc, 100, Vec::new(alloc))?;
-    let mut kept = Kept::Nothing;
+    let mut kept = KeptHeap::Nothing;
     assert_eq!(rt; plain(alloc, &args, &mut source, &mut first, &mut kept), 0);
     let is_summary = first.written().starts_with(b"calls 15210\nmoved 1994\n");
     assert!(rt; is_summary);
     let mut second = MemorySink::new(alloc, 100, Vec::new(alloc))?;
-    let mut kept = Kept::Nothing;
+    let mut kept = KeptHeap::Nothing;
     assert_eq!(rt; plain(alloc, &args, &mut source, &mut second, &mut kept), 0);
     assert_eq!(rt; second.written(), first.written());
     Ok(())
@@ -256,10 +256,10 @@ fn words_are_counted(rt: HostRuntime) -> Result<(), Fail> {
         ("count --workers 1", "b\ta\r\nb", 0, "1 a\n2 b\n"),
         ("count --pages 1", "b a b", 7, ""),
     ] {
-        let args = words_of(alloc, line)?;
+        let args = split_words(alloc, line)?;
         let mut source = SureSource::new(Vec::from_slice(alloc, text.as_bytes())?);
         let mut sink = MemorySink::new(alloc, 100, Vec::new(alloc))?;
-        let mut kept = Kept::Nothing;
+        let mut kept = KeptHeap::Nothing;
         let ended = plain(alloc, &args, &mut source, &mut sink, &mut kept);
         assert_eq!(rt; ended, status, "{line}");
         assert_eq!(rt; sink.written(), written.as_bytes(), "{line}");
@@ -275,7 +275,7 @@ fn words_are_counted(rt: HostRuntime) -> Result<(), Fail> {
 #[test]
 fn long_words_are_told(rt: HostRuntime) -> Result<(), Fail> {
     let alloc = rt.alloc();
-    let args = words_of(alloc, "count")?;
+    let args = split_words(alloc, "count")?;
     for (letters, status) in [(WORD_LIMIT, 0), (WORD_LIMIT + 1, 8)] {
         let word = vec![in alloc; b'c'; letters as usize]?;
         let mut text = Vec::from_slice(alloc, b"b\n")?;
@@ -290,7 +290,7 @@ fn long_words_are_told(rt: HostRuntime) -> Result<(), Fail> {
         }
         let mut source = SureSource::new(text);
         let mut sink = MemorySink::new(alloc, 2000, Vec::new(alloc))?;
-        let mut kept = Kept::Nothing;
+        let mut kept = KeptHeap::Nothing;
         assert_eq!(rt;
             plain(alloc, &args, &mut source, &mut sink, &mut kept),
             status
@@ -303,11 +303,11 @@ fn long_words_are_told(rt: HostRuntime) -> Result<(), Fail> {
 #[test]
 fn a_fault_ends_a_count(rt: HostRuntime) -> Result<(), Fail> {
     let alloc = rt.alloc();
-    let args = words_of(alloc, "count --task 1")?;
+    let args = split_words(alloc, "count --task 1")?;
     let fails = Vec::from_slice(alloc, &[2])?;
     let mut source = MemorySource::new(Vec::from_slice(alloc, b"b a b\n")?, 5, fails);
     let mut sink = MemorySink::new(alloc, 100, Vec::new(alloc))?;
-    let mut kept = Kept::Nothing;
+    let mut kept = KeptHeap::Nothing;
     assert_eq!(rt; plain(alloc, &args, &mut source, &mut sink, &mut kept), 3);
     assert!(rt; sink.written().is_empty());
     let mut source = SureSource::new(Vec::from_slice(alloc, b"b a b\n")?);
@@ -320,10 +320,10 @@ fn a_fault_ends_a_count(rt: HostRuntime) -> Result<(), Fail> {
 #[test]
 fn the_kept_heap_answers_further_calls(rt: HostRuntime) -> Result<(), Fail> {
     let alloc = rt.alloc();
-    let args = words_of(alloc, "replay")?;
+    let args = split_words(alloc, "replay")?;
     let mut source = SureSource::new(Vec::from_slice(alloc, FIRST_PATH)?);
     let mut sink = MemorySink::new(alloc, 100, Vec::new(alloc))?;
-    let mut kept = Kept::Nothing;
+    let mut kept = KeptHeap::Nothing;
     assert_eq!(rt; plain(alloc, &args, &mut source, &mut sink, &mut kept), 0);
     assert_eq!(rt; sink.written(), b"2 ok\n3 int 7\n".as_slice());
     let Some(mut core) = kept_alone(kept) else {
@@ -338,7 +338,7 @@ fn the_kept_heap_answers_further_calls(rt: HostRuntime) -> Result<(), Fail> {
 #[test]
 fn scripts_are_replayed_or_refused(rt: HostRuntime) -> Result<(), Fail> {
     let alloc = rt.alloc();
-    let args = words_of(alloc, "replay")?;
+    let args = split_words(alloc, "replay")?;
     for (script, status, written) in [
         ("heap 4 1\n1 int 7\n1 get 1\n", 0, "2 ok\n3 int 7\n"),
         ("heap 4 1\n1 int 7\n1 get 1", 0, "2 ok\n3 int 7\n"),
@@ -409,7 +409,7 @@ fn scripts_are_replayed_or_refused(rt: HostRuntime) -> Result<(), Fail> {
     ] {
         let mut source = SureSource::new(Vec::from_slice(alloc, script.as_bytes())?);
         let mut sink = MemorySink::new(alloc, 100, Vec::new(alloc))?;
-        let mut kept = Kept::Nothing;
+        let mut kept = KeptHeap::Nothing;
         let ended = plain(alloc, &args, &mut source, &mut sink, &mut kept);
         assert_eq!(rt; ended, status, "{script}");
         assert_eq!(rt; sink.written(), written.as_bytes(), "{script}");
@@ -432,10 +432,10 @@ fn threads_run_their_lines(rt: HostRuntime) -> Result<(), Fail> {
         ("replay", "heap 4 1\n1 int 7\n1 get 1", 0, "2 ok\n3 int 7\n"),
         ("threads", "", 2, "line 1: bad header\n"),
     ] {
-        let args = words_of(alloc, line)?;
+        let args = split_words(alloc, line)?;
         let mut source = SureSource::new(Vec::from_slice(alloc, script.as_bytes())?);
         let mut sink = MemorySink::new(alloc, 100, Vec::new(alloc))?;
-        let mut kept = Kept::Nothing;
+        let mut kept = KeptHeap::Nothing;
         let ended = run(
             &rt,
             alloc,
@@ -454,11 +454,11 @@ fn threads_run_their_lines(rt: HostRuntime) -> Result<(), Fail> {
 #[test]
 fn the_heap_of_threads_answers_further_calls(rt: HostRuntime) -> Result<(), Fail> {
     let alloc = rt.alloc();
-    let args = words_of(alloc, "threads")?;
+    let args = split_words(alloc, "threads")?;
     assert!(rt; asks_threads(&args));
     let mut source = SureSource::new(Vec::from_slice(alloc, FIRST_PATH)?);
     let mut sink = MemorySink::new(alloc, 100, Vec::new(alloc))?;
-    let mut kept = Kept::Nothing;
+    let mut kept = KeptHeap::Nothing;
     let ended = run(
         &rt,
         alloc,
@@ -470,9 +470,9 @@ fn the_heap_of_threads_answers_further_calls(rt: HostRuntime) -> Result<(), Fail
     );
     assert_eq!(rt; ended, 0);
     let finished = match kept {
-        Kept::Shared(finished) => finished,
-        Kept::Alone(_core) => panic!(rt; "another heap was kept"),
-        Kept::Nothing => panic!(rt; "no heap was kept"),
+        KeptHeap::Shared(finished) => finished,
+        KeptHeap::Alone(_core) => panic!(rt; "another heap was kept"),
+        KeptHeap::Nothing => panic!(rt; "no heap was kept"),
     };
     let map = finished.map();
     let mut core = Core::over(finished, map);

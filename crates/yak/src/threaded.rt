@@ -1,6 +1,6 @@
 //! The top call for words of all forms.
 ghost use Rattle.std.specs.Prelude.{◌≡◌, ◌≤◌, map, [], IfOk, MatchBool, OnErr, length, string_bytes};
-ghost use Rattle.script_text.specs.declared.TheConstants.{INPUT_LIMIT};
+ghost use Rattle.yak_io.specs.declared.TheConstants.{INPUT_LIMIT};
 ghost use Rattle.yak.specs.Answers.{Answers};
 ghost use Rattle.yak.specs.Endings.{input_of, output_of, ends_by, KeepsNothing};
 ghost use Rattle.yak.specs.Forms.{IsReading, IsShared, IsThreads, IsTraced, IsUnshared, IsUntraced};
@@ -13,7 +13,7 @@ ghost use Rattle.yak.specs.Traced.{AnswersCheck, AnswersTrace};
 
 use crate::endings::Status;
 use crate::forms::read_form;
-use crate::plain::{Kept, Prepared, plain, read_input, refused, stopped};
+use crate::plain::{KeptHeap, Prepared, plain, read_input, refused, stopped};
 use crate::shared::{asked_count, count_shared};
 use crate::summaries::reply_lines;
 use heap_words::{Image, Words};
@@ -35,7 +35,7 @@ pub fn done(text: Result<Vec<u8>, NoMemory>, alloc: Global, finished: Finished) 
         Ok(text) => Prepared {
             status: Status::Done,
             text,
-            kept: Kept::Shared(finished),
+            kept: KeptHeap::Shared(finished),
         },
         Err(_) => stopped(alloc, Status::NoMemory),
     }
@@ -89,7 +89,7 @@ fn written<R: Threads + Wait + Sync, S: Source, K: Sink, B: Brake + Sync>(
     source: &mut S,
     sink: &mut K,
     brake: &B,
-    kept: &mut Kept,
+    kept: &mut KeptHeap,
 ) -> Status
     requires { KeepsNothing (kept_by ⟦<Image as Words>⟧.words kept.old) }
     ensures { ends_by threads_mean result
@@ -111,7 +111,7 @@ fn threads<R: Threads + Wait + Sync, S: Source, K: Sink, B: Brake + Sync>(
     source: &mut S,
     sink: &mut K,
     brake: &B,
-    kept: &mut Kept,
+    kept: &mut KeptHeap,
 ) -> u8
     requires { KeepsNothing (kept_by ⟦<Image as Words>⟧.words kept.old) }
     ensures { AnswersThreads result
@@ -148,7 +148,7 @@ pub fn run<R: Threads + Wait + Sync, S: Source, K: Sink, B: Brake + Sync>(
     source: &mut S,
     sink: &mut K,
     brake: &B,
-    kept: &mut Kept,
+    kept: &mut KeptHeap,
 ) -> u8
     requires { KeepsNothing (kept_by ⟦<Image as Words>⟧.words kept.old) }
     ensures threads { IsThreads (map string_bytes args.now) → AnswersThreads result

@@ -15,10 +15,10 @@ use crate::endings::Status;
 use crate::forms::{Tracing, read_form};
 use crate::plain::{read_input, refusal};
 use object_layout::NoMemory;
-use script_text::{Bad, INPUT_LIMIT, ReadError, Script, law_script_or_refusal, read_script};
+use script_text::{Bad, ReadError, Script, law_script_or_refusal, read_script};
 use std::alloc::{AllocError, Global};
 use trace_check::{TraceError, check, law_lawful_or_breaks, print_trace, read_trace, trace};
-use yak_io::{Sink, Source, write_all};
+use yak_io::{INPUT_LIMIT, Sink, Source, write_all};
 
 /// A status, and the text that belongs to it.
 #[derive(Drop)]

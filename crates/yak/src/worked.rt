@@ -1,7 +1,7 @@
 //! The worked scripts of `examples`, each by its name.
 
-use crate::plain::{Kept, plain};
-use crate::tests::words_of;
+use crate::plain::{KeptHeap, plain};
+use crate::tests::split_words;
 use crate::threaded::run;
 use std::test::Fail;
 use yak_io::{MemorySink, NoBrake, SureSource};
@@ -9,8 +9,8 @@ use yak_io::{MemorySink, NoBrake, SureSource};
 #[test]
 fn worked_scripts_have_their_replies(rt: HostRuntime) -> Result<(), Fail> {
     let alloc = rt.alloc();
-    let args = words_of(alloc, "replay")?;
-    let in_threads = words_of(alloc, "threads")?;
+    let args = split_words(alloc, "replay")?;
+    let in_threads = split_words(alloc, "threads")?;
     for (name, script, replies) in [
         (
             "collection_frees_the_popped",
@@ -136,7 +136,7 @@ fn worked_scripts_have_their_replies(rt: HostRuntime) -> Result<(), Fail> {
     ] {
         let mut source = SureSource::new(Vec::from_slice(alloc, script.as_bytes())?);
         let mut sink = MemorySink::new(alloc, 1000, Vec::new(alloc))?;
-        let mut kept = Kept::Nothing;
+        let mut kept = KeptHeap::Nothing;
         let ended = plain(alloc, &args, &mut source, &mut sink, &mut kept);
         assert_eq!(rt; ended, 0, "{name}");
         assert_eq!(rt; sink.written(), replies.as_bytes(), "{name}");
@@ -146,7 +146,7 @@ fn worked_scripts_have_their_replies(rt: HostRuntime) -> Result<(), Fail> {
         }
         let mut source = SureSource::new(Vec::from_slice(alloc, script.as_bytes())?);
         let mut sink = MemorySink::new(alloc, 1000, Vec::new(alloc))?;
-        let mut kept = Kept::Nothing;
+        let mut kept = KeptHeap::Nothing;
         let ended = run(
             &rt,
             alloc,

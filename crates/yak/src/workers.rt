@@ -1,10 +1,11 @@
 //! Counts by workers with threads of their own.
 
-use crate::plain::Kept;
+use crate::plain::KeptHeap;
 use crate::shared::asked_count;
+use crate::tests::split_words;
 use crate::threaded::run;
 use object_layout::WORD_LIMIT;
-use std::alloc::{AllocError, Global};
+use std::alloc::Global;
 use std::sync::atomic::{AtomicU64, Ordering};
 use std::test::Fail;
 use yak_io::{Brake, MemorySink, MemorySource, NoBrake, SureSource};
@@ -19,24 +20,15 @@ const USAGE: &str =
 // The most turns that a worker waits for the other.
 const TURNS: u64 = 100_000_000;
 
-// The words of a line.
-fn words_of(alloc: Global, line: &str) -> Result<Vec<String>, AllocError> {
-    let mut words = Vec::new(alloc);
-    for word in line.split_whitespace() {
-        words.push(String::from_str(alloc, word)?)?;
-    }
-    Ok(words)
-}
-
 // The pages and the threads of a heap that threads shared, where one is kept.
-fn kept_shared(kept: Kept) -> Option<(u32, u8)> {
+fn kept_shared(kept: KeptHeap) -> Option<(u32, u8)> {
     match kept {
-        Kept::Alone(_core) => None,
-        Kept::Shared(finished) => {
+        KeptHeap::Alone(_core) => None,
+        KeptHeap::Shared(finished) => {
             let map = finished.map();
             Some((map.pages, map.threads))
         }
-        Kept::Nothing => None,
+        KeptHeap::Nothing => None,
     }
 }
 
@@ -99,10 +91,10 @@ fn workers_count_words(rt: HostRuntime) -> Result<(), Fail> {
         ),
         ("count --feed --feed", LINES, 1, USAGE, None),
     ] {
-        let args = words_of(alloc, line)?;
+        let args = split_words(alloc, line)?;
         let mut source = SureSource::new(Vec::from_slice(alloc, text.as_bytes())?);
         let mut sink = MemorySink::new(alloc, 200, Vec::new(alloc))?;
-        let mut kept = Kept::Nothing;
+        let mut kept = KeptHeap::Nothing;
         let ended = run(
             &rt,
             alloc,
@@ -130,10 +122,10 @@ fn any_workers_and_tasks_give_the_same_bytes(rt: HostRuntime) -> Result<(), Fail
                 let line = format!(in alloc;
                     "count {feed} --workers {workers} --task {task} --pages 64"
                 )?;
-                let args = words_of(alloc, &line)?;
+                let args = split_words(alloc, &line)?;
                 let mut source = SureSource::new(Vec::from_slice(alloc, text.as_bytes())?);
                 let mut sink = MemorySink::new(alloc, 100, Vec::new(alloc))?;
-                let mut kept = Kept::Nothing;
+                let mut kept = KeptHeap::Nothing;
                 let ended = run(
                     &rt,
                     alloc,
@@ -192,10 +184,10 @@ fn two_workers_meet(rt: HostRuntime) -> Result<(), Fail> {
         "count --workers 2 --task=1",
         "count --feed --workers 2 --task 1",
     ] {
-        let args = words_of(alloc, line)?;
+        let args = split_words(alloc, line)?;
         let mut source = SureSource::new(Vec::from_slice(alloc, LINES.as_bytes())?);
         let mut sink = MemorySink::new(alloc, 100, Vec::new(alloc))?;
-        let mut kept = Kept::Nothing;
+        let mut kept = KeptHeap::Nothing;
         let brake = Meeting {
             first: AtomicU64::new(0),
             second: AtomicU64::new(0),
@@ -220,7 +212,7 @@ fn workers_tell_long_words(rt: HostRuntime) -> Result<(), Fail> {
         ("count --feed --task 1", WORD_LIMIT, 0),
         ("count --feed --task 1", WORD_LIMIT + 1, 8),
     ] {
-        let args = words_of(alloc, line)?;
+        let args = split_words(alloc, line)?;
         let word = vec![in alloc; b'c'; letters as usize]?;
         let mut text = Vec::from_slice(alloc, b"b\n")?;
         text.extend_from_slice(&word)?;
@@ -234,7 +226,7 @@ fn workers_tell_long_words(rt: HostRuntime) -> Result<(), Fail> {
         }
         let mut source = SureSource::new(text);
         let mut sink = MemorySink::new(alloc, 2000, Vec::new(alloc))?;
-        let mut kept = Kept::Nothing;
+        let mut kept = KeptHeap::Nothing;
         let ended = run(
             &rt,
             alloc,
@@ -260,12 +252,12 @@ fn a_fault_ends_a_count_by_workers(rt: HostRuntime) -> Result<(), Fail> {
         ("count --feed --workers 2 --task 1", 2, 100, 3, ""),
         ("count --feed --workers 2 --task 1", 9, 4, 4, "1 a\n"),
     ] {
-        let args = words_of(alloc, line)?;
+        let args = split_words(alloc, line)?;
         assert!(rt; asked_count(&args).is_some(), "{line}");
         let fails = Vec::from_slice(alloc, &[failing])?;
         let mut source = MemorySource::new(Vec::from_slice(alloc, b"b a b\n")?, 5, fails);
         let mut sink = MemorySink::new(alloc, room, Vec::new(alloc))?;
-        let mut kept = Kept::Nothing;
+        let mut kept = KeptHeap::Nothing;
         let ended = run(
             &rt,
             alloc,

@@ -13,6 +13,9 @@ pub use standard::{StdSink, StdSource};
 pub use traits::{Failed, Sink, Source};
 pub use whole::{ReadAllError, read_all, write_all};
 
+/// The greatest number of bytes of a script or text that is read.
+pub const INPUT_LIMIT: usize = 16777216;
+
 #[cfg(test)]
 mod tests {
     use super::*;

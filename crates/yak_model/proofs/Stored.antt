@@ -17,7 +17,7 @@ use Rattle.yak_model.specs.declared.datum.Datum.TheVariants.{Null, Int, Object}
 use Rattle.epoch_lattice.specs.Lattice.{space_index}
 use Rattle.yak_model.specs.State.{Thing, State, IsDatum}
 use Rattle.yak_model.specs.Placed.{datum_word, Places, names_of, size_by, words_by, used_mark, Tiles, HeapStands, same_name, with_object, with_field}
-use Rattle.yak_model.specs.Stands.{StandsAs, words_in, words_of, pages_of, current}
+use Rattle.yak_model.specs.Stands.{StandsAs, words_in, words_taken, pages_of, current}
 use Rattle.yak_model.proofs.Placed.{same_name-true, held-store}
 
 -- what does not tell the new object from the old one
@@ -106,6 +106,6 @@ stands-store m c s l n o f v h here lt datum within =
       dense = λ t d ht hm hd hg some.
           let w = h.dense t d ht hm hd hg some in
           let x : Space = Region t d in
-          let same : words_of l.pages (with_object s.objects n p) x ≡ words_of l.pages s.objects x = ap (λ (g : Name → ℕ). sum_by (λ (ns : List Name). sum_by g ns) l.pages) (fun_ext (unchanged (words_in x) s.objects n o p (words-same x o f v) here)) in
+          let same : words_taken l.pages (with_object s.objects n p) x ≡ words_taken l.pages s.objects x = ap (λ (g : Name → ℕ). sum_by (λ (ns : List Name). sum_by g ns) l.pages) (fun_ext (unchanged (words_in x) s.objects n o p (words-same x o f v) here)) in
           (w.0, subst (λ k. page_words m * (pages_of c.table x - 1) + used_mark c.table (current c.currents t d - 1) ≤ 2 * k) (sym same) w.1);
     }

@@ -11,7 +11,8 @@ use Rattle.object_layout.specs.declared.replies.Reply.TheVariants as reply
 use Rattle.object_layout.specs.declared.TheConstants.{MAX_DEPTH, MAX_SERIAL, OBJECT_WORDS, PAGE_WORDS}
 use Rattle.yak_model.specs.declared.datum.Datum.{Datum}
 use Rattle.yak_model.specs.declared.datum.Datum.TheVariants as datum
-use Rattle.yak_model.specs.declared.TheConstants.{ROOT_FIELDS, STACK_SLOTS}
+use Rattle.yak_model.specs.declared.TheConstants.{ROOT_FIELDS}
+use Rattle.heap_words.specs.declared.TheConstants.{STACK_SLOTS}
 use Rattle.yak_model.specs.Names.{name_cmp, root_name}
 
 -- the page size in words, and the greatest depth of a thread's epochs

@@ -9,7 +9,7 @@ use Rattle.epoch_lattice.specs.declared.Space.{Space}
 use Rattle.epoch_lattice.specs.declared.Space.TheVariants.{Control, Region}
 use Rattle.yak_model.specs.Spaces.{SpaceState}
 use Rattle.yak_model.specs.State.{Thing, State, view}
-use Rattle.yak_model.specs.Stands.{Stands, pages_of, words_of, free_pages, current}
+use Rattle.yak_model.specs.Stands.{Stands, pages_of, words_taken, free_pages, current}
 use Rattle.yak_model.specs.Placed.{Places, used_mark}
 
 -- A space of this heap: Control, or a region of one of its threads.
@@ -19,7 +19,7 @@ IsSpaceOf m (Region t d) = HasRegion m t d
 
 -- The pages of a space are half full, but for one page.
 abbrev pub PackedAs : Areas → List (List ℕ) → List (List Name) → (Name → Option Thing) → Space → Type 0
-PackedAs m table pages objects x = page_words m * pages_of table x ≤ 2 * words_of pages objects x + page_words m
+PackedAs m table pages objects x = page_words m * pages_of table x ≤ 2 * words_taken pages objects x + page_words m
 
 -- The words left in a thread's current page in its innermost space, 0 where it has none.
 abbrev pub words_left : Areas → Contents → ℕ → ℕ

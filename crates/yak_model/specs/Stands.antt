@@ -76,12 +76,12 @@ abbrev pub words_in : Space → Option Thing → ℕ
 words_in x None = 0
 words_in x (Some o) = cond (space_index o.home == space_index x) (length o.fields + OBJECT_WORDS) 0
 
-abbrev pub words_of : List (List Name) → (Name → Option Thing) → Space → ℕ
-words_of pages objects x = sum_by (λ (ns : List Name). sum_by (λ (n : Name). words_in x (objects n)) ns) pages
+abbrev pub words_taken : List (List Name) → (Name → Option Thing) → Space → ℕ
+words_taken pages objects x = sum_by (λ (ns : List Name). sum_by (λ (n : Name). words_in x (objects n)) ns) pages
 
 -- A region of the heap that has pages has a current page, and its pages but that one are half full, counting the words of all.
 abbrev pub RegionsDense : Areas → List (List ℕ) → List (List ℕ) → List (List Name) → (Name → Option Thing) → Type 0
-RegionsDense m table currents pages objects = (t d : ℕ) → 1 ≤ t → t ≤ m.threads → 1 ≤ d → d ≤ max_depth m → 0 < pages_of table (Region t d) → (current currents t d ≢ 0) × (page_words m * (pages_of table (Region t d) - 1) + used_mark table (current currents t d - 1) ≤ 2 * words_of pages objects (Region t d))
+RegionsDense m table currents pages objects = (t d : ℕ) → 1 ≤ t → t ≤ m.threads → 1 ≤ d → d ≤ max_depth m → 0 < pages_of table (Region t d) → (current currents t d ≢ 0) × (page_words m * (pages_of table (Region t d) - 1) + used_mark table (current currents t d - 1) ≤ 2 * words_taken pages objects (Region t d))
 
 -- The words stand for what is shown of a state, whose objects lie so. Slots above a stack's length, entries above a
 -- buffer's and words above a used mark are not looked at.

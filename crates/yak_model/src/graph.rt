@@ -9,8 +9,9 @@ ghost use Rattle.yak_model.specs.Names.{root_name};
 ghost use Rattle.std.specs.FinMap.{empty, get, insert};
 ghost use Rattle.object_layout.specs.Calls.{IsCall};
 
+use crate::ROOT_FIELDS;
 use crate::datum::Datum;
-use crate::{ROOT_FIELDS, STACK_SLOTS};
+use heap_words::STACK_SLOTS;
 use object_layout::{
     Call, MAX_DEPTH, MAX_SERIAL, MAX_THREADS, Name, NoMemory, OBJECT_WORDS, PAGE_WORDS, Refusal,
     Reply,

@@ -19,8 +19,6 @@ pub use graph::{GraphState, ObjectMap};
 pub use history::Entry;
 pub use space_state::SpaceState;
 
-/// The greatest number of slots of a stack.
-pub const STACK_SLOTS: usize = 64;
 /// The most words that the objects of a heap take: each fits a page, and there are the root and what each thread made.
 pub const MOST_WORDS: u64 = 576460752303421696;
 /// The fields of the root object.

@@ -12,7 +12,8 @@ use Rattle.group_jobs.specs.Tallies.{AreShort, IsProgress, busy_tasks, words_in}
 use Rattle.group_jobs.specs.declared.count.CountError.{CountError}
 use Rattle.group_jobs.specs.declared.count.CountError.TheVariants.{Memory, OutOfHeap}
 use Rattle.group_jobs.specs.Tasks.{AreTasks}
-use Rattle.group_jobs.specs.declared.TheConstants.{INPUT_LIMIT, MOST_WORDS}
+use Rattle.group_jobs.specs.declared.TheConstants.{MOST_WORDS}
+use Rattle.yak_io.specs.declared.TheConstants.{INPUT_LIMIT}
 use Rattle.group_jobs.specs.declared.tasks.Task.{Task}
 use Rattle.group_jobs.proofs.Counting.{none_long}
 use Rattle.yak_model.specs.Private.{KnownObjects}

@@ -1,6 +1,6 @@
 use Rattle.std.proofs.Common.{◌≡◌, ℕ, ◌+◌, ◌≤◌, List, [], true, false, length, ap, sym, subst, ◌∙◌, arith}
 use Rattle.object_layout.specs.declared.names.Name.{Name}
-use Rattle.yak_model.specs.declared.TheConstants.{STACK_SLOTS}
+use Rattle.heap_words.specs.declared.TheConstants.{STACK_SLOTS}
 use Rattle.yak_model.specs.Private.{KnownObjects}
 use Rattle.yak_model.specs.Standing.{Standing}
 use Rattle.group_jobs.specs.Alone.{IsListed}

@@ -2,7 +2,7 @@ use Rattle.std.proofs.Common.{◌≡◌, ℕ, List, Vec, [], Ok, length, ◌++�
 use Rattle.std.specs.declared.alloc.Global.{Global}
 use Rattle.std.proofs.lemmas.Result.{IfOk-at_ok}
 use Rattle.heap_words.specs.declared.map.Areas.{Areas}
-use Rattle.task_feed.specs.Contents.{Contents, lists_in}
+use Rattle.task_feed.specs.FeedContents.{FeedContents, lists_in}
 use Rattle.task_feed.specs.Dealt.{IsDealt}
 use Rattle.group_jobs.specs.Dealings.{row_at}
 use Rattle.group_jobs.specs.Shared.{IsCountedFed}
@@ -81,7 +81,7 @@ returns-in-Ok-close_team-clause-dealt g c others are =
     let told : c.sum_up-counted.result ≡ Ok c.in-Ok-close_team.field-0.list = c.in-Ok-close_team.ensures.list in
     let none = subst NoneRefused (sym whole) (IfOk-at_ok (λ (list : Vec (List ℕ × ℕ) Global). NoneRefused new) told c.sum_up-counted.ensures.unrefused) in
     let size : Areas = record { pages = c.args.pages; threads = c.args.workers } in
-    let here : lists_in c.taken.inside.rows.items ≡ rows = ap (λ (x : Contents). x.rows) c.taken.view_is in
+    let here : lists_in c.taken.inside.rows.items ≡ rows = ap (λ (x : FeedContents). x.rows) c.taken.view_is in
     let many : length rows ≡ c.args.workers = c.in-Ok-fed.ensures.rows ∙ c.in-Ok.ensures.length in
     let workers : length back ≡ c.args.workers = ap length whole ∙ c.sum_up-counted.auto.team ∙ ap length c.as_mut_slice.ensures.value ∙ c.in-Ok-fed.ensures.length ∙ c.in-Ok.ensures.length in
     subst (λ (l : List (List ℕ)). IsDealt (length others) l []) (sym here) (fed_dealt gate size c.in-Ok.ensures.map c.args.lines bytes opened.tasks.items rows left back c.in-Ok.ensures.cut have many workers none others are)
@@ -104,7 +104,7 @@ returns-in-Ok-close_team-clause-counted g c =
     let told : c.sum_up-counted.result ≡ Ok c.in-Ok-close_team.field-0.list = c.in-Ok-close_team.ensures.list in
     let none = subst NoneRefused (sym whole) (IfOk-at_ok (λ (list : Vec (List ℕ × ℕ) Global). NoneRefused new) told c.sum_up-counted.ensures.unrefused) in
     let size : Areas = record { pages = c.args.pages; threads = c.args.workers } in
-    let here : lists_in c.taken.inside.rows.items ≡ rows = ap (λ (x : Contents). x.rows) c.taken.view_is in
+    let here : lists_in c.taken.inside.rows.items ≡ rows = ap (λ (x : FeedContents). x.rows) c.taken.view_is in
     let many : length rows ≡ c.args.workers = c.in-Ok-fed.ensures.rows ∙ c.in-Ok.ensures.length in
     let workers : length back ≡ c.args.workers = ap length whole ∙ c.sum_up-counted.auto.team ∙ ap length c.as_mut_slice.ensures.value ∙ c.in-Ok-fed.ensures.length ∙ c.in-Ok.ensures.length in
     let view = c.in-Ok-close_team.field-0.finished.seat.me.0 in
@@ -129,7 +129,7 @@ returns-in-Ok-close_team-clause-room g c =
     let told : c.sum_up-counted.result ≡ Ok c.in-Ok-close_team.field-0.list = c.in-Ok-close_team.ensures.list in
     let none = subst NoneRefused (sym whole) (IfOk-at_ok (λ (list : Vec (List ℕ × ℕ) Global). NoneRefused new) told c.sum_up-counted.ensures.unrefused) in
     let size : Areas = record { pages = c.args.pages; threads = c.args.workers } in
-    let here : lists_in c.taken.inside.rows.items ≡ rows = ap (λ (x : Contents). x.rows) c.taken.view_is in
+    let here : lists_in c.taken.inside.rows.items ≡ rows = ap (λ (x : FeedContents). x.rows) c.taken.view_is in
     let many : length rows ≡ c.args.workers = c.in-Ok-fed.ensures.rows ∙ c.in-Ok.ensures.length in
     let workers : length back ≡ c.args.workers = ap length whole ∙ c.sum_up-counted.auto.team ∙ ap length c.as_mut_slice.ensures.value ∙ c.in-Ok-fed.ensures.length ∙ c.in-Ok.ensures.length in
     fed_room gate size c.in-Ok.ensures.map c.args.lines bytes opened.tasks.items rows left back c.in-Ok.ensures.cut have many workers none c.in-Ok-close_team.ensures.room

@@ -3,7 +3,7 @@ use Rattle.heap_words.specs.declared.map.Areas.{Areas}
 use Rattle.object_layout.specs.declared.replies.Reply.{Reply}
 use Rattle.mutator.specs.Resting.{seats_of}
 use Rattle.script_text.specs.declared.scripts.Line.{Line}
-use Rattle.script_text.specs.Contents.{Contents}
+use Rattle.script_text.specs.ScriptContents.{ScriptContents}
 use Rattle.script_runner.specs.declared.workers.Worker.{Worker}
 use Rattle.script_runner.specs.Threaded.{IsThreaded}
 use Rattle.script_runner.specs.Workers.{AllThere, AreGathered, AreSeats}
@@ -13,7 +13,7 @@ use Rattle.script_runner.proofs.workers.run_threads.Goals as goal
 
 pub run_workers-requires-clause-calls : goal.run_workers-requires-clause-calls
 run_workers-requires-clause-calls g c κs within =
-    let same = c.as_slice-lines.ensures.value ∙ ap (λ (s : Contents). s.lines) c.script.view_is in
+    let same = c.as_slice-lines.ensures.value ∙ ap (λ (s : ScriptContents). s.lines) c.script.view_is in
     λ k d lt. (runs_at c.args.script.now c.as_slice-lines.result.now k d same lt c.requires.valid).number
 
 pub gather-requires-clause-threads : goal.gather-requires-clause-threads
@@ -23,9 +23,9 @@ gather-requires-clause-threads g c =
     let workers = c.run_workers.new.workers in
     let many : c.in_ok-workers.workers.len ≡ length workers = let a = c.in_ok-workers.workers.ok.0 in let b = c.run_workers.auto.workers in let d = ap length c.as_mut_slice.ensures.value in omega arith in
     let whole = front c.in_ok-workers.workers.len workers (drop (length workers) c.in_ok-workers.workers.items) many in
-    let same = c.as_slice-lines.ensures.value ∙ ap (λ (s : Contents). s.lines) c.script.view_is in
+    let same = c.as_slice-lines.ensures.value ∙ ap (λ (s : ScriptContents). s.lines) c.script.view_is in
     let long : length c.as_slice.result.now ≡ length workers = ap length (c.as_slice.ensures.value ∙ whole) in
-    let threads = ap (λ (s : Contents). s.heap.threads) c.script.view_is in
+    let threads = ap (λ (s : ScriptContents). s.heap.threads) c.script.view_is in
     let hired = c.in_ok-workers.ensures.length in
     let count = c.in-Ok.ensures.count in
     let size = c.in_ok-workers.workers.ok.0 in
@@ -66,7 +66,7 @@ returns g c =
     let workers = c.run_workers.new.workers in
     let many : c.in_ok-workers.workers.len ≡ length workers = let a = c.in_ok-workers.workers.ok.0 in let b = c.run_workers.auto.workers in let d = ap length c.as_mut_slice.ensures.value in omega arith in
     let whole = front c.in_ok-workers.workers.len workers (drop (length workers) c.in_ok-workers.workers.items) many in
-    let same = c.as_slice-lines.ensures.value ∙ ap (λ (s : Contents). s.lines) c.script.view_is in
+    let same = c.as_slice-lines.ensures.value ∙ ap (λ (s : ScriptContents). s.lines) c.script.view_is in
     let size = c.args.script.now.heap in
     let seats = seats_of c.dismiss.new.back.items in
     let replies = c.gather.new.replies in
@@ -79,8 +79,8 @@ returns g c =
     c.run_workers.auto.workers ∙ (ap length c.as_mut_slice.ensures.value ∙ (c.in_ok-workers.ensures.length ∙ (c.in-Ok.ensures.count ∙ sym (ap (λ (m : Areas). m.threads) map)))) in
     let run =
     threaded gate lines workers c.run_workers.ensures.ran size replies seats c.finish.result.seat.me.0 c.finish.ensures.map
-    (ap (λ (m : Areas). m.pages) map ∙ ap (λ (s : Contents). s.heap.pages) c.script.view_is)
-    (ap (λ (m : Areas). m.threads) map ∙ ap (λ (s : Contents). s.heap.threads) c.script.view_is)
+    (ap (λ (m : Areas). m.pages) map ∙ ap (λ (s : ScriptContents). s.heap.pages) c.script.view_is)
+    (ap (λ (m : Areas). m.threads) map ∙ ap (λ (s : ScriptContents). s.heap.threads) c.script.view_is)
     hired (c.in_ok-dismiss.ensures.length ∙ ap length whole) each
     (subst (λ (ws : List Worker). AreSeats ws seats) whole c.in_ok-dismiss.ensures.each)
     (subst (λ (ws : List Worker). AreGathered lines ws replies) (c.as_slice.ensures.value ∙ whole) c.gather.ensures)

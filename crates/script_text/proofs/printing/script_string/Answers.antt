@@ -3,20 +3,20 @@ use Rattle.std.proofs.lemmas.List.{drop_all}
 use Rattle.std.proofs.Math.Seq.{drop-cons}
 use Rattle.object_layout.specs.declared.calls.Call.TheVariants.{Int}
 use Rattle.script_text.specs.declared.scripts.Line.{Line}
-use Rattle.script_text.specs.Contents.{Contents}
+use Rattle.script_text.specs.ScriptContents.{ScriptContents}
 use Rattle.script_text.specs.Scripts.{header_words}
 use Rattle.script_text.specs.Printing.{spaced}
 use Rattle.script_text.proofs.Spelling.{IsPrintedTo, begins, goes_on, ends, ends_text}
 use Rattle.script_text.proofs.printing.script_string.Goals as goal
 
-lines_of : Contents → List Line
+lines_of : ScriptContents → List Line
 lines_of script = script.lines
 
 abbrev blank : Line
 blank = record { number = 0; thread = 0; call = Int 0 }
 
 -- before a line is printed
-opened : (script : Contents) (text : List ℕ) (number : ℕ) (shown : List Line) (i : ℕ) → shown ≡ script.lines → i < length shown → IsPrintedTo script text number (drop i script.lines)
+opened : (script : ScriptContents) (text : List ℕ) (number : ℕ) (shown : List Line) (i : ℕ) → shown ≡ script.lines → i < length shown → IsPrintedTo script text number (drop i script.lines)
     → IsPrintedTo script text number (get_or shown i blank ∷ drop (i + 1) script.lines)
 opened script text number shown i same lt so_far =
     let left : drop i shown ≡ get_or shown i blank ∷ drop (i + 1) shown = rw add-one (drop-cons shown i blank lt) in

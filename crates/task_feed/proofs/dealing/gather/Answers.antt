@@ -5,7 +5,7 @@ use Rattle.std.specs.declared.alloc.Global.{Global}
 use Rattle.std.specs.Vec.{vec_len}
 use Rattle.task_feed.specs.Dealt.{places}
 use Rattle.task_feed.specs.Hands.{together}
-use Rattle.task_feed.specs.Contents.{lists_in}
+use Rattle.task_feed.specs.FeedContents.{lists_in}
 use Rattle.task_feed.specs.Takers.{TakesFrom, has_ended, row_of}
 use Rattle.task_feed.specs.declared.takers.Taker.{Taker}
 use Rattle.task_feed.specs.declared.hands.Hand.{Hand}

@@ -2,7 +2,7 @@ use Rattle.std.proofs.Common.{◌≡◌, ◌+◌, ◌<◌, ◌≤◌, ◌++◌, 
 use Rattle.std.specs.Vec.{vec_capacity}
 use Rattle.crossbeam_queue.specs.Passes.{IsPassOf, view}
 use Rattle.task_feed.specs.Dealt.{places}
-use Rattle.task_feed.specs.Contents.{lists_in}
+use Rattle.task_feed.specs.FeedContents.{lists_in}
 use Rattle.task_feed.specs.Takers.{TakesFrom, has_ended, row_of}
 use Rattle.task_feed.proofs.dealing.gather.Given as goal
 

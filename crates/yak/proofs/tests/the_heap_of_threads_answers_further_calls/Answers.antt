@@ -7,8 +7,8 @@ use Rattle.yak_model.specs.Recorded.{SomeRecorded}
 use Rattle.safepoint_gate.specs.declared.finished.Finished.{Finished}
 use Rattle.safepoint_gate.specs.declared.rule.View.{View}
 use Rattle.mutator.proofs.Stepped.{some_recorded}
-use Rattle.yak.specs.declared.plain.Kept.{Kept}
-use Rattle.yak.specs.declared.plain.Kept.TheVariants.{Shared}
+use Rattle.yak.specs.declared.plain.KeptHeap.{KeptHeap}
+use Rattle.yak.specs.declared.plain.KeptHeap.TheVariants.{Shared}
 use Rattle.yak.specs.Endings.{Input, Output}
 use Rattle.yak.specs.Keeping.{Keeping, nothing, alone, shared, kept_by}
 use Rattle.yak.specs.Threaded.{AnswersThreads}
@@ -23,7 +23,7 @@ view_in v (shared w) = w
 holds : (P Q : Type 0) (b : Bool) → b ≡ true → MatchBool b P Q → P
 holds P Q b e h = subst (λ c. MatchBool c P Q) e h
 
-kept_recorded : (words_of : Image → List ℕ) (kept : Kept) (finished : Finished) (number : ℕ) (input : Input) (output : Output) → AnswersThreads number input output (kept_by words_of kept) → number ≡ 0 → kept ≡ Shared finished
+kept_recorded : (words_of : Image → List ℕ) (kept : KeptHeap) (finished : Finished) (number : ℕ) (input : Input) (output : Output) → AnswersThreads number input output (kept_by words_of kept) → number ≡ 0 → kept ≡ Shared finished
     → let v = finished.seat.me.0 in SomeRecorded v.map (contents v.map v.words)
 kept_recorded words_of kept finished number input output answers zero is =
     let ends = answers.runs zero in

@@ -3,7 +3,7 @@ use Rattle.std.specs.Prelude.{ℕ, List, Vec, map}
 use Rattle.std.specs.declared.alloc.Global.{Global}
 
 -- which tasks each taker took, and which nobody took
-pub record Contents : Type 0 where
+pub record FeedContents : Type 0 where
   pub rows : List (List ℕ)
   pub left : List ℕ
 

@@ -1,7 +1,7 @@
 use Rattle.std.proofs.Common.{◌∙◌, sym}
 use Rattle.std.proofs.lemmas.Bool.{eqb-false, eqb-true}
 use Rattle.group_jobs.proofs.Cutting.{last_word, word_first, word_later}
-use Rattle.group_jobs.proofs.words.Words.next.Goals as goal
+use Rattle.group_jobs.proofs.words.TextWords.next.Goals as goal
 
 pub returns-then-not-is_empty-clause-value : goal.returns-then-not-is_empty-clause-value
 returns-then-not-is_empty-clause-value c =
