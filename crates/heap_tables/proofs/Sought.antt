@@ -44,10 +44,6 @@ pub chain_front : (known : KnownObjects) (head : Datum) (links : List Link) → 
 chain_front known head [] chain = chain
 chain_front known head (l ∷ links) chain = chain.0
 
-pub first_link : (known : KnownObjects) (head : Datum) (links : List Link) → IsChain known head links → head ≢ datum.Null → (next : Datum) × (link : Link) × (head ≡ datum.Object link.entry) × IsEntry known next link
-first_link known head [] chain null = absurd (null chain)
-first_link known head (link ∷ links) chain null = (chain.1.0, link, chain.0, chain.1.1)
-
 module _ (s : Standing) (known : KnownObjects) (table : ℕ) (name : Name) (values : List Datum) (b : ℕ) (links : List Link) (at : IsAtChain s known table b name values links) where
   pub start_skip : (knows : KnownObjects → Type 0) → knows known → IsSkipped known name values b links knows
   start_skip knows k =

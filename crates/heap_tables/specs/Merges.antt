@@ -249,3 +249,23 @@ pub record IsMergedPart {S B : Type 0} (base : S → B) (tells : S → ℕ → T
   pub new_words : made ≡ news into_counts done
   pub ran_out : RanOut base tells tells_known standing a b (made * entry_words) ENTRY_FIELDS
   pub own : (standing b).own ≡ having_made (standing a).own made
+
+-- ---- the clauses of a merge
+
+-- The counts of one table were added to the other, for each known map in which slots refer to the two.
+abbrev pub MergesAll : {S B : Type 0} → (S → B) → (S → ℕ → Thread → Type 0) → (S → ℕ → KnownObjects → Type 0) → (S → Standing) → ℕ → ℕ → S → S → (KnownObjects → Type 0) → (KnownObjects → Type 0) → Type 0
+MergesAll base tells tells_known standing from into a b knows later =
+    (known : KnownObjects) (from_name into_name : Name) (from_counts into_counts : WordCounts) (may : MayMerge (standing a) known from into from_name into_name from_counts into_counts)
+    → knows known → IsMergedWhole base tells tells_known standing known from_name into_name from_counts into_counts (may.from_table).buckets (may.into_table).buckets a b later
+
+-- The counts before an entry for which there was no room were added, for each known map in which slots refer to the two.
+abbrev pub MergesPart : {S B : Type 0} → (S → B) → (S → ℕ → Thread → Type 0) → (S → ℕ → KnownObjects → Type 0) → (S → Standing) → ℕ → ℕ → S → S → (KnownObjects → Type 0) → (KnownObjects → Type 0) → Type 0
+MergesPart base tells tells_known standing from into a b knows later =
+    (known : KnownObjects) (from_name into_name : Name) (from_counts into_counts : WordCounts) (may : MayMerge (standing a) known from into from_name into_name from_counts into_counts)
+    → knows known → IsMergedPart base tells tells_known standing known from_name into_name from_counts into_counts (may.from_table).buckets (may.into_table).buckets a b later
+
+-- Known maps that have neither table stay known.
+abbrev pub LeavesAside : Standing → ℕ → ℕ → (KnownObjects → Type 0) → (KnownObjects → Type 0) → Type 0
+LeavesAside s from into knows later =
+    (known : KnownObjects) (from_name into_name : Name) (from_counts into_counts : WordCounts) (may : MayMerge s known from into from_name into_name from_counts into_counts) (other : KnownObjects)
+    → knows known → knows other → LacksTable other from_name (may.from_table).buckets → LacksTable other into_name (may.into_table).buckets → later other

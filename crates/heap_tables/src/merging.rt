@@ -10,16 +10,15 @@ ghost use Rattle.yak_model.specs.declared.datum.Datum.TheVariants as datum;
 ghost use Rattle.yak_model.specs.Private.{KnownObjects, IsKnown};
 ghost use Rattle.yak_model.specs.Room.{entry_words};
 ghost use Rattle.yak_model.specs.Tables.{Link};
-ghost use Rattle.yak_model.specs.Texts.{WordCounts};
 ghost use Rattle.heap_tables.specs.declared.TheConstants.{FREE_SLOTS, KEPT_SLOTS, KEY_BYTES, MOST_MADE, NOTED};
 ghost use Rattle.heap_tables.specs.Adds.{having_made};
 ghost use Rattle.yak_model.specs.Graph.{Thread};
 ghost use Rattle.heap_tables.specs.Layouts.{AreBelow, GoesLaid, HasGoesLaid, HasNextLaid, MergesLaid};
-ghost use Rattle.heap_tables.specs.Merges.{AreSlots, Goes, HasEntryFor, HasMerged, HasMerging, HasNextEntry, HasShare, HasTables, IsEntryAt, IsMerge, IsMerged, IsMergedPart, IsMergedWhole, IsShare, MayMerge, Merge, MergesEntry, Stops, done_at, walk, with_shared};
+ghost use Rattle.heap_tables.specs.Merges.{AreSlots, Goes, HasEntryFor, HasMerged, HasMerging, HasNextEntry, HasShare, HasTables, IsEntryAt, IsMerge, IsMerged, IsShare, LeavesAside, Merge, MergesAll, MergesEntry, MergesPart, Stops, done_at, walk, with_shared};
 ghost use Rattle.heap_tables.specs.Seeks.{first_of};
 ghost use Rattle.heap_tables.specs.Runs.{IsInSlot, KeepsKnown, Ran, RanOut, next_of, pushed, stack_in};
 ghost use Rattle.heap_tables.specs.Walks.{HasWalk, IsApart, IsAtChain, IsEntryInSlot};
-ghost use Rattle.heap_tables.specs.Asides.{LacksChain, LacksTable, LacksValue};
+ghost use Rattle.heap_tables.specs.Asides.{LacksChain, LacksValue};
 
 use crate::notes::{mark, note, place_of, window_of};
 use crate::raising::{raise_at, raise_present};
@@ -450,9 +449,9 @@ fn merge_with<C: Caller>(
     requires tables { HasTables (C.standing caller.old) (C.knows caller.old) from into }
     requires names { (C.standing caller.old).own.made ≤ MOST_MADE }
     requires room { length (stack_in (C.standing caller.old)) + FREE_SLOTS ≤ STACK_SLOTS }
-    ensures merged { OnOk result ((known : KnownObjects) (from_name into_name : Name) (from_counts into_counts : WordCounts) (may : MayMerge (C.standing caller.old) known from into from_name into_name from_counts into_counts) → C.knows caller.old known → IsMergedWhole C.base C.tells C.tells_known C.standing known from_name into_name from_counts into_counts (may.from_table).buckets (may.into_table).buckets caller.old caller.new (C.knows caller.new)) }
-    ensures stopped { OnErr result ((known : KnownObjects) (from_name into_name : Name) (from_counts into_counts : WordCounts) (may : MayMerge (C.standing caller.old) known from into from_name into_name from_counts into_counts) → C.knows caller.old known → IsMergedPart C.base C.tells C.tells_known C.standing known from_name into_name from_counts into_counts (may.from_table).buckets (may.into_table).buckets caller.old caller.new (C.knows caller.new)) }
-    ensures aside { (known : KnownObjects) (from_name into_name : Name) (from_counts into_counts : WordCounts) (may : MayMerge (C.standing caller.old) known from into from_name into_name from_counts into_counts) (other : KnownObjects) → C.knows caller.old known → C.knows caller.old other → LacksTable other from_name (may.from_table).buckets → LacksTable other into_name (may.into_table).buckets → C.knows caller.new other }
+    ensures merged { OnOk result (MergesAll C.base C.tells C.tells_known C.standing from into caller.old caller.new (C.knows caller.old) (C.knows caller.new)) }
+    ensures stopped { OnErr result (MergesPart C.base C.tells C.tells_known C.standing from into caller.old caller.new (C.knows caller.old) (C.knows caller.new)) }
+    ensures aside { LeavesAside (C.standing caller.old) from into (C.knows caller.old) (C.knows caller.new) }
 {
     let top = stack_size(caller, into);
     let mut buffer = [0; KEY_BYTES];
@@ -469,9 +468,9 @@ pub fn merge<C: Caller>(caller: &mut C, from: u32, into: u32) -> Result<(), OutO
     requires tables { HasTables (C.standing caller.old) (C.knows caller.old) from into }
     requires names { (C.standing caller.old).own.made ≤ MOST_MADE }
     requires room { length (stack_in (C.standing caller.old)) + FREE_SLOTS ≤ STACK_SLOTS }
-    ensures merged { OnOk result ((known : KnownObjects) (from_name into_name : Name) (from_counts into_counts : WordCounts) (may : MayMerge (C.standing caller.old) known from into from_name into_name from_counts into_counts) → C.knows caller.old known → IsMergedWhole C.base C.tells C.tells_known C.standing known from_name into_name from_counts into_counts (may.from_table).buckets (may.into_table).buckets caller.old caller.new (C.knows caller.new)) }
-    ensures stopped { OnErr result ((known : KnownObjects) (from_name into_name : Name) (from_counts into_counts : WordCounts) (may : MayMerge (C.standing caller.old) known from into from_name into_name from_counts into_counts) → C.knows caller.old known → IsMergedPart C.base C.tells C.tells_known C.standing known from_name into_name from_counts into_counts (may.from_table).buckets (may.into_table).buckets caller.old caller.new (C.knows caller.new)) }
-    ensures aside { (known : KnownObjects) (from_name into_name : Name) (from_counts into_counts : WordCounts) (may : MayMerge (C.standing caller.old) known from into from_name into_name from_counts into_counts) (other : KnownObjects) → C.knows caller.old known → C.knows caller.old other → LacksTable other from_name (may.from_table).buckets → LacksTable other into_name (may.into_table).buckets → C.knows caller.new other }
+    ensures merged { OnOk result (MergesAll C.base C.tells C.tells_known C.standing from into caller.old caller.new (C.knows caller.old) (C.knows caller.new)) }
+    ensures stopped { OnErr result (MergesPart C.base C.tells C.tells_known C.standing from into caller.old caller.new (C.knows caller.old) (C.knows caller.new)) }
+    ensures aside { LeavesAside (C.standing caller.old) from into (C.knows caller.old) (C.knows caller.new) }
 {
     merge_with(caller, from, into, &mut [])
 }
@@ -512,9 +511,9 @@ pub fn merge_noting<C: Caller>(
     requires tables { HasTables (C.standing caller.old) (C.knows caller.old) from into }
     requires names { (C.standing caller.old).own.made ≤ MOST_MADE }
     requires room { length (stack_in (C.standing caller.old)) + FREE_SLOTS ≤ STACK_SLOTS }
-    ensures merged { OnOk result ((known : KnownObjects) (from_name into_name : Name) (from_counts into_counts : WordCounts) (may : MayMerge (C.standing caller.old) known from into from_name into_name from_counts into_counts) → C.knows caller.old known → IsMergedWhole C.base C.tells C.tells_known C.standing known from_name into_name from_counts into_counts (may.from_table).buckets (may.into_table).buckets caller.old caller.new (C.knows caller.new)) }
-    ensures stopped { OnErr result ((known : KnownObjects) (from_name into_name : Name) (from_counts into_counts : WordCounts) (may : MayMerge (C.standing caller.old) known from into from_name into_name from_counts into_counts) → C.knows caller.old known → IsMergedPart C.base C.tells C.tells_known C.standing known from_name into_name from_counts into_counts (may.from_table).buckets (may.into_table).buckets caller.old caller.new (C.knows caller.new)) }
-    ensures aside { (known : KnownObjects) (from_name into_name : Name) (from_counts into_counts : WordCounts) (may : MayMerge (C.standing caller.old) known from into from_name into_name from_counts into_counts) (other : KnownObjects) → C.knows caller.old known → C.knows caller.old other → LacksTable other from_name (may.from_table).buckets → LacksTable other into_name (may.into_table).buckets → C.knows caller.new other }
+    ensures merged { OnOk result (MergesAll C.base C.tells C.tells_known C.standing from into caller.old caller.new (C.knows caller.old) (C.knows caller.new)) }
+    ensures stopped { OnErr result (MergesPart C.base C.tells C.tells_known C.standing from into caller.old caller.new (C.knows caller.old) (C.knows caller.new)) }
+    ensures aside { LeavesAside (C.standing caller.old) from into (C.knows caller.old) (C.knows caller.new) }
 {
     merge_with(caller, from, into, notes.words.as_mut_slice())
 }

@@ -1,6 +1,7 @@
 //! What a caller notes of the words of a table, to find their entries sooner. No call on a table believes a note: it is a hint of
 //! where to look first.
 ghost use Rattle.std.specs.Prelude.{◌≡◌, ℕ, ◌+◌, ◌/◌, ◌<◌, ◌≤◌, List, length, Some, slice_index};
+ghost use Rattle.yak_model.specs.declared.TheConstants.{GROUP_BYTES};
 ghost use Rattle.yak_model.specs.Tables.{group};
 ghost use Rattle.heap_tables.specs.declared.TheConstants.{KEY_BYTES};
 
@@ -11,7 +12,7 @@ use yak_model::GROUP_BYTES;
 /// The number by which a word is noted. Words of one number are few.
 pub(crate) fn mark(word: &[u8]) -> u64
     requires word { length word.now ≤ KEY_BYTES }
-    ensures mark { result ≡ group word.now 0 + group word.now (length word.now / 8) }
+    ensures mark { result ≡ group word.now 0 + group word.now (length word.now / (GROUP_BYTES + 1)) }
 {
     group(word, 0) + group(word, word.len() as u32 / (GROUP_BYTES as u32 + 1))
 }

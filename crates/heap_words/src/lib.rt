@@ -66,6 +66,10 @@ mod tests {
         set_heap(&mut image, map, 1023, 7);
         assert_eq!(rt; get_heap(&mut image, map, 1023), 7);
         assert_eq!(rt; image.reads(), 1);
+        grow_stack(&mut image, map, 1, 0, 3);
+        set_stack(&mut image, map, 1, 0, 5);
+        assert_eq!(rt; get_stack(&mut image, map, 1, 0), 5);
+        assert_eq!(rt; get_rest(&mut image, map, 1, 0), 0);
         let greatest = Areas {
             pages: MAX_PAGES,
             threads: MAX_THREADS,
