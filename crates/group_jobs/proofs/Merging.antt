@@ -126,36 +126,46 @@ below_here : (b : ℕ) (links : List Link) → AreInBucket b links → AreBelow 
 below_here b [] homes = All-nil (λ l. bucket_of l.word < suc b)
 below_here b (l ∷ links) homes = All-cons (λ k. bucket_of k.word < suc b) l links (let h = homes.0 in omega (arith, h)) (below_here b links homes.1)
 
-module _ (words : List (List ℕ)) (known : KnownObjects) (name : Name) (table : IsCountTable known name (word_counts words)) where
-  walk_is : (b : ℕ) → b ≤ BUCKETS → AreDifferent (walk table.buckets b) × (AreBelow b (walk table.buckets b) × AreOf words (walk table.buckets b))
+-- Of chains whose words are among these words, each in its bucket and none twice, there are no more entries than words.
+module _ (words : List (List ℕ)) (buckets : ℕ → List Link) (homes : (b : ℕ) → b < BUCKETS → AreInBucket b (buckets b)) (distinct : (b : ℕ) → b < BUCKETS → AreDifferent (buckets b)) (among : (b : ℕ) → b < BUCKETS → AreOf words (buckets b)) where
+  walk_is : (b : ℕ) → b ≤ BUCKETS → AreDifferent (walk buckets b) × (AreBelow b (walk buckets b) × AreOf words (walk buckets b))
   walk_is zero h = (tt, (All-nil (λ l. bucket_of l.word < 0), All-nil (λ l. has_word words l.word ≡ true)))
   walk_is (suc b) h =
       let bound : b < BUCKETS = omega (arith, h) in
       let r = walk_is b (omega (arith, h)) in
-      let links = table.buckets b in
-      let homes = (table.table).homes b bound in (
-        different_cat b (walk table.buckets b) links r.0 r.1.0 ((table.table).distinct b bound) homes,
+      let links = buckets b in (
+        different_cat b (walk buckets b) links r.0 r.1.0 (distinct b bound) (homes b bound),
         (
-          All-append (λ l. bucket_of l.word < suc b) (walk table.buckets b) links (below_more b (walk table.buckets b) r.1.0) (below_here b links homes),
-          All-append (λ l. has_word words l.word ≡ true) (walk table.buckets b) links r.1.1 (are_of words known name table b links homes (λ v g. g)),
+          All-append (λ l. bucket_of l.word < suc b) (walk buckets b) links (below_more b (walk buckets b) r.1.0) (below_here b links (homes b bound)),
+          All-append (λ l. has_word words l.word ≡ true) (walk buckets b) links r.1.1 (among b bound),
         ),
       )
 
-  pub few_entries : length (walk table.buckets BUCKETS) ≤ length words
-  few_entries = let r = walk_is BUCKETS (omega arith) in few_links words (walk table.buckets BUCKETS) r.0 r.1.1
+  few_walked : length (walk buckets BUCKETS) ≤ length words
+  few_walked = let r = walk_is BUCKETS (omega arith) in few_links words (walk buckets BUCKETS) r.0 r.1.1
 
-  pub few_new : (counts : WordCounts) → news counts (walk table.buckets BUCKETS) ≤ length words
-  few_new counts = let n = few_news counts (walk table.buckets BUCKETS) in omega (arith, n, few_entries)
+  pub few_made : (counts : WordCounts) → news counts (walk buckets BUCKETS) ≤ length words
+  few_made counts = let n = few_news counts (walk buckets BUCKETS) in omega (arith, n, few_walked)
 
-  pub few_done : (counts : WordCounts) (done rest : List Link) (link : Link) → walk table.buckets BUCKETS ≡ done ++ link ∷ rest → news counts done + 1 ≤ length words
-  few_done counts done rest link parts =
+  pub few_before : (counts : WordCounts) (done rest : List Link) (link : Link) → walk buckets BUCKETS ≡ done ++ link ∷ rest → news counts done + 1 ≤ length words
+  few_before counts done rest link parts =
       let n = few_news counts done in
       let size = sizes done in
-      omega (arith, n, few_entries, ap length parts, size)
+      omega (arith, n, few_walked, ap length parts, size)
     where
       sizes : (xs : List Link) → length xs + 1 ≤ length (xs ++ link ∷ rest)
       sizes [] = omega arith
       sizes (x ∷ xs) = omega (arith, sizes xs)
+
+module _ (words : List (List ℕ)) (known : KnownObjects) (name : Name) (table : IsCountTable known name (word_counts words)) where
+  among : (b : ℕ) → b < BUCKETS → AreOf words (table.buckets b)
+  among b bound = are_of words known name table b (table.buckets b) ((table.table).homes b bound) (λ v g. g)
+
+  pub few_new : (counts : WordCounts) → news counts (walk table.buckets BUCKETS) ≤ length words
+  few_new = few_made words table.buckets (table.table).homes (table.table).distinct among
+
+  pub few_done : (counts : WordCounts) (done rest : List Link) (link : Link) → walk table.buckets BUCKETS ≡ done ++ link ∷ rest → news counts done + 1 ≤ length words
+  few_done = few_before words table.buckets (table.table).homes (table.table).distinct among
 
 -- ---- the total then
 

@@ -164,7 +164,7 @@ module _ (known later : KnownObjects) (part : Name) (heads : List Datum) (bucket
       )
       (same_links links chain.1.0 (All-tail A l links apart) chain.1.2)
 
-  table_stays : (name : Name) (tops : List Datum) (chains : ℕ → List Link) → IsTable known name tops chains → name ≢ part → ((c : ℕ) → c < BUCKETS → AreApart (chains c) buckets) → IsTable later name tops chains
+  pub table_stays : (name : Name) (tops : List Datum) (chains : ℕ → List Link) → IsTable known name tops chains → name ≢ part → ((c : ℕ) → c < BUCKETS → AreApart (chains c) buckets) → IsTable later name tops chains
   table_stays name tops chains t other apart = record {
     object = others name (ap is_some t.object) other (no_entry name (buckets b) (table_apart known name tops chains t (buckets b) (get_or heads b datum.Null) (table.chains b bound))) ∙ t.object;
     size = t.size;
@@ -174,7 +174,7 @@ module _ (known later : KnownObjects) (part : Name) (heads : List Datum) (bucket
   }
 
 -- Links that are no entries of a table are none of what it is then.
-still_apart : (known : KnownObjects) (links : List Link) (head : Datum) (buckets after : ℕ → List Link) → IsChain known head links → StayNowhere known buckets after → AreApart links buckets → AreApart links after
+pub still_apart : (known : KnownObjects) (links : List Link) (head : Datum) (buckets after : ℕ → List Link) → IsChain known head links → StayNowhere known buckets after → AreApart links buckets → AreApart links after
 still_apart known [] head buckets after chain keeps apart = All-nil (λ l. IsNowhere l.entry after)
 still_apart known (l ∷ links) head buckets after chain keeps apart =
     let A = λ (k : Link). IsNowhere k.entry buckets in

@@ -67,6 +67,29 @@ pub fn space_of_slot<W: Words>(words: &mut W, map: Areas, thread: u8, s: u32) ->
     }
 }
 
+/// The space of the object to which a slot refers, as far as it tells whether a reference from there to an object of the other space
+/// crosses: where there is no other, it isn't looked for.
+#[inline(always)]
+pub fn space_left<W: Words>(
+    words: &mut W,
+    map: Areas,
+    thread: u8,
+    s: u32,
+    to: Option<Space>,
+) -> Option<Space>
+    requires sound { Sound map (W.words words.old) }
+    requires thread { HasThread map thread }
+    requires stands { ∥ ((state : SpaceState) × Stands map (contents map (W.words words.old)) state) ∥₁ }
+    ensures crosses { (state : SpaceState) → Stands map (contents map (W.words words.old)) state → Crosses result to ↔ Crosses (home_at state (slot_of state.graph thread s)) to }
+    ensures words { W.words words.new ≡ W.words words.old }
+    ensures base { W.base words.new ≡ W.base words.old }
+{
+    match to {
+        Some(_) => space_of_slot(words, map, thread, s),
+        None => None,
+    }
+}
+
 /// Makes a thread a reader of a space, where that is a region of another thread.
 pub fn mark_reader<W: Words>(words: &mut W, map: Areas, thread: u8, space: Option<Space>)
     requires sound { Sound map (W.words words.old) }

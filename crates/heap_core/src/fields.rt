@@ -11,7 +11,7 @@ ghost use Rattle.standing_calls.specs.Records.{IsLoaded, IsStored, LogsHold};
 ghost use Rattle.yak_model.specs.Recorded.{SomeRecorded};
 ghost use Rattle.yak_model.specs.Packed.{IsSpaceOf};
 
-use crate::barriers::{mark_reader, record_slot, space_entered, space_of_slot, space_of_word};
+use crate::barriers::{mark_reader, record_slot, space_entered, space_left, space_of_word};
 use epoch_lattice::Space;
 use heap_words::{Areas, Words, get_heap, set_heap, stack_length};
 use object_layout::{Call, OBJECT_WORDS, Refusal, Reply, address, field_count};
@@ -132,8 +132,8 @@ pub fn store<W: Words>(words: &mut W, map: Areas, thread: u8, s: u32, f: u32, x:
     };
     match field_of(words, map, thread, count, s, f) {
         Ok(a) => {
-            let from = space_of_slot(words, map, thread, s);
             let to = space_of_word(words, map, word);
+            let from = space_left(words, map, thread, s, to);
             store_word(words, map, thread, a, word, from, to);
             Reply::Ok
         }

@@ -18,12 +18,21 @@ pub use owned::{Core, Stepped};
 
 #[cfg(test)]
 mod tests {
+    ghost use Rattle.std.specs.Prelude.{◌≡◌, ◌≤◌, ℕ};
+    ghost use Rattle.heap_words.specs.Map.{HasThread};
+    ghost use Rattle.heap_words.specs.Contents.{contents, depth_of, Sound};
+    ghost use Rattle.yak_model.specs.Recorded.{SomeRecorded};
+
     use super::*;
     use epoch_lattice::Space;
-    use heap_words::Image;
+    use escape_closure::{plan_moves, targets};
+    use heap_words::{Areas, Image, Words};
     use object_layout::{Addr, Call, Census, Refusal, Reply, Shortage};
+    use region_pages::{free_count, release_space};
     use remember_sets::{file_logs, first_slot, next_slot};
+    use std::alloc::Global;
     use std::test::Fail;
+    use thread_stacks::depth;
 
     // The first two slots of the chain of thread 1's region of depth 1, once the store buffers are filed.
     fn recorded_slots(core: Core<Image>) -> (Option<Addr>, Option<Addr>) {
@@ -56,6 +65,81 @@ mod tests {
             }
             assert_eq!(rt; recorded_slots(core), (Some(Addr(3)), None));
         }
+        Ok(())
+    }
+
+    // How many objects the end of a thread's innermost epoch would move, where the pages are enough.
+    fn plan_end<W: Words>(words: &mut W, map: Areas, thread: u8) -> Option<u32>
+        requires sound { Sound map (W.words words.old) }
+        requires thread { HasThread map thread }
+        requires depth { 1 ≤ depth_of (contents map (W.words words.old)) thread }
+        requires recorded { SomeRecorded map (contents map (W.words words.old)) }
+    {
+        file_logs(words, map);
+        targets(words, map, thread);
+        match plan_moves(words, map, thread) {
+            Ok(plan) => Some(plan.count),
+            Err(_) => None,
+        }
+    }
+
+    // How many objects the end of thread 1's innermost epoch would move.
+    fn planned_moves(core: Core<Image>) -> Option<u32> {
+        let mut image = core.into_words();
+        let map = image.map();
+        if depth(&mut image, map, 1) == 0 {
+            return None;
+        }
+        plan_end(&mut image, map, 1)
+    }
+
+    // The pages that are free once those of thread 1's region of depth 1 are given back.
+    fn free_without_region(core: Core<Image>) -> u32 {
+        let mut image = core.into_words();
+        let map = image.map();
+        let region = Space::Region {
+            thread: 1,
+            depth: 1,
+        };
+        release_space(&mut image, map, region);
+        free_count(&mut image, map)
+    }
+
+    // A heap of four pages in which the root refers to one of two objects of an epoch.
+    fn open_epoch(alloc: Global) -> Option<Core<Image>> {
+        let Ok(mut core) = Core::new(alloc, 4, 1) else {
+            return None;
+        };
+        let calls = [
+            Call::Begin,
+            Call::New(0),
+            Call::New(0),
+            Call::Store(0, 0, 1),
+            Call::Pop,
+        ];
+        for call in calls {
+            if core.step(1, call).reply != Reply::Ok {
+                return None;
+            }
+        }
+        Some(core)
+    }
+
+    #[test]
+    fn an_end_moves_what_is_referred_to_from_outside(rt: HostRuntime) -> Result<(), Fail> {
+        let Some(core) = open_epoch(rt.alloc()) else {
+            panic!(rt; "no epoch");
+        };
+        assert_eq!(rt; planned_moves(core), Some(1));
+        Ok(())
+    }
+
+    #[test]
+    fn the_pages_of_a_region_are_given_back(rt: HostRuntime) -> Result<(), Fail> {
+        let Some(core) = open_epoch(rt.alloc()) else {
+            panic!(rt; "no epoch");
+        };
+        assert_eq!(rt; free_without_region(core), 3);
         Ok(())
     }
 

@@ -1,5 +1,5 @@
 -- A field that is stored, over states.
-use Rattle.std.proofs.Common.{◌≡◌, ℕ, ◌+◌, ◌<◌, Option, Some, List, length, get_or, set, refl, sym, ap, subst, ◌∙◌, arith, inl, inr, length-set}
+use Rattle.std.proofs.Common.{◌≡◌, ◌↔◌, ℕ, ◌+◌, ◌<◌, Option, None, Some, List, length, get_or, set, refl, sym, ap, subst, ◌∙◌, arith, inl, inr, length-set}
 use Rattle.std.proofs.Math.Logic.{⊎_elim}
 use Rattle.object_layout.specs.declared.names.Name.{Name}
 use Rattle.object_layout.specs.declared.TheConstants.{OBJECT_WORDS}
@@ -76,11 +76,22 @@ still-closed m c d s h t a w from to buffers done = ⊎_elim
     (λ (p : (Crosses from to → ⊥) × SameRecords c d). subst (λ (fs : List (List ℕ)). HeadsClosed m fs (view s).depths) (sym p.1.filed.firsts) h.stands.heads_closed)
     done.records
 
+records_alike : (m : Areas) (c d : Contents) (t slot : ℕ) (from other to : Option Space) → (Crosses from to ↔ Crosses other to) → RecordsSlot m c d t slot from to → RecordsSlot m c d t slot other to
+records_alike m c d t slot from other to same records = ⊎_elim
+    (λ (p : Crosses from to × Logs m c d t slot × (d.readers ≡ c.readers)). inl (same.0 p.0, p.1, p.2))
+    (λ (p : (Crosses from to → ⊥) × SameRecords c d). inr (λ x. p.0 (same.1 x), p.1))
+    records
+
+-- A reference to no object crosses from nowhere.
+pub none_crosses : (from : Option Space) → Crosses from None → ⊥
+none_crosses None crosses = crosses
+none_crosses (Some from) crosses = crosses
+
 one_name : (x y : Name) → datum.Object x ≡ datum.Object y → x ≡ y
 one_name x y e = cc
 
 pub store_turns : (m : Areas) (c d : Contents) (t k f x a w : ℕ) (from to : Option Space) → IsAreas m → HasThread m t → length c.heap ≡ heap_length m → length c.buffers ≡ m.threads → BuffersHold m c → InLimits m d → x < length (stack_of c t) → ((s : SpaceState) (h : Stands m c s) → IsFieldOf s h.places.at t k f a) → w ≡ get_or (stack_of c t) x 0
-    → ((s : SpaceState) → Stands m c s → from ≡ home_at s (slot_of s.graph t k)) → ((s : SpaceState) → Stands m c s → to ≡ home_at s (slot_of s.graph t x)) → IsStored m c d t a w from to → Turned m c d t (call.Store k f x) reply.Ok
+    → ((s : SpaceState) → Stands m c s → Crosses from to ↔ Crosses (home_at s (slot_of s.graph t k)) to) → ((s : SpaceState) → Stands m c s → to ≡ home_at s (slot_of s.graph t x)) → IsStored m c d t a w from to → Turned m c d t (call.Store k f x) reply.Ok
 store_turns m c d t k f x a w from to areas ht long buffers hold limits lt field is froms tos done = record {
   turns = λ s h.
       let p = field s h in
@@ -102,9 +113,9 @@ store_turns m c d t k f x a w from to areas ht long buffers hold limits lt field
       let kept : Recorded m c s h → Recorded m d next later = λ r.
       let q = slot-recorded m c d s h t a from to areas ht buffers f p.name p.thing p.present p.within p.place done.records r in
       let new : (y : Name) (o : Thing) → v ≡ datum.Object y → object_of s y ≡ Some o → Enters p.thing.home o.home → IsRecordedFor m d.firsts d.sets d.buffers o.home (at p.name + OBJECT_WORDS + f) = λ y o e present enters.
-      let out : from ≡ Some p.thing.home = froms s h ∙ ap (home_at s) p.refers ∙ home-shown s p.name p.thing p.present in
+      let out : home_at s (slot_of s.graph t k) ≡ Some p.thing.home = ap (home_at s) p.refers ∙ home-shown s p.name p.thing p.present in
       let into : to ≡ Some o.home = tos s h ∙ ap (home_at s) e ∙ home-shown s y o present in
-      let crossed : Crosses from to = subst (λ (b : Option Space). Crosses from b) (sym into) (subst (λ (b : Option Space). Crosses b (Some o.home)) (sym out) enters) in
+      let crossed : Crosses from to = (froms s h).1 (subst (λ (b : Option Space). Crosses (home_at s (slot_of s.graph t k)) b) (sym into) (subst (λ (b : Option Space). Crosses b (Some o.home)) (sym out) enters)) in
       subst (IsRecordedFor m d.firsts d.sets d.buffers o.home) p.place (q.1 crossed o.home)
       in
       subst (λ (y : State). RecordedAs m d y at) (sym shown) (recorded-stored m d (view s) at p.name p.thing f v p.present p.within new q.0)
@@ -120,7 +131,8 @@ store_turns m c d t k f x a w from to areas ht long buffers hold limits lt field
       let p = field s h in
       let name : p.name ≡ n = one_name p.name n (sym p.refers ∙ e) in
       let place : a ≡ h.places.at n + OBJECT_WORDS + f = p.place ∙ ap (λ (y : Name). h.places.at y + OBJECT_WORDS + f) name in
-      let out : from ≡ home_of s n = froms s h ∙ ap (home_at s) e in
-      subst (λ (b : Option Space). RecordsSlot m c d t (h.places.at n + OBJECT_WORDS + f) (home_of s n) b) (tos s h) (subst (λ (b : Option Space). RecordsSlot m c d t (h.places.at n + OBJECT_WORDS + f) b to) out (subst (λ i. RecordsSlot m c d t i from to) place done.records));
+      let out : home_at s (slot_of s.graph t k) ≡ home_of s n = ap (home_at s) e in
+      let there : RecordsSlot m c d t (h.places.at n + OBJECT_WORDS + f) from to = subst (λ i. RecordsSlot m c d t i from to) place done.records in
+      subst (λ (b : Option Space). RecordsSlot m c d t (h.places.at n + OBJECT_WORDS + f) (home_of s n) b) (tos s h) (subst (λ (b : Option Space). RecordsSlot m c d t (h.places.at n + OBJECT_WORDS + f) b to) out (records_alike m c d t (h.places.at n + OBJECT_WORDS + f) from (home_at s (slot_of s.graph t k)) to (froms s h) there));
   idle = λ i. absurd (not-idle (call.Store k f x) reply.Ok (λ no. no) (λ why q. cc) i);
 }
