@@ -169,7 +169,7 @@ module _ (words : List (List ℕ)) (known : KnownObjects) (name : Name) (table :
 
 -- ---- the total then
 
-slot_left : (stack : List Datum) → length stack ≡ PART_SLOT + 1 → get_or (take (length stack - 1) stack) TOTAL_SLOT datum.Null ≡ get_or stack TOTAL_SLOT datum.Null
+pub slot_left : (stack : List Datum) → length stack ≡ PART_SLOT + 1 → get_or (take (length stack - 1) stack) TOTAL_SLOT datum.Null ≡ get_or stack TOTAL_SLOT datum.Null
 slot_left [] h = absurd (omega (arith, h))
 slot_left (x ∷ []) h = absurd (omega (arith, h))
 slot_left (x ∷ y ∷ []) h = absurd (omega (arith, h))

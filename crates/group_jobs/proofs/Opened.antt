@@ -30,10 +30,10 @@ no_links known name table x b [] homes lacks = tt
 no_links known name table x b (l ∷ links) homes lacks =
     absurd ((lacks l.word (subst (λ c. LacksWord l.word (table.buckets c)) homes.0 (table.absent l.word (get-empty word_cmp l.word)))).0 refl)
 
-no_entries : (known : KnownObjects) (name : Name) (table : IsCountTable known name empty) (x : Name) → IsNowhere x table.buckets
+pub no_entries : (known : KnownObjects) (name : Name) (table : IsCountTable known name empty) (x : Name) → IsNowhere x table.buckets
 no_entries known name table x b bound = none_in known name table x b (table.buckets b) ((table.table).homes b bound) (λ v h. h)
 
-all_apart : (links : List Link) (buckets : ℕ → List Link) → ((x : Name) → IsNowhere x buckets) → AreApart links buckets
+pub all_apart : (links : List Link) (buckets : ℕ → List Link) → ((x : Name) → IsNowhere x buckets) → AreApart links buckets
 all_apart [] buckets free = All-nil (λ l. IsNowhere l.entry buckets)
 all_apart (l ∷ links) buckets free = All-cons (λ k. IsNowhere k.entry buckets) l links (free l.entry) (all_apart links buckets free)
 

@@ -52,7 +52,7 @@ impl<H> From<NoMemory> for CountError<H> {
 }
 
 /// A heap of so many pages in which one worker counts.
-pub(crate) fn open_heap(alloc: Global, pages: u32) -> Result<CoreCaller<Image>, NoMemory>
+pub fn open_heap(alloc: Global, pages: u32) -> Result<CoreCaller<Image>, NoMemory>
     requires pages { IsAreas (record { pages = pages; threads = 1 }) }
     ensures map { IfOk result (λ caller. caller.core.map ≡ record { pages = pages; threads = 1 }) }
     ensures standing { IfOk result (λ caller. ⟦<CoreCaller<Image> as Caller>⟧.standing caller ≡ opening_standing) }

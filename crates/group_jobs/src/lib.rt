@@ -19,7 +19,7 @@ mod tasks;
 mod tests;
 mod words;
 
-pub use count::{CountError, CountedAlone, count_one};
+pub use count::{CountError, CountedAlone, count_one, open_heap};
 pub use counted::sort_counts;
 pub use feeding::{Fed, count_fed};
 pub use heap_tables::WordCount;

@@ -2,3 +2,4 @@ mod Adding
 mod Bounds
 mod Parts
 mod Texts
+mod Tasks

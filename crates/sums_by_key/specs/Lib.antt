@@ -1,3 +1,4 @@
 pub mod Sums
 pub mod Held
 pub mod Printed
+pub mod Bad

@@ -4,8 +4,9 @@
 //! ascending order of the keys.
 #![tactic(auto)]
 
-ghost use Rattle.std.specs.Prelude.{IfOk};
+ghost use Rattle.std.specs.Prelude.{◌≡◌, IfErr, IfOk};
 ghost use Rattle.heap_words.specs.Map.{IsAreas};
+ghost use Rattle.sums_by_key.specs.Bad.{TellsWhy};
 ghost use Rattle.sums_by_key.specs.Printed.{PrintsSums};
 
 mod lines;
@@ -29,30 +30,38 @@ pub const MOST_LINES: usize = 16777216;
 pub const LINES: usize = 1024;
 /// The slot of the stack with the table. Below it is the root.
 pub const TABLE_SLOT: u32 = 1;
+/// The slot of the stack with the table of the lines of an epoch.
+pub const TASK_SLOT: u32 = 2;
 /// The pages of the heap.
-const PAGES: u32 = 1024;
+pub const PAGES: u32 = 1024;
 
 /// Why a text has no sums.
 #[derive(Clone, Copy, Drop)]
-enum TextError {
+pub enum TextError {
     /// The line of this number is bad.
     Line(u64, LineError),
     Sum(SumError),
 }
 
 impl From<(u64, LineError)> for TextError {
+    ghost from_gives = { λ e result. result ≡ TextError.Line e.0 e.1 };
+
     fn from((number, error): (u64, LineError)) -> TextError {
         TextError::Line(number, error)
     }
 }
 
 impl From<SumError> for TextError {
+    ghost from_gives = { λ e result. result ≡ TextError.Sum e };
+
     fn from(error: SumError) -> TextError {
         TextError::Sum(error)
     }
 }
 
 impl From<NoMemory> for TextError {
+    ghost from_gives = { λ _ result. result ≡ TextError.Sum SumError.Memory };
+
     fn from(_: NoMemory) -> TextError {
         TextError::Sum(SumError::Memory)
     }
@@ -60,7 +69,8 @@ impl From<NoMemory> for TextError {
 
 /// The text of the sums of a text's lines.
 fn sum_text(alloc: Global, bytes: &[u8]) -> Result<Vec<u8>, TextError>
-    ensures { IfOk result (λ text. PrintsSums bytes.now text.items) }
+    ensures sums { IfOk result (λ text. PrintsSums bytes.now text.items) }
+    ensures why { IfErr result (λ error. TellsWhy bytes.now error) }
 {
     let lines = read_lines(alloc, bytes)?;
     let list = sum_lines(alloc, PAGES, &lines)?;
