@@ -22,3 +22,4 @@ pub mod RoomsPages
 pub mod RoomsPlaced
 pub mod RoomsEscaped
 pub mod FiledSlots
+mod TakenOut

@@ -1,5 +1,6 @@
 use Rattle.std.proofs.Math.Logic.{∥∥₁_map, ∥∥₁_elim}
-use Rattle.std.proofs.Common.{◌≡◌, ◌∙◌, arith, ap, hlevel, props}
+use Rattle.std.proofs.Props.{props}
+use Rattle.std.proofs.Common.{◌≡◌, ◌∙◌, arith, ap}
 use Rattle.heap_words.specs.declared.map.Areas.{Areas}
 use Rattle.heap_words.specs.Map.{HasThread}
 use Rattle.heap_words.specs.Contents.{Contents, contents, depth_of}
