@@ -10,7 +10,6 @@ use Rattle.std.proofs.lemmas.List.Folds.{list_any-append}
 use Rattle.std.proofs.lemmas.List.Sums.{sum_by-append, sum_by-cons}
 use Rattle.yak_model.specs.Texts.{WordCounts, word_cmp}
 use Rattle.heap_tables.specs.Counted.{count_of, or_zero, raised}
-use Rattle.heap_tables.specs.Merges as merges
 use Rattle.sums_by_key.specs.declared.lines.Line.{Line}
 use Rattle.sums_by_key.specs.Sums.{AreSums, is_of, share_of, sum_of, total_of}
 
@@ -72,23 +71,3 @@ sums_push lines line sums are = λ key. finite.get-insert nat_list_cmp_total sum
       | false ↦ λ _.
           are key ∙ (λ i. cond (or_false (list_any (is_of key) lines) i) (Some (sym (add-zero (sum_of lines key)) i)) None)
     ] refl
-
--- Where each count is the sum of those of lines and of more lines, the counts are the sums of all of them.
-pub sums_append : (done doing : List Line) (first second sums : WordCounts) → AreSums done first → AreSums doing second → ((key : List ℕ) → finite.get sums key ≡ merges.sum_of (finite.get first key) (finite.get second key)) → AreSums (done ++ doing) sums
-sums_append done doing first second sums a b are = λ key. are key ∙ ap (merges.sum_of (finite.get first key)) (b key) ∙ told key
-  where
-    more : (key : List ℕ) → list_any (is_of key) doing ≡ false → sum_of (done ++ doing) key ≡ sum_of done key
-    more key none = let e = sum_by-append (share_of key) done doing in let z = none_of doing key none in omega (arith, e, z)
-
-    told : (key : List ℕ) → merges.sum_of (finite.get first key) (cond (list_any (is_of key) doing) (Some (sum_of doing key)) None) ≡ cond (list_any (is_of key) (done ++ doing)) (Some (sum_of (done ++ doing) key)) None
-    told key = elim (list_any (is_of key) doing) as (λ t. list_any (is_of key) doing ≡ t → merges.sum_of (finite.get first key) (cond t (Some (sum_of doing key)) None) ≡ cond (list_any (is_of key) (done ++ doing)) (Some (sum_of (done ++ doing) key)) None) [
-      | true ↦ λ is.
-          ap (λ n. Some (n + sum_of doing key)) (count_is done first key a)
-          ∙ sym (ap (λ t. cond t (Some (sum_of (done ++ doing) key)) None) (list_any-append (is_of key) done doing ∙ ap (λ t. list_any (is_of key) done || t) is ∙ sym (or_true (list_any (is_of key) done))) ∙ ap Some (sum_by-append (share_of key) done doing))
-      | false ↦ λ none.
-          a key
-          ∙ sym (ap (λ t. cond t (Some (sum_of (done ++ doing) key)) None) (list_any-append (is_of key) done doing ∙ ap (λ t. list_any (is_of key) done || t) none ∙ sym (or_false (list_any (is_of key) done))) ∙ ap (λ n. cond (list_any (is_of key) done) (Some n) None) (more key none))
-    ] refl
-
-pub total_append : (done doing : List Line) → total_of (done ++ doing) ≡ total_of done + total_of doing
-total_append done doing = sum_by-append (λ (l : Line). l.number) done doing

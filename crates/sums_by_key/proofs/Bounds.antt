@@ -11,15 +11,75 @@ use Rattle.yak_model.specs.Standing.{Standing}
 use Rattle.yak_model.specs.Tables.{AreDifferent, AreInBucket, IsCountTable, LacksWord, Link}
 use Rattle.yak_model.specs.Texts.{WordCounts, word_cmp}
 use Rattle.heap_tables.specs.Cursors.{MayWalk}
-use Rattle.group_jobs.specs.Counts.{has_word}
-use Rattle.group_jobs.proofs.Tallying.{AreOf, few_links}
+use Rattle.heap_tables.proofs.Places.{word_cases}
 use Rattle.sums_by_key.specs.declared.TheConstants.{MOST_LINES, TABLE_SLOT}
 use Rattle.sums_by_key.specs.Held.{Holds}
 use Rattle.sums_by_key.specs.declared.lines.Line.{Line}
 use Rattle.sums_by_key.specs.Sums.{AreSums, is_of, sum_of}
+use Rattle.sums_by_key.proofs.Adding.{same_key}
 
--- the keys of lines
-pub keys_of : List Line → List (List ℕ)
+-- ---- no more links than words
+
+abbrev has_word : List (List ℕ) → List ℕ → Bool
+has_word words word = list_any (eq_by_cmp word_cmp word) words
+
+abbrev AreOf : List (List ℕ) → List Link → Type 0
+AreOf words links = All (λ l. has_word words l.word ≡ true) links
+
+among_rest : (first word : List ℕ) (words : List (List ℕ)) → has_word (first ∷ words) word ≡ true → word ≢ first → has_word words word ≡ true
+among_rest first word words is ne = elim (eq_by_cmp word_cmp word first) as (λ b. eq_by_cmp word_cmp word first ≡ b → (b || has_word words word) ≡ true → has_word words word ≡ true) [
+  | true ↦ λ tie _. absurd (ne (same_key word first tie))
+  | false ↦ λ _ rest. rest
+] refl is
+
+-- the links without the one of a word
+record Removed (word : List ℕ) (links : List Link) : Type 0 where
+  rest : List Link
+  size : length links ≤ 1 + length rest
+  different : AreDifferent rest
+  lacks : (v : List ℕ) → LacksWord v links → LacksWord v rest
+  all : (words : List (List ℕ)) → AreOf (word ∷ words) links → AreOf words rest
+
+all_lacking : (word : List ℕ) (links : List Link) (words : List (List ℕ)) → LacksWord word links → AreOf (word ∷ words) links → AreOf words links
+all_lacking word [] words lacks all = All-nil (λ l. has_word words l.word ≡ true)
+all_lacking word (l ∷ links) words lacks all =
+    let P = λ (k : Link). has_word (word ∷ words) k.word ≡ true in
+    All-cons (λ k. has_word words k.word ≡ true) l links (among_rest word l.word words (All-head P l links all) lacks.0) (all_lacking word links words lacks.1 (All-tail P l links all))
+
+remove : (word : List ℕ) (links : List Link) → AreDifferent links → Removed word links
+remove word [] d = record { rest = []; size = omega arith; different = tt; lacks = λ v h. h; all = λ words all. All-nil (λ l. has_word words l.word ≡ true) }
+remove word (l ∷ links) d = elim (word_cases l.word word) [
+  | inl same ↦ record {
+    rest = links;
+    size = omega arith;
+    different = d.1;
+    lacks = λ v h. h.1;
+    all = λ words all. all_lacking word links words (subst (λ w. LacksWord w links) same d.0) (All-tail (λ k. has_word (word ∷ words) k.word ≡ true) l links all);
+  }
+  | inr ne ↦
+      let r : Removed word links = remove word links d.1 in
+      record {
+        rest = l ∷ r.rest;
+        size = omega (arith, r.size);
+        different = (r.lacks l.word d.0, r.different);
+        lacks = λ v h. (h.0, r.lacks v h.1);
+        all = λ words all. All-cons (λ k. has_word words k.word ≡ true) l r.rest
+            (among_rest word l.word words (All-head (λ k. has_word (word ∷ words) k.word ≡ true) l links all) ne)
+            (r.all words (All-tail (λ k. has_word (word ∷ words) k.word ≡ true) l links all));
+      }
+]
+
+few_links : (words : List (List ℕ)) (links : List Link) → AreDifferent links → AreOf words links → length links ≤ length words
+few_links [] [] d all = omega arith
+few_links [] (l ∷ links) d all = absurd (true≢false (sym (All-head (λ k. has_word [] k.word ≡ true) l links all)))
+few_links (first ∷ words) links d all =
+    let r : Removed first links = remove first links d in
+    let rest = few_links words r.rest r.different (r.all words all) in
+    omega (arith, r.size, rest)
+
+-- ---- the links of a table of sums
+
+keys_of : List Line → List (List ℕ)
 keys_of lines = map (λ line. line.key.now) lines
 
 has_key : (lines : List Line) (key : List ℕ) → has_word (keys_of lines) key ≡ list_any (is_of key) lines
@@ -27,7 +87,7 @@ unfolding keys_of
 has_key [] key = refl
 has_key (line ∷ lines) key = ap (λ b. is_of key line || b) (has_key lines key)
 
-pub are_of : (lines : List Line) (sums : WordCounts) (are : AreSums lines sums) (known : KnownObjects) (name : Name) (table : IsCountTable known name sums) (b : ℕ) (links : List Link) → AreInBucket b links → ((v : List ℕ) → LacksWord v (table.buckets b) → LacksWord v links) → AreOf (keys_of lines) links
+are_of : (lines : List Line) (sums : WordCounts) (are : AreSums lines sums) (known : KnownObjects) (name : Name) (table : IsCountTable known name sums) (b : ℕ) (links : List Link) → AreInBucket b links → ((v : List ℕ) → LacksWord v (table.buckets b) → LacksWord v links) → AreOf (keys_of lines) links
 are_of lines sums are known name table b [] homes lacks = All-nil (λ l. has_word (keys_of lines) l.word ≡ true)
 are_of lines sums are known name table b (l ∷ links) homes lacks =
     All-cons (λ k. has_word (keys_of lines) k.word ≡ true) l links

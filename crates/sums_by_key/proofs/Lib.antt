@@ -2,4 +2,3 @@ mod Adding
 mod Bounds
 mod Parts
 mod Texts
-mod Tasks

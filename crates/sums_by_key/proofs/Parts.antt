@@ -1,8 +1,8 @@
 -- Lines that are added one after the other.
-use Rattle.std.proofs.Common.{zero, suc, ◌≡◌, ℕ, ◌+◌, ◌-◌, ◌*◌, ◌%◌, ◌≤◌, ◌<◌, ◌⊎◌, inl, inr, min, slice_range, List, [], ◌∷◌, ◌++◌, length, get_or, take, drop, refl, ◌∙◌, ap, sym, subst, arith, length-append}
+use Rattle.std.proofs.Common.{zero, suc, ◌≡◌, ℕ, ◌+◌, ◌-◌, ◌≤◌, ◌<◌, slice_range, All, List, [], ◌∷◌, ◌++◌, length, get_or, take, drop, refl, ◌∙◌, ap, sym, subst, arith, length-append}
 use Rattle.std.proofs.lemmas.List.{append_assoc}
-use Rattle.std.proofs.lemmas.List.Elements.{All-head}
-use Rattle.std.proofs.lemmas.List.Sums.{sum_by-append, sum_by-cons}
+use Rattle.std.proofs.lemmas.List.Elements.{All-nil, All-cons, All-head, All-tail}
+use Rattle.std.proofs.lemmas.List.Sums.{sum_by-append}
 use Rattle.object_layout.specs.declared.TheConstants.{WORD_LIMIT}
 use Rattle.sums_by_key.specs.declared.lines.Line.{Line}
 use Rattle.std.proofs.Math.Seq.{take-add}
@@ -11,10 +11,16 @@ use Rattle.yak_model.specs.declared.datum.Datum.TheVariants as datum
 use Rattle.yak_model.specs.Private.{KnownObjects}
 use Rattle.yak_model.specs.Standing.{Standing}
 use Rattle.heap_tables.specs.Runs.{KeepsKnown}
-use Rattle.group_jobs.proofs.Rooms.{all_left, all_right}
-use Rattle.sums_by_key.specs.declared.TheConstants.{LINES, TABLE_SLOT}
-use Rattle.yak_model.specs.Room.{entry_words, key_words}
-use Rattle.sums_by_key.specs.Held.{AreSummable, HoldsSums, epochs_of, lines_room, task_room}
+use Rattle.sums_by_key.specs.declared.TheConstants.{TABLE_SLOT}
+use Rattle.sums_by_key.specs.Held.{AreSummable, HoldsSums}
+
+all_left : {X : Type 0} (P : X → Type 0) (xs ys : List X) → All P (xs ++ ys) → All P xs
+all_left P [] ys all = All-nil P
+all_left P (x ∷ xs) ys all = All-cons P x xs (All-head P x (xs ++ ys) all) (all_left P xs ys (All-tail P x (xs ++ ys) all))
+
+all_right : {X : Type 0} (P : X → Type 0) (xs ys : List X) → All P (xs ++ ys) → All P ys
+all_right P [] ys all = all
+all_right P (x ∷ xs) ys all = all_right P xs ys (All-tail P x (xs ++ ys) all)
 
 -- The first of lines that can be summed up can be.
 pub front : (lines more : List Line) → AreSummable (lines ++ more) → AreSummable lines
@@ -88,57 +94,3 @@ held_on s now knows after lines e keeps h =
         table = r.table;
       },
     )
-
--- The last of lines that can be summed up can be.
-pub back : (lines more : List Line) → AreSummable (lines ++ more) → AreSummable more
-back lines more all = record {
-  few = let size = length-append lines more in omega (arith, size, all.few);
-  short = all_right (λ line. length line.key.now ≤ WORD_LIMIT) lines more all.short;
-  small = let sum = sum_by-append (λ (line : Line). line.number) lines more in omega (arith, sum, all.small);
-}
-
--- ---- room
-
-pub room_next : (lines : List Line) (i : ℕ) (d : Line) → i < length lines → task_room (take (i + 1) lines) ≡ task_room (take i lines) + (key_words (get_or lines i d).key.now + entry_words)
-room_next lines i d h =
-    let one = sum_by-append (λ (l : Line). key_words l.key.now + entry_words) (take i lines) (get_or lines i d ∷ []) in
-    omega (arith, one, ap task_room (take_next lines i d h))
-
--- What the lines up to and with the next take is no more than what all take.
-pub next_room : (lines : List Line) (i : ℕ) (d : Line) → i < length lines → task_room (take i lines) + (key_words (get_or lines i d).key.now + entry_words) ≤ task_room lines
-next_room lines i d h =
-    let rest = sum_by-append (λ (l : Line). key_words l.key.now + entry_words) (take (i + 1) lines) (drop (i + 1) lines) in
-    omega (arith, room_next lines i d h, rest, ap task_room (take_rest lines (i + 1)))
-
-pub room_cut : (lines : List Line) (a b : ℕ) → a ≤ b → lines_room (take b lines) ≡ lines_room (take a lines) + lines_room (slice_range lines a b)
-room_cut lines a b h =
-    let both = sum_by-append (λ (l : Line). key_words l.key.now + 2 * entry_words) (take a lines) (slice_range lines a b) in
-    omega (arith, both, ap lines_room (cut_next lines a b h))
-
-pub room_front : (lines : List Line) (b : ℕ) → lines_room (take b lines) ≤ lines_room lines
-room_front lines b =
-    let both = sum_by-append (λ (l : Line). key_words l.key.now + 2 * entry_words) (take b lines) (drop b lines) in
-    omega (arith, both, ap lines_room (take_rest lines b))
-
--- ---- epochs
-
--- Epochs are full but for the last.
-abbrev pub IsTurn : ℕ → ℕ → Type 0
-IsTurn start all = (start % LINES ≡ 0) ⊎ (start ≡ all)
-
-either_way : (a b : ℕ) → (a ≤ b) ⊎ (b ≤ a)
-either_way zero b = inl (omega arith)
-either_way (suc a) zero = inr (omega arith)
-either_way (suc a) (suc b) = elim (either_way a b) [ inl h ↦ inl (omega (arith, h)) | inr h ↦ inr (omega (arith, h)) ]
-
-pub turn_next : (start end all : ℕ) → start < all → end ≡ min all (start + LINES) → IsTurn start all → IsTurn end all × (epochs_of end ≡ epochs_of start + 1)
-turn_next start end all h is turn = elim turn [
-  | inl full ↦ elim (either_way all (start + LINES)) [
-    | inl last ↦ (inr (omega (arith, is, last)), omega (arith, is, last, full, h))
-    | inr more ↦ (inl (omega (arith, is, more, full)), omega (arith, is, more, full))
-  ]
-  | inr last ↦ absurd (omega (arith, last, h))
-]
-
-pub epochs_most : (a b : ℕ) → a ≤ b → epochs_of a ≤ epochs_of b
-epochs_most a b h = omega (arith, h)

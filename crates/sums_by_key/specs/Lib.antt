@@ -1,4 +1,3 @@
 pub mod Sums
 pub mod Held
 pub mod Printed
-pub mod Bad

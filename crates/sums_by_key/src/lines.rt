@@ -1,8 +1,6 @@
 //! Lines of a key and a number.
-ghost use Rattle.std.specs.Prelude.{◌≡◌, ◌≤◌, ◌<◌, ◌++◌, ◌∷◌, [], List, ℕ, length, map, slice_index, IfErr, IfOk, MatchOption};
+ghost use Rattle.std.specs.Prelude.{◌≡◌, ◌<◌, ◌++◌, ◌∷◌, [], List, ℕ, length, map, slice_index, IfOk, IfSome};
 ghost use Rattle.script_text.specs.Words as text;
-ghost use Rattle.object_layout.specs.declared.TheConstants.{MAX_INT};
-ghost use Rattle.sums_by_key.specs.Bad.{HasNoSpace, IsBad, IsBadAt, IsNoLine};
 ghost use Rattle.sums_by_key.specs.Held.{AreSummable};
 ghost use Rattle.sums_by_key.specs.Sums.{line_text, total_of};
 ghost use Rattle.sums_by_key.specs.declared.lines.Line.{Line};
@@ -42,9 +40,9 @@ pub enum LineError {
 
 /// Where the first space of a line stands.
 fn space_in(bytes: &[u8]) -> Option<usize>
-    ensures { MatchOption result (HasNoSpace bytes.now (length bytes.now)) (λ at. (at < length bytes.now) × (slice_index bytes.now at ≡ 32) × HasNoSpace bytes.now at) }
+    ensures { IfSome result (λ at. (at < length bytes.now) × (slice_index bytes.now at ≡ 32)) }
 {
-    'bytes: for at in 0..bytes.len() {
+    for at in 0..bytes.len() {
         if bytes[at] == b' ' {
             return Some(at);
         }
@@ -54,7 +52,7 @@ fn space_in(bytes: &[u8]) -> Option<usize>
 
 /// Reads a line.
 fn read_line<'a>(bytes: &'a [u8]) -> Option<Line<'a>>
-    ensures { MatchOption result (IsNoLine bytes.now) (λ line. bytes.now ≡ line_text line) }
+    ensures { IfSome result (λ line. bytes.now ≡ line_text line) }
 {
     let at = space_in(bytes)?;
     let number = number_of(&bytes[at + 1..], 0, MAX_INT)?;
@@ -71,7 +69,6 @@ fn push_line<'a>(lines: &mut Vec<Line<'a>>, total: u64, line: Line<'a>) -> Resul
     ensures summable { IfOk result (λ _. AreSummable lines.new.items) }
     ensures total { IfOk result (λ after. after ≡ total_of lines.new.items) }
     ensures pushed { IfOk result (λ _. lines.new.items ≡ lines.old.items ++ line.entry ∷ []) }
-    ensures bad { IfErr result (λ error. IsBad lines.old.items (line_text line.entry) error) }
 {
     if line.key.len() > WORD_LIMIT as usize {
         return Err(LineError::LongKey);
@@ -97,7 +94,6 @@ fn push_line<'a>(lines: &mut Vec<Line<'a>>, total: u64, line: Line<'a>) -> Resul
 pub fn read_lines<'a>(alloc: Global, bytes: &'a [u8]) -> Result<Vec<Line<'a>>, (u64, LineError)>
     ensures summable { IfOk result (λ lines. AreSummable lines.items) }
     ensures text { IfOk result (λ lines. text.lines bytes.now ≡ map line_text lines.items) }
-    ensures bad { IfErr result (λ error. IsBadAt bytes.now error.0 error.1) }
 {
     let mut lines = Vec::new(alloc);
     let mut total = 0;

@@ -4,9 +4,8 @@
 //! ascending order of the keys.
 #![tactic(auto)]
 
-ghost use Rattle.std.specs.Prelude.{◌≡◌, IfErr, IfOk};
+ghost use Rattle.std.specs.Prelude.{IfOk};
 ghost use Rattle.heap_words.specs.Map.{IsAreas};
-ghost use Rattle.sums_by_key.specs.Bad.{TellsWhy};
 ghost use Rattle.sums_by_key.specs.Printed.{PrintsSums};
 
 mod lines;
@@ -15,7 +14,6 @@ mod tables;
 
 use group_jobs::print_counts;
 use lines::{LineError, read_lines};
-use object_layout::NoMemory;
 use std::alloc::{AllocError, Global};
 use std::io;
 use std::process::ExitCode;
@@ -30,51 +28,33 @@ pub const MOST_LINES: usize = 16777216;
 pub const LINES: usize = 1024;
 /// The slot of the stack with the table. Below it is the root.
 pub const TABLE_SLOT: u32 = 1;
-/// The slot of the stack with the table of the lines of an epoch.
-pub const TASK_SLOT: u32 = 2;
 /// The pages of the heap.
-pub const PAGES: u32 = 1024;
+const PAGES: u32 = 1024;
 
 /// Why a text has no sums.
 #[derive(Clone, Copy, Drop)]
-pub enum TextError {
+enum TextError {
     /// The line of this number is bad.
     Line(u64, LineError),
     Sum(SumError),
 }
 
-impl From<(u64, LineError)> for TextError {
-    ghost from_gives = { λ e result. result ≡ TextError.Line e.0 e.1 };
-
-    fn from((number, error): (u64, LineError)) -> TextError {
-        TextError::Line(number, error)
-    }
-}
-
-impl From<SumError> for TextError {
-    ghost from_gives = { λ e result. result ≡ TextError.Sum e };
-
-    fn from(error: SumError) -> TextError {
-        TextError::Sum(error)
-    }
-}
-
-impl From<NoMemory> for TextError {
-    ghost from_gives = { λ _ result. result ≡ TextError.Sum SumError.Memory };
-
-    fn from(_: NoMemory) -> TextError {
-        TextError::Sum(SumError::Memory)
-    }
-}
-
 /// The text of the sums of a text's lines.
 fn sum_text(alloc: Global, bytes: &[u8]) -> Result<Vec<u8>, TextError>
-    ensures sums { IfOk result (λ text. PrintsSums bytes.now text.items) }
-    ensures why { IfErr result (λ error. TellsWhy bytes.now error) }
+    ensures { IfOk result (λ text. PrintsSums bytes.now text.items) }
 {
-    let lines = read_lines(alloc, bytes)?;
-    let list = sum_lines(alloc, PAGES, &lines)?;
-    Ok(print_counts(alloc, &list)?)
+    let lines = match read_lines(alloc, bytes) {
+        Ok(lines) => lines,
+        Err((number, error)) => return Err(TextError::Line(number, error)),
+    };
+    let list = match sum_lines(alloc, PAGES, &lines) {
+        Ok(list) => list,
+        Err(error) => return Err(TextError::Sum(error)),
+    };
+    match print_counts(alloc, &list) {
+        Ok(text) => Ok(text),
+        Err(_) => Err(TextError::Sum(SumError::Memory)),
+    }
 }
 
 /// The line that tells an error.

@@ -1,13 +1,11 @@
-use Rattle.std.proofs.Common.{◌+◌, [], ◌∷◌, ◌++◌, length, get_or, ◌∙◌, ap, arith}
+use Rattle.std.proofs.Common.{◌+◌, [], ◌∷◌, ◌++◌, length, get_or, ◌∙◌, ap}
 use Rattle.std.specs.FinMap.{empty, get-empty}
 use Rattle.yak_model.specs.Graph.{Thread}
-use Rattle.yak_model.specs.Room.{table_words}
 use Rattle.yak_model.specs.Texts.{word_cmp}
 use Rattle.yak_model.specs.declared.TheConstants.{BUCKETS}
 use Rattle.yak_model.specs.declared.datum.Datum.TheVariants as datum
 use Rattle.heap_tables.specs.Runs.{next_of, with_new}
-use Rattle.heap_tables.proofs.OnResult.{err_map, ok_both, ok_map}
-use Rattle.group_jobs.proofs.Joined.{out_most, out_ran, went_ran}
+use Rattle.heap_tables.proofs.OnResult.{ok_both, ok_map}
 use Rattle.sums_by_key.specs.declared.TheConstants.{TABLE_SLOT}
 use Rattle.sums_by_key.proofs.sums.open_table.Goals as goal
 
@@ -41,12 +39,3 @@ returns-clause-held g c = ok_map c.make.result _ _
       },
     ))
     (ok_both c.make.result _ _ c.make.ensures.pushed c.make.ensures.made)
-
-pub returns-clause-out : goal.returns-clause-out
-returns-clause-out g c = err_map c.make.result _ _
-    (λ out.
-    let C = g.C.Caller in
-    let own = c.requires.own in
-    out_most C.base C.tells C.tells_known C.standing c.args.caller.now c.make.new.caller (C.standing c.args.caller.now).own.depth 1 table_words table_words (omega arith) (omega (arith, ap (λ (o : Thread). o.depth) own))
-    (out_ran C.base C.tells C.tells_known C.standing c.args.caller.now c.make.new.caller 0 BUCKETS table_words (omega arith) out))
-    c.make.ensures.ran_out
